@@ -27,6 +27,7 @@ pub mod Snapshots
 pub mod Promised
 pub mod Cleaning
 pub mod Found
+pub mod Stepping
 pub mod Listening
 pub mod Requested
 pub mod AllCut

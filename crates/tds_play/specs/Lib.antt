@@ -10,6 +10,7 @@ pub mod Seen
 pub mod Acts
 pub mod Holdings
 pub mod Lending
+pub mod Stepping
 pub mod Noted
 pub mod Refused
 pub mod Runs

@@ -40,24 +40,6 @@ drained_at idle place = place
 abbrev pub drained : Seat → Seat
 drained seat = placed_at (drained_at (is_none (unless_idle seat.client.stage)) seat.place) seat
 
--- An event at the ends of a connection: what the pool decides is none, nor is a restart, which is about all.
-abbrev pub IsOfEnds : Event → Type 0
-IsOfEnds (event.Ask lease q) = Unit {0}
-IsOfEnds (event.Send lease) = Unit {0}
-IsOfEnds (event.Cancel lease) = Unit {0}
-IsOfEnds (event.Work n) = Unit {0}
-IsOfEnds (event.ToServer n count) = Unit {0}
-IsOfEnds (event.ToClient n count) = Unit {0}
-IsOfEnds (event.Cut n) = Unit {0}
-IsOfEnds e = ⊥
-
--- A caller asks, sends or cancels.
-abbrev pub is_of_caller : Event → Bool
-is_of_caller (event.Ask lease q) = true
-is_of_caller (event.Send lease) = true
-is_of_caller (event.Cancel lease) = true
-is_of_caller e = false
-
 -- Where it stands after an event of its ends: a delivery to the client may end its draining.
 abbrev pub placed_behind : Event → ClientSession → Place → Place
 placed_behind (event.ToClient n count) s p = drained_at (is_none (unless_idle s.stage)) p

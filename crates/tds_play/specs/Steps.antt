@@ -6,7 +6,6 @@ use Rattle.tds_packet.specs.declared.kind.Direction.{Direction}
 use Rattle.tds_session.specs.Answer.{Answers}
 use Rattle.tds_ends.specs.ModelGives.{IsCountable, ModelGives}
 use Rattle.tds_world.specs.declared.event.Event.{Event}
-use Rattle.tds_world.specs.declared.event.Event.TheVariants as event
 use Rattle.tds_world.specs.declared.event.Setup.{Setup}
 use Rattle.tds_world.specs.declared.outcome.Opened.TheVariants as opened
 use Rattle.tds_world.specs.declared.outcome.Outcome.{Outcome}
@@ -174,13 +173,6 @@ pub record CutsAt {E S : Type 0} (place : ℕ) (old new : Player E S) : Type 0 w
 abbrev pub AreCutTo : {E S : Type 0} → ℕ → List (Held E S) → Type 0
 AreCutTo {E} {S} count hs =
     (i : ℕ) (h : Held E S) → i < count → slice_get hs i ≡ Some h → h.link.is_cut ≡ true
-
--- An event about one connection that is there: no lease, and no restart.
-abbrev pub IsOfOne : Event → Type 0
-IsOfOne event.Lease = ⊥
-IsOfOne event.RestartServer = ⊥
-IsOfOne event.RestartClient = ⊥
-IsOfOne e = Unit {0}
 
 -- ---- Behind all events
 

@@ -66,6 +66,7 @@ fn take_in(
 {
     match pool.take(number, packet, told) {
         Some(answer) => answer,
+        // A connection stays in the pool until it is cut.
         None => unreachable!(),
     }
 }

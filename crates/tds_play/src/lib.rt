@@ -15,6 +15,8 @@ mod refusal;
 mod request;
 mod run;
 mod seat;
+mod starting;
+mod step;
 mod worlds;
 
 pub use carrier::{Carrier, CarrierError, EventCarrier};

@@ -98,12 +98,13 @@ impl Carrier for MemoryCarrier {
     }
 
     fn send(&mut self, conn: u32, direction: Direction, bytes: &[u8]) -> Result<(), CarrierError> {
-        match self.pipes.get_mut(&conn) {
-            None => unreachable!(),
-            Some(pipe) => match direction {
-                Direction::ToServer => pipe.to_server.put(bytes)?,
-                Direction::ToClient => pipe.to_client.put(bytes)?,
-            },
+        let Some(pipe) = self.pipes.get_mut(&conn) else {
+            // Bytes are handed over on an open connection only.
+            unreachable!()
+        };
+        match direction {
+            Direction::ToServer => pipe.to_server.put(bytes)?,
+            Direction::ToClient => pipe.to_client.put(bytes)?,
         }
         Ok(())
     }
@@ -115,20 +116,22 @@ impl Carrier for MemoryCarrier {
         most: usize,
         out: &mut Vec<u8>,
     ) -> Result<usize, CarrierError> {
-        match self.pipes.get_mut(&conn) {
-            None => unreachable!(),
-            Some(pipe) => match direction {
-                Direction::ToServer => pipe.to_server.take(most, out)?,
-                Direction::ToClient => pipe.to_client.take(most, out)?,
-            },
+        let Some(pipe) = self.pipes.get_mut(&conn) else {
+            // Bytes are taken out of an open connection only.
+            unreachable!()
+        };
+        match direction {
+            Direction::ToServer => pipe.to_server.take(most, out)?,
+            Direction::ToClient => pipe.to_client.take(most, out)?,
         }
         Ok(most)
     }
 
     fn cut(&mut self, conn: u32) {
-        match self.pipes.get_mut(&conn) {
-            None => unreachable!(),
-            Some(pipe) => pipe.is_cut = true,
-        }
+        let Some(pipe) = self.pipes.get_mut(&conn) else {
+            // Only what was opened is cut.
+            unreachable!()
+        };
+        pipe.is_cut = true;
     }
 }

@@ -1,17 +1,19 @@
 //! All connections of a play, and what each event does to them.
-ghost use Rattle.std.specs.Prelude.{◌≡◌, ◌≢◌, ◌≤◌, ◌<◌, [], length, map, false, Option, Some, IfOk};
+ghost use Rattle.std.specs.Prelude.{◌≡◌, ◌≤◌, ◌<◌, [], length, map, false, Option, Some, IfOk};
 ghost use Rattle.tds_play.specs.Failures.{LiveAreSound};
 ghost use Rattle.tds_play.specs.Happening.{HappensAs};
 ghost use Rattle.tds_play.specs.Holdings.{conn_of};
-ghost use Rattle.tds_play.specs.Lending.{standing_of, found_by};
+ghost use Rattle.tds_play.specs.Lending.{found_by, numbered_of, standing_of};
 ghost use Rattle.tds_play.specs.Noted.{about_of, held_of};
 ghost use Rattle.tds_play.specs.Player.{AreHeld, all_of};
 ghost use Rattle.tds_play.specs.Pooled.{numbers_kept, numbers_leased};
 ghost use Rattle.tds_play.specs.Steps.{AreFew};
+ghost use Rattle.tds_play.specs.Stepping.{ends_event, one_event};
 ghost use Rattle.tds_play.specs.Ties.{AreTied, IsJustTold};
+ghost use Rattle.tds_pool.specs.Connections.{connections};
 ghost use Rattle.tds_session.specs.Answer.{answer_of};
-ghost use Rattle.tds_world.specs.declared.event.Event.TheVariants as events;
 ghost use Rattle.tds_world.specs.declared.outcome.Outcome.TheVariants as outcome;
+ghost use Rattle.tds_world.specs.declared.outcome.Refusal.TheVariants.{UnknownConnection};
 
 mod acting;
 mod cleaning;
@@ -24,6 +26,7 @@ use crate::link::acts::{done, refused};
 use crate::pool::{Holdings, by_number};
 use crate::refusal::Stop;
 use crate::seat::Held;
+use crate::step::{EndsStep, OneStep, Step, step_of};
 use std::alloc::Global;
 use tds_packet::PacketSize;
 use tds_pool::{Lease, Pool, Ticket};
@@ -52,11 +55,13 @@ impl<E: Engine + Copy> Player<E> {
     pub(crate) fn new(
         alloc: Global,
         engine: E,
+        pool: Pool,
         size: PacketSize,
         max: u8,
         on_attention: OnAttention,
     ) -> Player<E>
-        requires { (1 ≤ max) × (max ≤ 64) }
+        requires none { connections pool ≡ [] }
+        requires pool { (pool.max ≡ max) × (pool.size ≡ size) × (pool.last ≡ 0) }
         ensures links { result.links.items ≡ [] }
         ensures leases { result.leases ≡ [] }
         ensures tickets { result.tickets ≡ [] }
@@ -67,9 +72,6 @@ impl<E: Engine + Copy> Player<E> {
         ensures told { result.on_attention ≡ on_attention }
         ensures pooled { AreHeld result }
     {
-        let Some(pool) = Pool::new(alloc, max, size) else {
-            unreachable!()
-        };
         Player {
             alloc,
             engine,
@@ -100,15 +102,15 @@ impl<E: Engine + Copy> Player<E> {
             self.old self.new (C.pipes carrier.old) (C.pipes carrier.new)
             (C.began carrier.old) (C.began carrier.new) done) }
     {
-        match event {
-            Event::RestartServer => {
+        match step_of(event) {
+            Step::RestartServer => {
                 self.cut_all(carrier);
                 Ok(EventDone {
                     outcome: Outcome::RestartedServer,
                     lost: false,
                 })
             }
-            Event::RestartClient => {
+            Step::RestartClient => {
                 self.cut_all(carrier);
                 self.end_all();
                 Ok(EventDone {
@@ -116,40 +118,55 @@ impl<E: Engine + Copy> Player<E> {
                     lost: false,
                 })
             }
-            Event::Lease => self.lease(carrier),
-            _ => match self.about(event) {
+            Step::Lease => self.lease(carrier),
+            Step::OfOne(step) => match self.about(step) {
                 Err(refusal) => Ok(refused(refusal)),
-                Ok(place) => self.step_at(carrier, place, event),
+                Ok(place) => self.step_at(carrier, place, step),
             },
         }
     }
 
-    /// The place of the connection that an event is about. The pool says which one is lent, and a
-    /// restart is about none alone.
-    fn about(&self, event: &Event) -> Result<usize, Refusal>
-        ensures value { event.now ≢ events.Lease → found_by result
-            ≡ about_of event.now (map standing_of (all_of self.now)) self.now.max
+    /// The place of the connection that a step is about.
+    fn about(&self, step: OneStep<'_>) -> Result<usize, Refusal>
+        ensures value { found_by result
+            ≡ about_of (one_event step.entry) (map standing_of (all_of self.now)) self.now.max
             (numbers_leased self.now.leases) (numbers_kept self.now.tickets) }
         ensures there { IfOk result (λ place. place < length self.now.links.items) }
     {
-        match event {
-            Event::Resume(ticket) | Event::Abandon(ticket) => {
-                self.held(self.kept_on(*ticket), Refusal::UnknownTicket)
+        match step {
+            OneStep::Resume(ticket) | OneStep::Abandon(ticket) => {
+                self.held(self.kept_on(ticket), Refusal::UnknownTicket)
             }
-            Event::GiveBack(lease)
-            | Event::Keep(lease)
-            | Event::Ask(lease, _)
-            | Event::Send(lease)
-            | Event::Cancel(lease) => self.held(self.lent_on(*lease), Refusal::UnknownLease),
-            Event::Work(conn)
-            | Event::ToServer(conn, _)
-            | Event::ToClient(conn, _)
-            | Event::Cut(conn)
-            | Event::Clean(conn) => by_number(self.links.len(), *conn, Refusal::UnknownConnection),
-            Event::Lease | Event::RestartServer | Event::RestartClient => {
-                Err(Refusal::UnknownConnection)
+            OneStep::GiveBack(lease) | OneStep::Keep(lease) => {
+                self.held(self.lent_on(lease), Refusal::UnknownLease)
             }
+            OneStep::Clean(conn) => self.numbered(conn),
+            OneStep::AtEnds(step) => self.at_ends(step),
         }
+    }
+
+    /// The place of the connection at whose ends something happens.
+    fn at_ends(&self, step: EndsStep<'_>) -> Result<usize, Refusal>
+        ensures value { found_by result
+            ≡ about_of (ends_event step.entry) (map standing_of (all_of self.now)) self.now.max
+            (numbers_leased self.now.leases) (numbers_kept self.now.tickets) }
+        ensures there { IfOk result (λ place. place < length self.now.links.items) }
+    {
+        match step {
+            EndsStep::OfCaller(step) => {
+                self.held(self.lent_on(step.lease()), Refusal::UnknownLease)
+            }
+            EndsStep::OfLink(step) => self.numbered(step.conn()),
+        }
+    }
+
+    /// The place of the connection of this number.
+    fn numbered(&self, conn: u32) -> Result<usize, Refusal>
+        ensures value { found_by result
+            ≡ numbered_of (length self.now.links.items) conn UnknownConnection }
+        ensures there { IfOk result (λ place. place < length self.now.links.items) }
+    {
+        by_number(self.links.len(), conn, Refusal::UnknownConnection)
     }
 
     /// The connection of the lease of this number, unless it is unknown or has ended.

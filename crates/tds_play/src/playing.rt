@@ -34,9 +34,9 @@ use crate::carrier::EventCarrier;
 use crate::player::Player;
 use crate::pool::next_number;
 use crate::refusal::{PlayRefusal, Stop};
+use crate::starting::pool_of;
 use crate::worlds::worlds_hold;
 use std::alloc::Global;
-use tds_packet::PacketSize;
 use tds_request::Request;
 use tds_session::{Engine, ScriptEngine};
 use tds_world::laws::{
@@ -48,9 +48,6 @@ use tds_world::losses::{
 };
 use tds_world::report::losses::of_marked_report;
 use tds_world::{Event, EventReport, Report, Sequence, Setup};
-
-/// How many events a schedule may have.
-const EVENT_LIMIT: usize = 10_000;
 
 /// Plays a schedule from nothing: both ends of each connection, over bytes that the carrier brings.
 /// The servers know the batch language.
@@ -129,7 +126,8 @@ pub fn play<C: EventCarrier>(
         → IfOk result (ShowsKeptTransaction events.now) }
     ensures lends_idle { AreFaithful (C.pipes carrier.new) → IfOk result ShowsLendsIdle }
     // What is cleaned is lent fresh: no transaction and no setting is left on its server.
-    ensures left_clean { AreFaithful (C.pipes carrier.new) → IfOk result (ShowsLeftClean events.now) }
+    ensures left_clean { AreFaithful (C.pipes carrier.new)
+        → IfOk result (ShowsLeftClean events.now) }
     // Where nobody waits nothing is underway, and at no time much is. No outcome is an end's
     // fault.
     ensures idle_is_quiet { AreFaithful (C.pipes carrier.new) → IfOk result ShowsIdleQuiet }
@@ -199,7 +197,8 @@ pub fn play_with<E: Engine + Copy, C: EventCarrier>(
         (C.pipes carrier.new)) }
     // Where what came in the end is the first of what was handed over, the play is the model's with the
     // losses that its report marks: what is told, what was handed over, what came, and what is cut.
-    ensures refines { AreFaithful (C.pipes carrier.new) → IfOk result (λ report. IsReportOfPlay setup.now
+    ensures refines { AreFaithful (C.pipes carrier.new)
+        → IfOk result (λ report. IsReportOfPlay setup.now
         (answer_of (E.statements_of engine) (E.step_of engine)) events.now report
         (C.pipes carrier.new)) }
     // Each event does at the carrier what it does in the model; one that is told of events was told of
@@ -249,36 +248,12 @@ pub fn play_with<E: Engine + Copy, C: EventCarrier>(
     as_if_alone();
     never_stuck();
     all_can_cancel();
-    match packet_size(setup, events.len()) {
-        Ok(size) => {
-            let player = Player::new(alloc, engine, size, setup.max, setup.on_attention);
+    match pool_of(alloc, setup, events.len()) {
+        Ok((pool, size)) => {
+            let player = Player::new(alloc, engine, pool, size, setup.max, setup.on_attention);
             play_events(alloc, player, events, carrier)
         }
         Err(refusal) => Err(refusal),
-    }
-}
-
-/// The size of the packets, where so many events are played with this setup.
-#[tactic(auto, unfolding(crate::specs::Refused::first_refusal))]
-fn packet_size(setup: &Setup, events: usize) -> Result<PacketSize, PlayRefusal>
-    ensures ok { OnOk result (first_refusal setup.now events ≡ None) }
-    ensures few { OnOk result (events ≤ 10000) }
-    ensures setup { OnOk result (IsSetup setup.now) }
-    ensures size { IfOk result (λ size. size ≡ setup.now.packet_size) }
-    ensures refused { IfErr result (λ why. first_refusal setup.now events ≡ Some why) }
-    ensures early { IfErr result (λ why. why ≢ NotCleaned) }
-{
-    if events > EVENT_LIMIT {
-        return Err(PlayRefusal::TooManyEvents);
-    }
-    match PacketSize::new(setup.packet_size) {
-        None => Err(PlayRefusal::WrongSetup),
-        Some(size) => {
-            if setup.max == 0 || setup.max > 64 {
-                return Err(PlayRefusal::WrongSetup);
-            }
-            Ok(size)
-        }
     }
 }
 

@@ -1,13 +1,14 @@
 //! Leases and tickets by their numbers, and the connection that an event is about.
-ghost use Rattle.std.specs.Prelude.{◌≡◌, ◌<◌, ◌++◌, ◌∷◌, suc, [], length, min, Option, None, Some, IfErr, IfOk, OnOk};
+ghost use Rattle.std.specs.Prelude.{◌≡◌, ◌<◌, ◌++◌, ◌∷◌, suc, [], length, min, Option, None, Some, IfOk, IsSome, OnOk};
 ghost use Rattle.std.specs.Option.{option_copied};
 ghost use Rattle.tds_play.specs.Lending.{found_by, numbered_of};
-ghost use Rattle.tds_play.specs.Holdings.{all_ended, conn_of, ended_of, put_in};
+ghost use Rattle.tds_play.specs.Holdings.{conn_of, ended_of, put_in};
 ghost use Rattle.tds_world.specs.World.{numbered};
 
 use std::alloc::{AllocError, Global};
 use std::marker::Model;
 use std::mem::replace;
+use tds_pool::{Lease, Ticket};
 use tds_world::Refusal;
 
 /// The number of the next one, where there are so many.
@@ -18,6 +19,24 @@ pub(crate) fn next_number(count: usize) -> u32
     match u32::try_from(count) {
         Ok(count) => count.saturating_add(1),
         Err(_) => u32::MAX,
+    }
+}
+
+/// What must be spent. Where nobody needs it any more, its connection stays where it is in the
+/// pool.
+pub(crate) trait Spent {
+    fn spend(self);
+}
+
+impl Spent for Lease {
+    fn spend(self) {
+        let _ = self.store();
+    }
+}
+
+impl Spent for Ticket {
+    fn spend(self) {
+        let _ = self.store();
     }
 }
 
@@ -35,7 +54,7 @@ impl<T> Model for Holdings<T> {
     ghost view = { λ a. a.held.items };
 }
 
-impl<T> Holdings<T> {
+impl<T: Spent> Holdings<T> {
     pub(crate) fn new(alloc: Global) -> Holdings<T>
         ensures { result ≡ [] }
     {
@@ -51,34 +70,31 @@ impl<T> Holdings<T> {
         next_number(self.held.len())
     }
 
-    /// The next one is given. It comes back where a growth was refused.
-    pub(crate) fn give(&mut self, given: T) -> Result<(), T>
-        ensures ok { OnOk result (self.new ≡ self.old ++ Some given ∷ []) }
-        ensures err { IfErr result (λ back. (back ≡ given) × (self.new ≡ self.old)) }
+    /// The next one is given.
+    pub(crate) fn give(&mut self, given: T) -> Result<(), AllocError>
+        ensures { OnOk result (self.new ≡ self.old ++ Some given ∷ []) }
     {
-        match self.held.push(Some(given)) {
-            Ok(()) => Ok(()),
-            Err(failed) => match failed.value {
-                Some(given) => Err(given),
-                None => unreachable!(),
-            },
-        }
+        self.push(Some(given))
     }
 
     /// The next one is one that has ended.
     pub(crate) fn skip(&mut self) -> Result<(), AllocError>
         ensures { OnOk result (self.new ≡ self.old ++ None ∷ []) }
     {
-        match self.held.push(None) {
-            Ok(()) => Ok(()),
-            Err(failed) => {
-                let value = failed.value;
-                match value {
-                    None => Err(AllocError),
-                    Some(_) => unreachable!(),
-                }
-            }
+        self.push(None)
+    }
+
+    /// The next one is this, unless a growth is refused: then it is spent.
+    fn push(&mut self, held: Option<T>) -> Result<(), AllocError>
+        ensures { OnOk result (self.new ≡ self.old ++ held ∷ []) }
+    {
+        let Err(failed) = self.held.push(held) else {
+            return Ok(());
+        };
+        if let Some(held) = failed.value {
+            held.spend();
         }
+        Err(AllocError)
     }
 
     /// The one with this number, unless it is unknown or has ended.
@@ -94,8 +110,21 @@ impl<T> Holdings<T> {
         }
     }
 
+    /// The one with this number, which hasn't ended, ends.
+    pub(crate) fn end(&mut self, number: u32) -> T
+        requires { IsSome (conn_of self.old number) }
+        ensures taken { Some result ≡ conn_of self.old number }
+        ensures left { self.new ≡ ended_of self.old number }
+    {
+        let Some(ended) = self.take(number) else {
+            // It was looked up, and hasn't ended since.
+            unreachable!()
+        };
+        ended
+    }
+
     /// The one with this number ends, unless it is unknown or has ended.
-    pub(crate) fn take(&mut self, number: u32) -> Option<T>
+    fn take(&mut self, number: u32) -> Option<T>
         ensures taken { result ≡ conn_of self.old number }
         ensures left { self.new ≡ ended_of self.old number }
     {
@@ -123,6 +152,7 @@ impl<T> Holdings<T> {
     {
         match replace(&mut self.held[number as usize - 1], Some(held)) {
             None => {}
+            // It had ended, so that nothing stood there.
             Some(_) => unreachable!(),
         }
     }
@@ -134,18 +164,14 @@ impl<T> Holdings<T> {
         self.held.len()
     }
 
-    /// Lets go of all of them, which have ended.
-    pub(crate) fn let_go(self)
-        requires { self ≡ all_ended self }
-    {
+    /// Lets go of all of them.
+    pub(crate) fn let_go(self) {
         let Holdings { mut held } = self;
         'held: for _ in 0..held.len() {
-            match held.pop() {
-                None => {}
-                Some(ended) => match ended {
-                    None => {}
-                    Some(_) => unreachable!(),
-                },
+            if let Some(last) = held.pop() {
+                if let Some(last) = last {
+                    last.spend();
+                }
             }
         }
         held.destroy_empty();

@@ -145,7 +145,8 @@ fn report_file<R: Read, C: EventCarrier, W: Write>(
     ensures report { AreFaithful (C.pipes carrier.new) → OnOk result (Reports (C.pipes carrier.new)
         (R.remaining reader.old) (W.contents output.old) (W.contents output.new)) }
     ensures fault { AreFaithful (C.pipes carrier.new) → IfErr result (λ fault. EndsBy
-        (C.pipes carrier.new) fault (R.remaining reader.old) (W.contents output.old) (W.contents output.new)) }
+        (C.pipes carrier.new) fault (R.remaining reader.old) (W.contents output.old)
+        (W.contents output.new)) }
 {
     let bytes = read_file(alloc, reader)?;
     let report = play_file(alloc, bytes.as_slice(), carrier)?;

@@ -6,8 +6,9 @@ ghost use Rattle.tds_play.specs.Plays.{MayLose, RefinesAct, RepresentsConnection
 ghost use Rattle.tds_play.specs.Pipe.{IsFaithful};
 ghost use Rattle.tds_play.specs.Pooled.{ChangesOne, IsThere, place_by, seat_in};
 ghost use Rattle.tds_play.specs.Reads.{IsReading, ReadsNoMore, ReadsOn};
-ghost use Rattle.tds_play.specs.Seats.{IsOfEnds, behind_event, drained, is_of_caller};
+ghost use Rattle.tds_play.specs.Seats.{behind_event, drained};
 ghost use Rattle.tds_play.specs.Seen.{seen_in};
+ghost use Rattle.tds_play.specs.Stepping.{ends_event, is_by_caller};
 ghost use Rattle.tds_play.specs.Ties.{IsTied, IsUnasked, KeepsTies};
 ghost use Rattle.tds_pool.specs.Calls.{is_broken};
 ghost use Rattle.tds_pool.specs.Cleaning.{carried, is_cleaned};
@@ -25,10 +26,11 @@ use crate::carrier::EventCarrier;
 use crate::link::acts::on_cut;
 use crate::link::{EventDone, Link};
 use crate::refusal::Stop;
+use crate::step::{EndsStep, LinkStep};
 use std::alloc::Global;
 use tds_pool::{GivenBack, Pool};
 use tds_session::Engine;
-use tds_world::{Event, Place, Snapshot};
+use tds_world::{Place, Snapshot};
 
 /// A connection, and the number of the lease or ticket that holds it in the pool.
 #[derive(Drop)]
@@ -59,14 +61,13 @@ impl<E: Engine + Drop> Held<E> {
         carrier: &mut C,
         pool: &mut Pool,
         number: u32,
-        event: &Event,
+        step: EndsStep<'_>,
     ) -> Result<EventDone, Stop>
-        requires ends { IsOfEnds event.now }
         requires tied { IsTied self.old.link (C.pipes carrier.old self.old.link.number) }
         requires unasked { self.old.link.is_cut ≡ false → IsUnasked C.is_told
             (C.began carrier.old) (C.pipes carrier.old) self.old.link.number }
         requires there { IsThere self.old pool.old }
-        requires lent { is_of_caller event.now ≡ true → self.old.link.is_cut ≡ false
+        requires lent { is_by_caller step ≡ true → self.old.link.is_cut ≡ false
             → IsSome (carried self.old.link.number (connections pool.old)) }
         ensures number { self.new.link.number ≡ self.old.link.number }
         ensures holder { self.new.holder ≡ self.old.holder }
@@ -79,17 +80,17 @@ impl<E: Engine + Drop> Held<E> {
         // Where the connection had no failure, one call of this event failed, or more, exactly where
         // it was lost, and no other one. Where it was cut, nothing changes at the carrier.
         ensures failed { HasNoFailure (C.pipes carrier.old self.old.link.number)
-            → IfOk result (λ done. FailsAs (calls_of event.now) done self.new.link
+            → IfOk result (λ done. FailsAs (calls_of (ends_event step.entry)) done self.new.link
             (C.pipes carrier.new self.old.link.number)) }
         ensures gone { self.old.link.is_cut ≡ true → (carrier.new ≡ carrier.old)
             × (self.new ≡ self.old) × (pool.new ≡ pool.old)
             × IfOk result (λ done. done.lost ≡ false) }
         ensures loses { IfOk result (λ done. done.lost ≡ true
-            → MayLose self.old.link.is_cut event.now) }
+            → MayLose self.old.link.is_cut (ends_event step.entry)) }
         ensures reads { (size : ℕ)
             → IsReading size self.old.link (seat_in self.old pool.old).client.columns
             (C.pipes carrier.old self.old.link.number)
-            → IfOk result (λ done. ReadsOn size event.now done.outcome self.new.link
+            → IfOk result (λ done. ReadsOn size (ends_event step.entry) done.outcome self.new.link
             (seat_in self.new pool.new).client.columns
             (C.pipes carrier.old self.old.link.number)
             (C.pipes carrier.new self.old.link.number)) }
@@ -101,18 +102,18 @@ impl<E: Engine + Drop> Held<E> {
             (E.step_of engine)) setup.packet_size c
             → ((k : ℕ) → IsCountable (after (acts_on setup
             (answer_of (E.statements_of engine) (E.step_of engine)) w
-            (bringing k event.now) self.old.link.number c) c))
+            (bringing k (ends_event step.entry)) self.old.link.number c) c))
             → number ≡ next_number w.asked_on
             → IfOk result (λ done. RefinesAct self.old.link.number setup.packet_size engine done
             self.new.link (seat_in self.new pool.new) (C.pipes carrier.new self.old.link.number)
             (acts_on setup (answer_of (E.statements_of engine) (E.step_of engine)) w
-            (met (loss_of done) event.now) self.old.link.number c) c) }
+            (met (loss_of done) (ends_event step.entry)) self.old.link.number c) c) }
     {
         if self.link.is_cut {
-            return Ok(on_cut(event));
+            return Ok(on_cut(step));
         }
-        let done = self.link.act(alloc, carrier, pool, number, event)?;
-        self.settle(carrier, pool, event)?;
+        let done = self.link.act(alloc, carrier, pool, number, step)?;
+        self.settle(carrier, pool, step)?;
         Ok(done)
     }
 
@@ -122,7 +123,7 @@ impl<E: Engine + Drop> Held<E> {
         &mut self,
         carrier: &mut C,
         pool: &mut Pool,
-        event: &Event,
+        step: EndsStep<'_>,
     ) -> Result<(), Stop>
         requires tied { IsTied self.old.link (C.pipes carrier.old self.old.link.number) }
         requires is_in { IsSome (numbered self.old.link.number (connections pool.old)) }
@@ -144,13 +145,14 @@ impl<E: Engine + Drop> Held<E> {
         ensures sound { OnOk result (self.old.link.is_cut ≡ false
             → is_broken (seat_in self.old pool.old).client.stage ≡ false
             → (self.new ≡ self.old) × (carrier.new ≡ carrier.old)
-            × (seat_in self.new pool.new ≡ behind_event event.now (seat_in self.old pool.old))) }
+            × (seat_in self.new pool.new
+            ≡ behind_event (ends_event step.entry) (seat_in self.old pool.old))) }
     {
         if self.link.is_cut {
             let _ = pool.lost(self.link.number);
             return Ok(());
         }
-        if !matches!(event, Event::ToClient(..)) {
+        if !matches!(step, EndsStep::OfLink(LinkStep::ToClient(..))) {
             return Ok(());
         }
         if self.is_cleaned(pool) {

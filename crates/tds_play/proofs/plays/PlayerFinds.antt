@@ -28,12 +28,6 @@ use Rattle.tds_play.proofs.Found.{HappensBy, IsAboutOne, Settles, happens_found,
 use Rattle.tds_play.proofs.Held.{all_held}
 use Rattle.tds_play.proofs.Lent.{lends_alike}
 
--- An event that is no restart is about one connection.
-pub about_one : (e : Event) → (e ≡ event.RestartServer → ⊥) → (e ≡ event.RestartClient → ⊥) → IsAboutOne e
-about_one event.RestartServer server client = server refl
-about_one event.RestartClient server client = client refl
-about_one e server client = tt
-
 -- What the player's lists say of it and what the world's do.
 about_world : {E S : Type 0} (setup : Setup) (engine : E) (w : World) (e : Event) (player : Player E S) (pipes : ℕ → Option Pipe) → RepresentsWorld setup engine player pipes w
     → about_of e (map standing_of (all_of player)) player.max (numbers_leased player.leases) (numbers_kept player.tickets) ≡ about_of e (map (λ c. c.standing) w.connections) setup.max (holdings_of w.leases) (holdings_of w.tickets)

@@ -2,6 +2,7 @@
 use Rattle.std.proofs.Common.{◌≡◌, ◌∙◌, ℕ, zero, suc, Bool, true, false, not, cond, List, map, Option, Some, None, refl, sym, ap, subst}
 use Rattle.std.specs.List.{slice_get}
 use Rattle.std.specs.Prelude.{IsSome, ◌==◌, ◌&&◌, option_map}
+use Rattle.tds_client.specs.Session.{ClientSession}
 use Rattle.tds_pool.specs.Calls.{is_cleaning, is_leased, lent_to, only}
 use Rattle.tds_pool.specs.Cleaning.{carried}
 use Rattle.tds_pool.specs.Connections.{Connection, connections, numbered, same_turn}
@@ -9,17 +10,18 @@ use Rattle.tds_pool.specs.declared.lease.Lease.{Lease}
 use Rattle.tds_pool.specs.declared.lease.Turn.{Turn}
 use Rattle.tds_pool.specs.declared.seat.Place.{Place}
 use Rattle.tds_pool.specs.declared.seat.Place.TheVariants.{Cleaning}
-use Rattle.tds_world.specs.declared.event.Event.{Event}
-use Rattle.tds_world.specs.declared.event.Event.TheVariants as event
 use Rattle.tds_world.specs.declared.outcome.Refusal.{Refusal}
 use Rattle.tds_play.specs.Holdings.{conn_in, conn_of}
 use Rattle.tds_play.specs.Lending.{Here, standing_of}
 use Rattle.tds_play.specs.Noted.{about_of, held_of}
 use Rattle.tds_play.specs.Player.{AreHeld, all_of}
 use Rattle.tds_play.specs.Pooled.{numbers_kept, numbers_leased}
-use Rattle.tds_play.specs.Seats.{is_of_caller}
+use Rattle.tds_play.specs.Stepping.{ends_event, is_by_caller}
 use Rattle.tds_play.specs.declared.player.Player.{Player}
 use Rattle.tds_play.specs.declared.seat.Held.{Held}
+use Rattle.tds_play.specs.declared.step.CallerStep.TheVariants as caller
+use Rattle.tds_play.specs.declared.step.EndsStep.{EndsStep}
+use Rattle.tds_play.specs.declared.step.EndsStep.TheVariants as ends
 use Rattle.tds_play.proofs.Held.{get_mapped}
 use Rattle.tds_play.proofs.any_bytes.Places.{place_of}
 use Rattle.tds_play.proofs.pooled.Ending.{lent_there}
@@ -40,6 +42,11 @@ slot_held {A} number xs (suc slot) conn h = by (slice_get xs slot) refl (sym (ap
     by (Some None) e k = let bad : None ≡ Some conn = sym (ap (λ (o : Option (Option A)). conn_in (option_map (option_map number) o)) e) ∙ k in absurd (cc)
     by (Some (Some x)) e k = (x, slot_of number xs (suc slot) conn x h (sym (ap conn_in e)))
 
+pub held_some : {A : Type 0} (number : A → ℕ) (xs : List (Option A)) (n conn : ℕ) → conn_of (map (option_map number) xs) n ≡ Some conn → IsSome (conn_of xs n)
+held_some {A} number xs n conn h =
+    let found = slot_held number xs n conn h in
+    subst (λ (o : Option A). IsSome o) (sym (ap (conn_of xs) found.1.is ∙ ap conn_in found.1.at)) refl
+
 -- ---- What is lent isn't being cleaned
 
 place_lent : (b d : Bool) (p : Place) (c : Connection) → IsSome (cond (b && (d && is_leased p)) (Some c) None) → IsSome (cond (not (is_cleaning p)) (Some c) None)
@@ -55,6 +62,23 @@ lent_carried (Some c) key turn h = place_lent (c.key == key) (same_turn c.turn t
 pub lease_carried : (lease : Lease) (pcs : List Connection) → IsSome (lent_to lease pcs) → IsSome (carried lease.number pcs)
 lease_carried lease pcs h = lent_carried (numbered lease.number pcs) lease.key lease.turn h
 
+-- ---- Where the pool lends no client
+
+-- A lease's connection of which the pool lends no client is cut.
+pub cut_where_none : (b : Bool) (n : ℕ) (lease : Lease) (pcs : List Connection) → lease.number ≡ n → (b ≡ false → IsSome (lent_to lease pcs)) → None ≡ option_map (λ (d : Connection). d.client) (carried n pcs) → b ≡ true
+cut_where_none true n lease pcs named lent none = refl
+cut_where_none false n lease pcs named lent none = absurd (lends (carried n pcs) (subst (λ (k : ℕ). IsSome (carried k pcs)) named (lease_carried lease pcs (lent refl))) none)
+  where
+    lends : (o : Option Connection) → IsSome o → None ≡ option_map (λ (d : Connection). d.client) o → ⊥
+    lends None h e = absurd (cc)
+    lends (Some c) h e = cc
+
+-- One whose client it lends isn't.
+pub live_where_some : (b : Bool) (n : ℕ) (pcs : List Connection) (s : ClientSession) → (b ≡ true → numbered n pcs ≡ None) → Some s ≡ option_map (λ (d : Connection). d.client) (carried n pcs) → b ≡ false
+live_where_some false n pcs s out lent = refl
+live_where_some true n pcs s out lent =
+    let bad : Some s ≡ None = lent ∙ ap (λ (o : Option Connection). option_map (λ (d : Connection). d.client) (only (λ (d : Connection). not (is_cleaning d.place)) o)) (out refl) in absurd (cc)
+
 -- ---- A caller
 
 by_lease : {E S : Type 0} (player : Player E S) (place lease count : ℕ) (h : Held E S) (why : Refusal) → AreHeld player → slice_get player.links.items place ≡ Some h → h.link.number ≡ suc place → h.link.is_cut ≡ false → Here place ≡ held_of count (conn_of (numbers_leased player.leases) lease) why → IsSome (carried h.link.number (connections player.pool))
@@ -63,10 +87,10 @@ by_lease player place lease count h why held at number lives is =
     subst (λ (n : ℕ). IsSome (carried n (connections player.pool))) (found.1.conn_is ∙ sym number)
     (lease_carried found.0 (connections player.pool) (lent_there player place lease found.0 h held at found.1 lives))
 
-pub caller_carried : {E S : Type 0} (player : Player E S) (place : ℕ) (h : Held E S) (e : Event) → AreHeld player → slice_get player.links.items place ≡ Some h → h.link.number ≡ suc place
-    → Here place ≡ about_of e (map standing_of (all_of player)) player.max (numbers_leased player.leases) (numbers_kept player.tickets)
-    → is_of_caller e ≡ true → h.link.is_cut ≡ false → IsSome (carried h.link.number (connections player.pool))
-caller_carried player place h (event.Ask lease q) held at number found asks lives = by_lease player place lease _ h _ held at number lives found
-caller_carried player place h (event.Send lease) held at number found asks lives = by_lease player place lease _ h _ held at number lives found
-caller_carried player place h (event.Cancel lease) held at number found asks lives = by_lease player place lease _ h _ held at number lives found
-caller_carried player place h e held at number found asks lives = absurd (cc)
+pub caller_carried : {E S : Type 0} (player : Player E S) (place : ℕ) (h : Held E S) (s : EndsStep) → AreHeld player → slice_get player.links.items place ≡ Some h → h.link.number ≡ suc place
+    → Here place ≡ about_of (ends_event s) (map standing_of (all_of player)) player.max (numbers_leased player.leases) (numbers_kept player.tickets)
+    → is_by_caller s ≡ true → h.link.is_cut ≡ false → IsSome (carried h.link.number (connections player.pool))
+caller_carried player place h (ends.OfCaller (caller.Ask lease request)) held at number found asks lives = by_lease player place lease _ h _ held at number lives found
+caller_carried player place h (ends.OfCaller (caller.Send lease)) held at number found asks lives = by_lease player place lease _ h _ held at number lives found
+caller_carried player place h (ends.OfCaller (caller.Cancel lease)) held at number found asks lives = by_lease player place lease _ h _ held at number lives found
+caller_carried player place h (ends.OfLink s) held at number found asks lives = absurd (cc)

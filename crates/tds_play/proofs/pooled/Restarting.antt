@@ -5,24 +5,14 @@ use Rattle.tds_pool.specs.Calls.{all_numbers}
 use Rattle.tds_pool.specs.Connections.{SameRest, connections}
 use Rattle.tds_pool.specs.declared.lease.Lease.{Lease}
 use Rattle.tds_pool.specs.declared.lease.Ticket.{Ticket}
-use Rattle.tds_world.specs.declared.event.Event.{Event}
-use Rattle.tds_world.specs.declared.event.Event.TheVariants as event
 use Rattle.tds_play.specs.declared.player.Player.{Player}
 use Rattle.tds_play.specs.declared.seat.Held.{Held}
 use Rattle.tds_play.specs.Holdings.{all_ended}
 use Rattle.tds_play.specs.Player.{AreHeld, all_of}
 use Rattle.tds_play.specs.Pooled.{numbers_in, numbers_kept, numbers_leased, seated_from}
-use Rattle.tds_play.specs.Steps.{GrowsByOne, HoldsAs, HoldsBy, IsOfOne, SameSetup}
+use Rattle.tds_play.specs.Steps.{GrowsByOne, HoldsAs, HoldsBy, SameSetup}
 use Rattle.tds_play.proofs.pooled.Ended.{numbers_all_ended}
 use Rattle.tds_play.proofs.pooled.Unseen.{as_long}
-
--- ---- Which event it is
-
-pub one_of : (e : Event) → (e ≡ event.Lease → ⊥) → (e ≡ event.RestartServer → ⊥) → (e ≡ event.RestartClient → ⊥) → IsOfOne e
-one_of event.Lease lease server client = lease refl
-one_of event.RestartServer lease server client = server refl
-one_of event.RestartClient lease server client = client refl
-one_of e lease server client = tt
 
 -- ---- All connections are cut
 

@@ -10,7 +10,8 @@ ghost use Rattle.tds_ends.specs.ModelGives.{IsCountable, ModelGives};
 ghost use Rattle.tds_world.specs.Newest.{WorksOnNewest};
 ghost use Rattle.tds_world.specs.Steps.{EndsIfDue};
 ghost use Rattle.tds_play.specs.Pooled.{ChangesClient};
-ghost use Rattle.tds_play.specs.Seats.{Seat, IsOfEnds, is_of_caller, placed_behind, seated};
+ghost use Rattle.tds_play.specs.Seats.{Seat, placed_behind, seated};
+ghost use Rattle.tds_play.specs.Stepping.{caller_event, ends_event, is_by_caller, link_event};
 ghost use Rattle.tds_play.specs.Seen.{done_as};
 ghost use Rattle.tds_world.specs.declared.report.Place.{Place};
 ghost use Rattle.tds_world.specs.Arrivals.{works};
@@ -33,6 +34,7 @@ ghost use Rattle.tds_play.specs.Ties.{IsTied, IsUnasked, KeepsTies};
 use super::{EventDone, Link};
 use crate::NoMemory;
 use crate::carrier::EventCarrier;
+use crate::step::{CallerStep, EndsStep, LinkStep};
 use std::alloc::Global;
 use tds_client::Client;
 use tds_ends::laws::{asks_alike, idle_alike, sends_append, the_other_stays, works_alike};
@@ -40,7 +42,7 @@ use tds_packet::Direction;
 use tds_pool::Pool;
 use tds_server::Worked;
 use tds_session::{Engine, Session};
-use tds_world::{AbandonOutcome, Event, GiveBackOutcome, Outcome, Refusal, WorkOutcome};
+use tds_world::{Outcome, Refusal, WorkOutcome};
 
 /// An event that doesn't apply.
 pub(crate) fn refused(refusal: Refusal) -> EventDone
@@ -62,26 +64,18 @@ pub(crate) fn done(outcome: Outcome) -> EventDone
 }
 
 /// What an event comes to whose connection is cut.
-pub(crate) fn on_cut(event: &Event) -> EventDone
-    ensures value { (c : Connection) → result ≡ done_as (outcome_of (on_cut event.now c)) }
+pub(crate) fn on_cut(step: EndsStep<'_>) -> EventDone
+    ensures value { (c : Connection)
+        → result ≡ done_as (outcome_of (on_cut (ends_event step.entry) c)) }
     ensures whole { result.lost ≡ false }
 {
-    match event {
-        Event::GiveBack(_) => done(Outcome::GivenBack(GiveBackOutcome::Closed)),
-        Event::Abandon(_) => done(Outcome::Abandoned(AbandonOutcome::Closed)),
-        Event::Work(_)
-        | Event::ToServer(..)
-        | Event::ToClient(..)
-        | Event::Cut(_)
-        | Event::Clean(_) => refused(Refusal::UnknownConnection),
-        Event::Lease
-        | Event::Resume(_)
-        | Event::Keep(_)
-        | Event::Ask(..)
-        | Event::Send(_)
-        | Event::Cancel(_)
-        | Event::RestartServer
-        | Event::RestartClient => refused(Refusal::ConnectionCut),
+    match step {
+        EndsStep::OfCaller(CallerStep::Ask(..) | CallerStep::Send(_) | CallerStep::Cancel(_)) => {
+            refused(Refusal::ConnectionCut)
+        }
+        EndsStep::OfLink(
+            LinkStep::Work(_) | LinkStep::ToServer(..) | LinkStep::ToClient(..) | LinkStep::Cut(_),
+        ) => refused(Refusal::UnknownConnection),
     }
 }
 
@@ -96,13 +90,6 @@ fn as_outcome(worked: Worked) -> WorkOutcome
     }
 }
 
-/// Whether a caller asks, sends or cancels.
-fn is_of_caller(event: &Event) -> bool
-    ensures { result ≡ is_of_caller event.now }
-{
-    matches!(event, Event::Ask(..) | Event::Send(_) | Event::Cancel(_))
-}
-
 impl<E: Engine + Drop> Link<E> {
     /// Does what this event does at the ends of its connection, whose client stands in the pool. What
     /// a caller does, it does where the pool lends its client.
@@ -112,15 +99,14 @@ impl<E: Engine + Drop> Link<E> {
         carrier: &mut C,
         pool: &mut Pool,
         number: u32,
-        event: &Event,
+        step: EndsStep<'_>,
     ) -> Result<EventDone, NoMemory>
-        requires ends { IsOfEnds event.now }
         requires live { self.old.is_cut ≡ false }
         requires tied { IsTied self.old (C.pipes carrier.old self.old.number) }
         requires unasked { IsUnasked C.is_told (C.began carrier.old) (C.pipes carrier.old)
             self.old.number }
         requires there { IsSome (numbered self.old.number (connections pool.old)) }
-        requires lent { is_of_caller event.now ≡ true
+        requires lent { is_by_caller step ≡ true
             → IsSome (carried self.old.number (connections pool.old)) }
         ensures number { self.new.number ≡ self.old.number }
         ensures client { OnOk result (ChangesClient self.old.number pool.old pool.new) }
@@ -129,15 +115,16 @@ impl<E: Engine + Drop> Link<E> {
         // Where the connection had no failure, one call of this event failed, or more, exactly where
         // it was lost, and no other one.
         ensures failed { HasNoFailure (C.pipes carrier.old self.old.number)
-            → IfOk result (λ done. FailsAs (calls_of event.now) done self.new
+            → IfOk result (λ done. FailsAs (calls_of (ends_event step.entry)) done self.new
             (C.pipes carrier.new self.old.number)) }
         // Only what hands bytes over or brings some is lost.
-        ensures loses { IfOk result (λ done. done.lost ≡ true → MayLose false event.now) }
+        ensures loses { IfOk result (λ done. done.lost ≡ true
+            → MayLose false (ends_event step.entry)) }
         // Its ends read what comes, whatever it is.
         ensures reads { (size : ℕ)
             → IsReading size self.old (client_at self.old.number (connections pool.old)).columns
             (C.pipes carrier.old self.old.number)
-            → IfOk result (λ done. ReadsOn size event.now done.outcome self.new
+            → IfOk result (λ done. ReadsOn size (ends_event step.entry) done.outcome self.new
             (client_at self.old.number (connections pool.new)).columns
             (C.pipes carrier.old self.old.number) (C.pipes carrier.new self.old.number)) }
         // A connection that stands for one of the model, wherever it is in the pool, stands for what
@@ -151,22 +138,26 @@ impl<E: Engine + Drop> Link<E> {
             (E.step_of engine)) setup.packet_size c
             → ((k : ℕ) → IsCountable (after (acts_on setup
             (answer_of (E.statements_of engine) (E.step_of engine)) w
-            (bringing k event.now) self.old.number c) c))
+            (bringing k (ends_event step.entry)) self.old.number c) c))
             → number ≡ next_number w.asked_on
             → IfOk result (λ done. RefinesAct self.old.number setup.packet_size engine done self.new
-            (seated (placed_behind event.now (client_at self.old.number (connections pool.new)) p)
+            (seated (placed_behind (ends_event step.entry)
+            (client_at self.old.number (connections pool.new)) p)
             (client_at self.old.number (connections pool.new)))
             (C.pipes carrier.new self.old.number)
             (acts_on setup (answer_of (E.statements_of engine) (E.step_of engine)) w
-            (met (loss_of done) event.now) self.old.number c) c) }
+            (met (loss_of done) (ends_event step.entry)) self.old.number c) c) }
     {
-        if is_of_caller(event) {
-            let Some(client) = pool.at(self.number) else {
-                unreachable!()
-            };
-            return self.act_by_caller(alloc, carrier, client, number, event);
+        match step {
+            EndsStep::OfCaller(step) => {
+                let Some(client) = pool.at(self.number) else {
+                    // Its caller holds a lease of it, so that the pool lends its client.
+                    unreachable!()
+                };
+                self.act_by_caller(alloc, carrier, client, number, step)
+            }
+            EndsStep::OfLink(step) => self.act_alone(alloc, carrier, pool, step),
         }
-        self.act_alone(alloc, carrier, pool, event)
     }
 
     /// Asks, sends or cancels, with its client.
@@ -176,9 +167,8 @@ impl<E: Engine + Drop> Link<E> {
         carrier: &mut C,
         client: &mut Client,
         number: u32,
-        event: &Event,
+        step: CallerStep<'_>,
     ) -> Result<EventDone, NoMemory>
-        requires by { is_of_caller event.now ≡ true }
         requires live { self.old.is_cut ≡ false }
         requires tied { IsTied self.old (C.pipes carrier.old self.old.number) }
         requires unasked { IsUnasked C.is_told (C.began carrier.old) (C.pipes carrier.old)
@@ -187,12 +177,13 @@ impl<E: Engine + Drop> Link<E> {
         ensures ties { OnOk result (KeepsTies self.old.number self.new (C.pipes carrier.old)
             (C.pipes carrier.new) (C.began carrier.old) (C.began carrier.new)) }
         ensures failed { HasNoFailure (C.pipes carrier.old self.old.number)
-            → IfOk result (λ done. FailsAs (calls_of event.now) done self.new
+            → IfOk result (λ done. FailsAs (calls_of (caller_event step.entry)) done self.new
             (C.pipes carrier.new self.old.number)) }
-        ensures loses { IfOk result (λ done. done.lost ≡ true → MayLose false event.now) }
+        ensures loses { IfOk result (λ done. done.lost ≡ true
+            → MayLose false (caller_event step.entry)) }
         ensures reads { (size : ℕ)
             → IsReading size self.old client.old.columns (C.pipes carrier.old self.old.number)
-            → IfOk result (λ done. ReadsOn size event.now done.outcome self.new
+            → IfOk result (λ done. ReadsOn size (caller_event step.entry) done.outcome self.new
             client.new.columns (C.pipes carrier.old self.old.number)
             (C.pipes carrier.new self.old.number)) }
         ensures refines { (setup : Setup) (w : World) (c : Connection) (engine : E) (p : Place)
@@ -203,33 +194,21 @@ impl<E: Engine + Drop> Link<E> {
             (E.step_of engine)) setup.packet_size c
             → ((k : ℕ) → IsCountable (after (acts_on setup
             (answer_of (E.statements_of engine) (E.step_of engine)) w
-            (bringing k event.now) self.old.number c) c))
+            (bringing k (caller_event step.entry)) self.old.number c) c))
             → number ≡ next_number w.asked_on
             → IfOk result (λ done. RefinesAct self.old.number setup.packet_size engine done self.new
-            (seated (placed_behind event.now client.new p) client.new)
+            (seated (placed_behind (caller_event step.entry) client.new p) client.new)
             (C.pipes carrier.new self.old.number)
             (acts_on setup (answer_of (E.statements_of engine) (E.step_of engine)) w
-            (met (loss_of done) event.now) self.old.number c) c) }
+            (met (loss_of done) (caller_event step.entry)) self.old.number c) c) }
     {
         asks_alike();
         idle_alike();
         the_other_stays::<E>();
-        match event {
-            Event::Ask(lease, request) => self.ask(alloc, client, number, *lease, request),
-            Event::Send(_) => self.send(alloc, carrier, client),
-            Event::Cancel(_) => self.cancel(alloc, carrier, client),
-            Event::Lease
-            | Event::Resume(_)
-            | Event::GiveBack(_)
-            | Event::Keep(_)
-            | Event::Abandon(_)
-            | Event::Clean(_)
-            | Event::Work(_)
-            | Event::ToServer(..)
-            | Event::ToClient(..)
-            | Event::Cut(_)
-            | Event::RestartServer
-            | Event::RestartClient => unreachable!(),
+        match step {
+            CallerStep::Ask(lease, request) => self.ask(alloc, client, number, lease, request),
+            CallerStep::Send(_) => self.send(alloc, carrier, client),
+            CallerStep::Cancel(_) => self.cancel(alloc, carrier, client),
         }
     }
 
@@ -239,10 +218,8 @@ impl<E: Engine + Drop> Link<E> {
         alloc: Global,
         carrier: &mut C,
         pool: &mut Pool,
-        event: &Event,
+        step: LinkStep,
     ) -> Result<EventDone, NoMemory>
-        requires ends { IsOfEnds event.now }
-        requires alone { is_of_caller event.now ≡ false }
         requires live { self.old.is_cut ≡ false }
         requires tied { IsTied self.old (C.pipes carrier.old self.old.number) }
         requires unasked { IsUnasked C.is_told (C.began carrier.old) (C.pipes carrier.old)
@@ -253,13 +230,13 @@ impl<E: Engine + Drop> Link<E> {
         ensures ties { OnOk result (KeepsTies self.old.number self.new (C.pipes carrier.old)
             (C.pipes carrier.new) (C.began carrier.old) (C.began carrier.new)) }
         ensures failed { HasNoFailure (C.pipes carrier.old self.old.number)
-            → IfOk result (λ done. FailsAs (calls_of event.now) done self.new
+            → IfOk result (λ done. FailsAs (calls_of (link_event step)) done self.new
             (C.pipes carrier.new self.old.number)) }
-        ensures loses { IfOk result (λ done. done.lost ≡ true → MayLose false event.now) }
+        ensures loses { IfOk result (λ done. done.lost ≡ true → MayLose false (link_event step)) }
         ensures reads { (size : ℕ)
             → IsReading size self.old (client_at self.old.number (connections pool.old)).columns
             (C.pipes carrier.old self.old.number)
-            → IfOk result (λ done. ReadsOn size event.now done.outcome self.new
+            → IfOk result (λ done. ReadsOn size (link_event step) done.outcome self.new
             (client_at self.old.number (connections pool.new)).columns
             (C.pipes carrier.old self.old.number) (C.pipes carrier.new self.old.number)) }
         ensures refines { (setup : Setup) (w : World) (c : Connection) (engine : E) (p : Place)
@@ -271,33 +248,23 @@ impl<E: Engine + Drop> Link<E> {
             (E.step_of engine)) setup.packet_size c
             → ((k : ℕ) → IsCountable (after (acts_on setup
             (answer_of (E.statements_of engine) (E.step_of engine)) w
-            (bringing k event.now) self.old.number c) c))
+            (bringing k (link_event step)) self.old.number c) c))
             → IfOk result (λ done. RefinesAct self.old.number setup.packet_size engine done self.new
-            (seated (placed_behind event.now (client_at self.old.number (connections pool.new)) p)
+            (seated (placed_behind (link_event step)
+            (client_at self.old.number (connections pool.new)) p)
             (client_at self.old.number (connections pool.new)))
             (C.pipes carrier.new self.old.number)
             (acts_on setup (answer_of (E.statements_of engine) (E.step_of engine)) w
-            (met (loss_of done) event.now) self.old.number c) c) }
+            (met (loss_of done) (link_event step)) self.old.number c) c) }
     {
-        match event {
-            Event::Work(_) => self.work(alloc, carrier),
-            Event::ToServer(_, most) => self.deliver_to_server(alloc, carrier, *most),
-            Event::ToClient(_, most) => self.deliver_to_client(alloc, carrier, pool, *most),
-            Event::Cut(_) => {
+        match step {
+            LinkStep::Work(_) => self.work(alloc, carrier),
+            LinkStep::ToServer(_, most) => self.deliver_to_server(alloc, carrier, most),
+            LinkStep::ToClient(_, most) => self.deliver_to_client(alloc, carrier, pool, most),
+            LinkStep::Cut(_) => {
                 self.cut(carrier);
                 Ok(done(Outcome::Cut))
             }
-            Event::Lease
-            | Event::Resume(_)
-            | Event::GiveBack(_)
-            | Event::Keep(_)
-            | Event::Abandon(_)
-            | Event::Clean(_)
-            | Event::Ask(..)
-            | Event::Send(_)
-            | Event::Cancel(_)
-            | Event::RestartServer
-            | Event::RestartClient => unreachable!(),
         }
     }
 

@@ -7,8 +7,8 @@ ghost use Rattle.tds_play.specs.Noted.{about_of};
 ghost use Rattle.tds_play.specs.Pipe.{Pipe};
 ghost use Rattle.tds_play.specs.Player.{AreHeld, all_of};
 ghost use Rattle.tds_play.specs.Pooled.{numbers_kept, numbers_leased};
-ghost use Rattle.tds_play.specs.Seats.{IsOfEnds};
-ghost use Rattle.tds_play.specs.Steps.{AreFew, IsNoted, IsOfOne, StepsAt};
+ghost use Rattle.tds_play.specs.Stepping.{ends_event, one_event};
+ghost use Rattle.tds_play.specs.Steps.{AreFew, IsNoted, StepsAt};
 ghost use Rattle.tds_play.specs.Ties.{AreTied, IsJustTold};
 ghost use Rattle.tds_session.specs.Answer.{answer_of};
 ghost use Rattle.tds_world.specs.declared.event.Event.TheVariants as events;
@@ -22,9 +22,10 @@ use crate::link::EventDone;
 use crate::link::acts::{done, refused};
 use crate::pool::next_number;
 use crate::refusal::Stop;
+use crate::step::{CallerStep, EndsStep, LinkStep, OneStep};
 use tds_ends::laws::{idle_alike, lends_matching, pool_is_unseen};
 use tds_session::Engine;
-use tds_world::{Event, Opened, Outcome};
+use tds_world::{Opened, Outcome};
 
 impl<E: Engine + Copy> Player<E> {
     /// An event on the connection at this place, by its kind.
@@ -32,7 +33,7 @@ impl<E: Engine + Copy> Player<E> {
         &mut self,
         carrier: &mut C,
         place: usize,
-        event: &Event,
+        step: OneStep<'_>,
     ) -> Result<EventDone, Stop>
         requires tied { AreTied (all_of self.old) (C.pipes carrier.old) }
         requires told { IsJustTold C.is_told (C.began carrier.old) (C.pipes carrier.old) }
@@ -40,21 +41,21 @@ impl<E: Engine + Copy> Player<E> {
         requires held { AreHeld self.old }
         requires few { AreFew 9999 self.old }
         requires there { place < length self.old.links.items }
-        requires found { Here place ≡ about_of event.now (map standing_of (all_of self.old))
+        requires found { Here place ≡ about_of (one_event step) (map standing_of (all_of self.old))
             self.old.max (numbers_leased self.old.leases) (numbers_kept self.old.tickets) }
-        requires ends { IsOfOne event.now }
         ensures { IfOk result (λ done. StepsAt
-            (λ engine. answer_of (E.statements_of engine) (E.step_of engine)) event.now place
+            (λ engine. answer_of (E.statements_of engine) (E.step_of engine))
+            (one_event step.entry) place
             self.old self.new (C.pipes carrier.old) (C.pipes carrier.new)
             (C.began carrier.old) (C.began carrier.new) done) }
     {
-        match event {
-            Event::Resume(ticket) => self.resume(place, *ticket),
-            Event::GiveBack(lease) => self.give_back(carrier, place, *lease),
-            Event::Keep(lease) => self.keep(place, *lease),
-            Event::Abandon(ticket) => self.abandon(carrier, place, *ticket),
-            Event::Clean(conn) => self.clean(carrier, place, *conn),
-            _ => self.act_on(carrier, place, event),
+        match step {
+            OneStep::Resume(ticket) => self.resume(place, ticket),
+            OneStep::GiveBack(lease) => self.give_back(carrier, place, lease),
+            OneStep::Keep(lease) => self.keep(place, lease),
+            OneStep::Abandon(ticket) => self.abandon(carrier, place, ticket),
+            OneStep::Clean(conn) => self.clean(carrier, place, conn),
+            OneStep::AtEnds(step) => self.act_on(carrier, place, step),
         }
     }
 
@@ -63,7 +64,7 @@ impl<E: Engine + Copy> Player<E> {
         &mut self,
         carrier: &mut C,
         place: usize,
-        event: &Event,
+        step: EndsStep<'_>,
     ) -> Result<EventDone, Stop>
         requires tied { AreTied (all_of self.old) (C.pipes carrier.old) }
         requires told { IsJustTold C.is_told (C.began carrier.old) (C.pipes carrier.old) }
@@ -71,38 +72,43 @@ impl<E: Engine + Copy> Player<E> {
         requires held { AreHeld self.old }
         requires few { AreFew 9999 self.old }
         requires there { place < length self.old.links.items }
-        requires found { Here place ≡ about_of event.now (map standing_of (all_of self.old))
+        requires found { Here place ≡ about_of (ends_event step) (map standing_of (all_of self.old))
             self.old.max (numbers_leased self.old.leases) (numbers_kept self.old.tickets) }
-        requires ends { IsOfEnds event.now }
         ensures { IfOk result (λ done. StepsAt
-            (λ engine. answer_of (E.statements_of engine) (E.step_of engine)) event.now place
+            (λ engine. answer_of (E.statements_of engine) (E.step_of engine))
+            (ends_event step.entry) place
             self.old self.new (C.pipes carrier.old) (C.pipes carrier.new)
             (C.began carrier.old) (C.began carrier.new) done) }
     {
         let number = next_number(self.asked_on.len());
-        let done = self.links[place].act(self.alloc, carrier, &mut self.pool, number, event)?;
-        self.note(place, event, &done.outcome)?;
+        let done = self.links[place].act(self.alloc, carrier, &mut self.pool, number, step)?;
+        self.note(place, step, &done.outcome)?;
         Ok(done)
     }
 
     /// Notes the connection of a request that was asked.
-    fn note(&mut self, place: usize, event: &Event, outcome: &Outcome) -> Result<(), NoMemory>
+    fn note(&mut self, place: usize, step: EndsStep<'_>, outcome: &Outcome) -> Result<(), NoMemory>
         requires few { place < 9999 }
-        requires ends { IsOfEnds event.now }
         ensures noted { OnOk result
-            (IsNoted event.now (suc place) self.old self.new outcome.now) }
+            (IsNoted (ends_event step.entry) (suc place) self.old self.new outcome.now) }
         ensures rest { OnOk result
             (self.new ≡ record self.old { asked_on = self.new.asked_on }) }
     {
-        match event {
-            Event::Ask(..) => match outcome {
+        match step {
+            EndsStep::OfCaller(CallerStep::Ask(..)) => match outcome {
                 Outcome::Refused(_) => Ok(()),
                 _ => {
                     self.asked_on.push(next_number(place))?;
                     Ok(())
                 }
             },
-            _ => Ok(()),
+            EndsStep::OfCaller(CallerStep::Send(_) | CallerStep::Cancel(_))
+            | EndsStep::OfLink(
+                LinkStep::Work(_)
+                | LinkStep::ToServer(..)
+                | LinkStep::ToClient(..)
+                | LinkStep::Cut(_),
+            ) => Ok(()),
         }
     }
 
@@ -125,9 +131,7 @@ impl<E: Engine + Copy> Player<E> {
             self.old self.new (C.pipes carrier.old) (C.pipes carrier.new)
             (C.began carrier.old) (C.began carrier.new) done) }
     {
-        let Some(lease) = self.leases.take(number) else {
-            unreachable!()
-        };
+        let lease = self.leases.end(number);
         match self.links[place].give_back(self.alloc, carrier, &mut self.pool, lease) {
             Ok(done) => Ok(done),
             Err(lease) => {
@@ -150,18 +154,13 @@ impl<E: Engine + Copy> Player<E> {
     {
         idle_alike();
         pool_is_unseen::<E>();
-        let Some(lease) = self.leases.take(number) else {
-            unreachable!()
-        };
+        let lease = self.leases.end(number);
         let next = self.tickets.next();
         match self.links[place].keep(&mut self.pool, lease, next) {
-            Ok(ticket) => match self.tickets.give(ticket) {
-                Ok(()) => Ok(done(Outcome::Kept(next))),
-                Err(ticket) => {
-                    let _ = self.pool.abandon(ticket);
-                    Err(Stop::Memory)
-                }
-            },
+            Ok(ticket) => {
+                self.tickets.give(ticket)?;
+                Ok(done(Outcome::Kept(next)))
+            }
             Err((lease, refusal)) => {
                 self.leases.put(number, lease);
                 Ok(refused(refusal))
@@ -183,9 +182,7 @@ impl<E: Engine + Copy> Player<E> {
         idle_alike();
         lends_matching::<E>();
         pool_is_unseen::<E>();
-        let Some(ticket) = self.tickets.take(number) else {
-            unreachable!()
-        };
+        let ticket = self.tickets.end(number);
         let next = self.leases.next();
         match self.links[place].resume(&mut self.pool, ticket, next) {
             Ok(lease) => {
@@ -221,9 +218,7 @@ impl<E: Engine + Copy> Player<E> {
             self.old self.new (C.pipes carrier.old) (C.pipes carrier.new)
             (C.began carrier.old) (C.began carrier.new) done) }
     {
-        let Some(ticket) = self.tickets.take(number) else {
-            unreachable!()
-        };
+        let ticket = self.tickets.end(number);
         Ok(self.links[place].abandon(carrier, &mut self.pool, ticket))
     }
 }

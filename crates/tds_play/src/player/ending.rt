@@ -84,7 +84,7 @@ impl<E: Engine + Copy> Player<E> {
     {
         'leases: for place in 0..self.leases.len() {
             if let Some(lease) = self.leases.take_at(place) {
-                spend(self.alloc, &mut self.pool, lease);
+                spend(&mut self.pool, lease);
             }
         }
         'tickets: for place in 0..self.tickets.len() {
@@ -125,7 +125,7 @@ impl<E: Engine + Copy> Player<E> {
     }
 
     /// What is told of each request in the end, in the order in which they were asked.
-    pub(crate) fn into_requests(mut self) -> Result<Vec<RequestReport>, NoMemory>
+    pub(crate) fn into_requests(self) -> Result<Vec<RequestReport>, NoMemory>
         // The callers of each connection were given what is told of its requests, and maybe more.
         ensures given { IfOk result (λ reports. (n : ℕ)
             → TellsGiven (all_of self) reports.items n) }
@@ -133,7 +133,6 @@ impl<E: Engine + Copy> Player<E> {
             → RepresentsWorld setup engine self pipes w → RequestsInOrder w
             → IfOk result (λ reports. reports.items ≡ request_reports w 1 w.asked_on) }
     {
-        self.end_all();
         let Player {
             alloc,
             engine: _,

@@ -1,29 +1,47 @@
 //! What a new lease gets: a connection that was lent before, or a new one.
-ghost use Rattle.std.specs.Prelude.{◌≡◌, ◌≤◌, ◌<◌, [], ◌∷◌, ◌++◌, length, Some, IfOk, OnOk};
+ghost use Rattle.std.specs.Prelude.{◌≡◌, ◌≢◌, ◌≤◌, ◌<◌, [], ◌∷◌, ◌++◌, length, Some, IfOk, OnOk};
 ghost use Rattle.tds_play.specs.Happening.{HappensAs};
 ghost use Rattle.tds_play.specs.Player.{AreHeld, all_of};
 ghost use Rattle.tds_play.specs.Pooled.{IsGone};
 ghost use Rattle.tds_play.specs.Seen.{done_as};
 ghost use Rattle.tds_play.specs.Steps.{AreFew, OpensAs, ReusesAs};
 ghost use Rattle.tds_play.specs.Ties.{AreTied, IsJustTold};
+ghost use Rattle.tds_pool.specs.declared.answers.PoolRefusal.TheVariants as refusals;
 ghost use Rattle.tds_session.specs.Answer.{answer_of};
 ghost use Rattle.tds_world.specs.declared.event.Event.TheVariants as events;
 ghost use Rattle.tds_world.specs.declared.outcome.Opened.TheVariants as opened;
 ghost use Rattle.tds_world.specs.declared.outcome.Outcome.TheVariants as outcome;
+ghost use Rattle.tds_world.specs.declared.outcome.Refusal.TheVariants.{AllInUse};
 
 use super::Player;
 use crate::NoMemory;
 use crate::carrier::EventCarrier;
 use crate::link::acts::{done, refused};
 use crate::link::{EventDone, Link};
+use crate::pool::Spent;
 use crate::refusal::Stop;
 use crate::seat::Held;
-use std::alloc::{AllocError, Global};
+use std::alloc::AllocError;
 use tds_ends::laws::{idle_alike, lends_matching, pool_is_unseen};
-use tds_pool::laws::taken_out_is_unknown;
 use tds_pool::{Lease, Pool, PoolRefusal};
 use tds_session::Engine;
 use tds_world::{Opened, Outcome, Refusal};
+
+/// Why the pool lends nothing, in the words of a play.
+fn lends_not(why: PoolRefusal) -> Result<Refusal, NoMemory>
+    ensures value { IfOk result (λ refusal. refusal ≡ AllInUse) }
+    ensures some { OnOk result (why ≢ refusals.Memory) }
+{
+    match why {
+        PoolRefusal::Memory => Err(AllocError),
+        PoolRefusal::AllInUse
+        | PoolRefusal::Unknown
+        | PoolRefusal::NotIdle
+        | PoolRefusal::NoTransaction
+        | PoolRefusal::Broken
+        | PoolRefusal::NumbersUsedUp => Ok(Refusal::AllInUse),
+    }
+}
 
 impl<E: Engine + Copy> Player<E> {
     /// A lease that the pool gave has its number.
@@ -32,13 +50,8 @@ impl<E: Engine + Copy> Player<E> {
         ensures rest { OnOk result
             (self.new ≡ record self.old { leases = self.new.leases }) }
     {
-        match self.leases.give(lease) {
-            Ok(()) => Ok(()),
-            Err(lease) => {
-                spend(self.alloc, &mut self.pool, lease);
-                Err(AllocError)
-            }
-        }
+        self.leases.give(lease)?;
+        Ok(())
     }
 
     /// The pool lends a connection: one that was lent before, or a new one, which is opened.
@@ -67,10 +80,7 @@ impl<E: Engine + Copy> Player<E> {
                     }
                 }
             }
-            Err(refusal) => match refusal {
-                PoolRefusal::Memory => Err(Stop::Memory),
-                _ => Ok(refused(Refusal::AllInUse)),
-            },
+            Err(why) => Ok(refused(lends_not(why)?)),
         }
     }
 
@@ -124,15 +134,10 @@ impl<E: Engine + Copy> Player<E> {
     }
 }
 
-/// A lease ends whose connection nobody needs any more: the pool loses that first.
-pub(super) fn spend(alloc: Global, pool: &mut Pool, lease: Lease)
+/// A lease ends whose connection nobody needs any more: the pool loses that.
+pub(super) fn spend(pool: &mut Pool, lease: Lease)
     ensures lost { IsGone lease.number pool.old pool.new }
 {
-    taken_out_is_unknown();
-    let mut nothing = Vec::new(alloc);
     let _ = pool.lost(lease.number());
-    match pool.give_back(lease, &mut nothing) {
-        Ok(_) => {}
-        Err(_) => unreachable!(),
-    }
+    lease.spend();
 }

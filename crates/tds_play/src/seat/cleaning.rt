@@ -40,6 +40,7 @@ fn cleaning_request(alloc: Global) -> Result<Request, NoMemory>
     let units = vec![in alloc; 115, 97, 121, 32, 99, 108, 101, 97, 110]?;
     match BatchText::new(units) {
         Some(text) => Ok(Request::Batch(text)),
+        // It has nine units, where 1 to 2,000 may be.
         None => unreachable!(),
     }
 }
@@ -52,7 +53,11 @@ fn cleans_not(why: PoolRefusal) -> Result<Refusal, NoMemory>
     match why {
         PoolRefusal::Memory => Err(AllocError),
         PoolRefusal::Unknown => Ok(Refusal::NotFree),
-        _ => Ok(Refusal::NotIdle),
+        PoolRefusal::AllInUse
+        | PoolRefusal::NotIdle
+        | PoolRefusal::NoTransaction
+        | PoolRefusal::Broken
+        | PoolRefusal::NumbersUsedUp => Ok(Refusal::NotIdle),
     }
 }
 

@@ -19,7 +19,7 @@ ghost use Rattle.tds_world.specs.World.{World};
 ghost use Rattle.tds_world.specs.declared.event.Event.TheVariants as event;
 ghost use Rattle.tds_world.specs.declared.event.Setup.{Setup};
 ghost use Rattle.tds_world.specs.declared.outcome.Outcome.TheVariants as outcome;
-ghost use Rattle.tds_world.specs.declared.outcome.Refusal.TheVariants.{ConnectionCut};
+ghost use Rattle.tds_world.specs.declared.outcome.Refusal.TheVariants.{ConnectionCut, NotIdle};
 ghost use Rattle.tds_world.specs.declared.outcome.Refusal.{Refusal};
 
 use super::Held;
@@ -31,6 +31,36 @@ use tds_ends::laws::pool_is_unseen;
 use tds_pool::{GivenBack, Lease, Pool, PoolRefusal, Ticket};
 use tds_session::Engine;
 use tds_world::{AbandonOutcome, GiveBackOutcome, Outcome, Refusal};
+
+/// Why the pool doesn't keep, in the words of a play.
+fn keeps_not(why: PoolRefusal) -> Refusal
+    ensures { result ≡ keeps_not why }
+{
+    match why {
+        PoolRefusal::NoTransaction => Refusal::NothingToKeep,
+        PoolRefusal::AllInUse
+        | PoolRefusal::Unknown
+        | PoolRefusal::NotIdle
+        | PoolRefusal::Broken
+        | PoolRefusal::Memory
+        | PoolRefusal::NumbersUsedUp => Refusal::NotIdle,
+    }
+}
+
+/// Why the pool doesn't resume, in the words of a play.
+fn resumes_not(why: PoolRefusal) -> Refusal
+    ensures { result ≡ NotIdle }
+{
+    match why {
+        PoolRefusal::AllInUse
+        | PoolRefusal::Unknown
+        | PoolRefusal::NotIdle
+        | PoolRefusal::NoTransaction
+        | PoolRefusal::Broken
+        | PoolRefusal::Memory
+        | PoolRefusal::NumbersUsedUp => Refusal::NotIdle,
+    }
+}
 
 impl<E: Engine + Drop> Held<E> {
     /// Its lease ends. What is underway is cancelled first. The lease comes back where a growth was
@@ -87,14 +117,12 @@ impl<E: Engine + Drop> Held<E> {
             (event.GiveBack k) self.old.link.number c) c) }
     {
         let mut nothing = Vec::new(alloc);
-        if self.link.is_cut {
+        let Some(client) = pool.at(self.link.number) else {
+            // It is cut, and the pool has lost it.
             return match pool.give_back(lease, &mut nothing) {
                 Ok(_) => Ok(done(Outcome::GivenBack(GiveBackOutcome::Closed))),
                 Err((lease, _)) => Err(lease),
             };
-        }
-        let Some(client) = pool.at(self.link.number) else {
-            unreachable!()
         };
         let Ok(lost) = self.link.give_up(alloc, carrier, client) else {
             return Err(lease);
@@ -271,8 +299,7 @@ impl<E: Engine + Drop> Held<E> {
                 self.holder = ticket;
                 Ok(kept)
             }
-            Err((lease, PoolRefusal::NoTransaction)) => Err((lease, Refusal::NothingToKeep)),
-            Err((lease, _)) => Err((lease, Refusal::NotIdle)),
+            Err((lease, why)) => Err((lease, keeps_not(why))),
         }
     }
 
@@ -305,7 +332,7 @@ impl<E: Engine + Drop> Held<E> {
                 self.holder = lease;
                 Ok(lent)
             }
-            Err((ticket, _)) => Err((ticket, Refusal::NotIdle)),
+            Err((ticket, why)) => Err((ticket, resumes_not(why))),
         }
     }
 }

@@ -10,13 +10,14 @@ use Rattle.tds_play.specs.Pipe.{Pipe}
 use Rattle.tds_play.specs.Plays.{RefinesAct, RepresentsConnection, acts_on, loss_of}
 use Rattle.tds_play.specs.Reads.{IsReading, ReadsOn}
 use Rattle.tds_play.specs.Seats.{placed_behind, seated}
+use Rattle.tds_play.specs.Stepping.{caller_event}
 use Rattle.tds_play.proofs.pooled.Clients.{client_at_is, client_put, on_any, with}
 use Rattle.tds_play.proofs.pooled.Numbers.{IsIn}
 use Rattle.tds_play.proofs.pooled.Settled.{client_found, in_of, lent_client, lent_there}
 use Rattle.tds_play.proofs.link.Link.act.Goals as goal
 
-pub returns-then-is_of_caller-clause-client : goal.returns-then-is_of_caller-clause-client
-returns-then-is_of_caller-clause-client g c =
+pub returns-in-Some-clause-client : goal.returns-in-Some-clause-client
+returns-in-Some-clause-client g c =
     let n : ℕ = c.args.self.now.number in
     let s : ClientSession = c.act_by_caller.new.client in
     on_any c.act_by_caller.result _
@@ -24,8 +25,8 @@ returns-then-is_of_caller-clause-client g c =
     (c.at.ensures.writes s (lent_there n (connections c.args.pool.now) c.in-Some.client.now c.in-Some.ensures.value))
     (record { name = refl; max = refl; size = refl; last = refl }))
 
-pub returns-then-is_of_caller-clause-reads : goal.returns-then-is_of_caller-clause-reads
-returns-then-is_of_caller-clause-reads g c = λ size reads.
+pub returns-in-Some-clause-reads : goal.returns-in-Some-clause-reads
+returns-in-Some-clause-reads g c = λ size reads.
     let n : ℕ = c.args.self.now.number in
     let pcs = connections c.args.pool.now in
     let s : ClientSession = c.act_by_caller.new.client in
@@ -36,11 +37,11 @@ returns-then-is_of_caller-clause-reads g c = λ size reads.
     client_at_is n (connections mid) (with s it.connection)
     (ap (numbered n) (c.at.ensures.writes s (lent_there n pcs c.in-Some.client.now c.in-Some.ensures.value)) ∙ client_found n s pcs it.connection it.there) in
     let old : Option Pipe = g.C.EventCarrier.pipes c.args.carrier.now n in
-    subst (λ (x : ClientSession). IfOk c.act_by_caller.result (λ done. ReadsOn size c.args.event.now done.outcome c.act_by_caller.new.self x.columns old (g.C.EventCarrier.pipes c.act_by_caller.new.carrier n))) (sym after)
-    (c.act_by_caller.ensures.reads size (subst (λ (x : ClientSession). IsReading size c.args.self.now x.columns old) before reads))
+    rw c.in-OfCaller.is (subst (λ (x : ClientSession). IfOk c.act_by_caller.result (λ done. ReadsOn size (caller_event c.in-OfCaller.step) done.outcome c.act_by_caller.new.self x.columns old (g.C.EventCarrier.pipes c.act_by_caller.new.carrier n))) (sym after)
+    (c.act_by_caller.ensures.reads size (subst (λ (x : ClientSession). IsReading size c.args.self.now x.columns old) before reads)))
 
-pub returns-then-is_of_caller-clause-refines : goal.returns-then-is_of_caller-clause-refines
-returns-then-is_of_caller-clause-refines g c = λ setup w m engine p faithful played promises few next.
+pub returns-in-Some-clause-refines : goal.returns-in-Some-clause-refines
+returns-in-Some-clause-refines g c = λ setup w m engine p faithful played promises few next.
     let n : ℕ = c.args.self.now.number in
     let pcs = connections c.args.pool.now in
     let s : ClientSession = c.act_by_caller.new.client in
@@ -51,5 +52,25 @@ returns-then-is_of_caller-clause-refines g c = λ setup w m engine p faithful pl
     client_at_is n (connections mid) (with s it.connection)
     (ap (numbered n) (c.at.ensures.writes s (lent_there n pcs c.in-Some.client.now c.in-Some.ensures.value)) ∙ client_found n s pcs it.connection it.there) in
     let old : Option Pipe = g.C.EventCarrier.pipes c.args.carrier.now n in
-    subst (λ (x : ClientSession). IfOk c.act_by_caller.result (λ done. RefinesAct n setup.packet_size engine done c.act_by_caller.new.self (seated (placed_behind c.args.event.now x p) x) (g.C.EventCarrier.pipes c.act_by_caller.new.carrier n) (acts_on setup (answer_of (g.E.Engine.statements_of engine) (g.E.Engine.step_of engine)) w (met (loss_of done) c.args.event.now) n m) m)) (sym after)
-    (c.act_by_caller.ensures.refines setup w m engine p faithful (subst (λ (x : ClientSession). RepresentsConnection n setup.packet_size engine c.args.self.now (seated p x) old m) before played) promises few next)
+    rw c.in-OfCaller.is (subst (λ (x : ClientSession). IfOk c.act_by_caller.result (λ done. RefinesAct n setup.packet_size engine done c.act_by_caller.new.self (seated (placed_behind (caller_event c.in-OfCaller.step) x p) x) (g.C.EventCarrier.pipes c.act_by_caller.new.carrier n) (acts_on setup (answer_of (g.E.Engine.statements_of engine) (g.E.Engine.step_of engine)) w (met (loss_of done) (caller_event c.in-OfCaller.step)) n m) m)) (sym after)
+    (c.act_by_caller.ensures.refines setup w m engine p faithful (subst (λ (x : ClientSession). RepresentsConnection n setup.packet_size engine c.args.self.now (seated p x) old m) before played) promises (rw c.in-OfCaller.is at few) next))
+
+pub returns-in-Some-clause-failed : goal.returns-in-Some-clause-failed
+returns-in-Some-clause-failed g c = rw c.in-OfCaller.is c.act_by_caller.ensures.failed
+
+pub returns-in-Some-clause-loses : goal.returns-in-Some-clause-loses
+returns-in-Some-clause-loses g c = rw c.in-OfCaller.is c.act_by_caller.ensures.loses
+
+-- ---- Without its caller
+
+pub returns-in-OfLink-clause-failed : goal.returns-in-OfLink-clause-failed
+returns-in-OfLink-clause-failed g c = rw c.in-OfLink.is c.act_alone.ensures.failed
+
+pub returns-in-OfLink-clause-loses : goal.returns-in-OfLink-clause-loses
+returns-in-OfLink-clause-loses g c = rw c.in-OfLink.is c.act_alone.ensures.loses
+
+pub returns-in-OfLink-clause-reads : goal.returns-in-OfLink-clause-reads
+returns-in-OfLink-clause-reads g c = rw c.in-OfLink.is c.act_alone.ensures.reads
+
+pub returns-in-OfLink-clause-refines : goal.returns-in-OfLink-clause-refines
+returns-in-OfLink-clause-refines g c = λ setup w m engine p faithful played promises few next. rw c.in-OfLink.is (c.act_alone.ensures.refines setup w m engine p faithful played promises (rw c.in-OfLink.is at few))

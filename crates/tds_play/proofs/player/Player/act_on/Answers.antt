@@ -3,6 +3,7 @@ use Rattle.tds_pool.specs.Connections.{PoolState, connections, numbered}
 use Rattle.tds_session.specs.Answer.{answer_of}
 use Rattle.tds_world.specs.Losses.{met}
 use Rattle.tds_world.specs.World.{next_number}
+use Rattle.tds_play.specs.Stepping.{ends_event}
 use Rattle.tds_play.specs.Plays.{RefinesAct, acts_on, loss_of}
 use Rattle.tds_play.specs.Pooled.{ChangesOne, seat_in}
 use Rattle.tds_play.specs.Reads.{ReadsOn}
@@ -22,8 +23,7 @@ act-requires g c =
       tied = stands.tied;
       unasked = unasked_there old c.args.place c.index_mut.result.now (g.C.EventCarrier.began c.args.carrier.now) (g.C.EventCarrier.pipes c.args.carrier.now) c.requires.tied c.requires.told c.requires.sound stands.at;
       there = stands.there;
-      ends = c.requires.ends;
-      lent = λ asks lives. caller_carried old c.args.place c.index_mut.result.now c.args.event.now c.requires.held stands.at stands.number c.requires.found asks lives;
+      lent = λ asks lives. caller_carried old c.args.place c.index_mut.result.now c.args.step c.requires.held stands.at stands.number c.requires.found asks lives;
     }
 
 pub returns : goal.returns
@@ -42,7 +42,7 @@ returns g c =
     let leases : new.leases ≡ old.leases = ap (λ (p : Player g.row.E.Denot g.row.E-Stmt.Denot). p.leases) rest in
     let tickets : new.tickets ≡ old.tickets = ap (λ (p : Player g.row.E.Denot g.row.E-Stmt.Denot). p.tickets) rest in
     let links = ap (λ (p : Player g.row.E.Denot g.row.E-Stmt.Denot). p.links.items) rest in
-    touched_steps (λ x. answer_of (g.E.Engine.statements_of x) (g.E.Engine.step_of x)) c.args.event.now c.args.place old new h k (pipes c.args.carrier.now) (pipes c.act.new.carrier) _ _ done c.requires.tied stands.at said.number links
+    touched_steps (λ x. answer_of (g.E.Engine.statements_of x) (g.E.Engine.step_of x)) (ends_event c.args.step) c.args.place old new h k (pipes c.args.carrier.now) (pipes c.act.new.carrier) _ _ done c.requires.tied stands.at said.number links
     (λ m other. ap (λ (q : PoolState). numbered m (connections q)) pool ∙ said.pool.others m (λ is. other (is ∙ stands.number)))
     (acts_held c.args.place old new h k c.requires.held stands.at stands.number said.holder
     (subst (λ (q : PoolState). ChangesOne h.link.number k.link.is_cut old.pool q) (sym pool) said.pool)
@@ -56,7 +56,7 @@ returns g c =
     said.ties said.failed
     (λ cut. (ap pipes (said.gone cut).0, ap (λ (x : Held g.row.E.Denot g.row.E-Stmt.Denot). x.link) (said.gone cut).1, (said.gone cut).3))
     said.loses
-    (λ size reads. subst (λ (q : PoolState). ReadsOn size c.args.event.now done.outcome k.link (seat_in k q).client.columns (pipes c.args.carrier.now h.link.number) (pipes c.act.new.carrier h.link.number)) (sym pool) (said.reads size reads))
+    (λ size reads. subst (λ (q : PoolState). ReadsOn size (ends_event c.args.step) done.outcome k.link (seat_in k q).client.columns (pipes c.args.carrier.now h.link.number) (pipes c.act.new.carrier h.link.number)) (sym pool) (said.reads size reads))
     (record {
       engine_is = ap (λ (p : Player g.row.E.Denot g.row.E-Stmt.Denot). p.engine) rest;
       max_is = ap (λ (p : Player g.row.E.Denot g.row.E-Stmt.Denot). p.max) rest;
@@ -69,5 +69,5 @@ returns g c =
     let asked : length old.asked_on.items ≡ length w.asked_on = ap length is.asked in
     let count : c.len.result ≡ length w.asked_on = omega (arith, c.len.ensures, old.asked_on.ok.0, asked) in
     let next : c.next_number-number.result ≡ next_number w.asked_on = c.next_number-number.ensures.few (omega (arith, count, promised.small.asked)) ∙ ap suc count in
-    subst (λ (q : PoolState). RefinesAct h.link.number setup.packet_size engine done k.link (seat_in k q) (pipes c.act.new.carrier h.link.number) (acts_on setup (answer_of (g.E.Engine.statements_of engine) (g.E.Engine.step_of engine)) w (met (loss_of done) c.args.event.now) h.link.number m) m) (sym pool)
+    subst (λ (q : PoolState). RefinesAct h.link.number setup.packet_size engine done k.link (seat_in k q) (pipes c.act.new.carrier h.link.number) (acts_on setup (answer_of (g.E.Engine.statements_of engine) (g.E.Engine.step_of engine)) w (met (loss_of done) (ends_event c.args.step)) h.link.number m) m) (sym pool)
     (said.refines setup w m engine told played promise counts next))

@@ -1,4 +1,4 @@
-use Rattle.std.proofs.Common.{◌∙◌, List, [], ◌∷◌, ◌++◌, map, length, subst, sym, ap, arith, Vec, Global}
+use Rattle.std.proofs.Common.{◌∙◌, List, [], ◌∷◌, ◌++◌, map, length, subst, sym, ap, arith, refl, Vec, Global}
 use Rattle.tds_play.specs.Links.{newest_there}
 use Rattle.tds_play.specs.Player.{all_of}
 use Rattle.tds_play.proofs.pooled.Closing.{records_of}
@@ -12,7 +12,7 @@ use Rattle.tds_play.proofs.player.Player.into_requests.Goals.{in-Some+in_ok-push
 pub asked-init : goal.asked-init
 asked-init g c =
     let all = all_of c.args.self in
-    let stacks = records_of c.args.self c.end_all.new.self _ c.in_ok-records.ensures c.end_all.ensures.rest in
+    let stacks = records_of c.args.self c.args.self _ c.in_ok-records.ensures refl in
     record {
       given = told_at_first all _ c.new-reports.result.items stacks c.new-reports.ensures.items;
       told = λ setup engine pipes w p o.
@@ -23,7 +23,7 @@ asked-init g c =
 
 pub asked-preserved : goal.asked-preserved
 asked-preserved g c =
-    let all = c.deref-conn-items.ensures.value ∙ ap (λ p. p.asked_on.items) c.end_all.ensures.rest in
+    let all = c.deref-conn-items.ensures.value in
     let whole = c.deref_mut.ensures.value in
     let kept = written_back c.asked.records.len c.asked.records.items c.next_of.new.records (c.next_of.ensures.count ∙ ap length whole) c.asked.records.ok.0 in
     let turned = ap (map (λ (v : Vec Record Global). v.items)) kept in
@@ -49,7 +49,7 @@ asked-preserved g c =
 
 pub returns-clause-told : goal.returns-clause-told
 returns-clause-told g c = λ setup engine pipes w p o.
-    let asked = ap length c.deref-conn-items.ensures.value ∙ ap (λ q. length q.asked_on.items) c.end_all.ensures.rest in
+    let asked = ap length c.deref-conn-items.ensures.value in
     all_told w c.asked.conn-index c.args.self.asked_on.items _ c.asked.reports.items p.asked (omega (arith, c.asked-test.false, c.deref-conn-items.ensures.len, asked)) (c.asked.invariant.told setup engine pipes w p o)
 
 pub returns-clause-given : goal.returns-clause-given

@@ -3,9 +3,12 @@ use Rattle.tds_pool.specs.Calls.{lent_next}
 use Rattle.tds_pool.specs.Connections.{connections}
 use Rattle.tds_session.specs.Answer.{answer_of}
 use Rattle.tds_world.specs.declared.event.Event.TheVariants as event
+use Rattle.tds_world.specs.declared.outcome.Outcome.TheVariants.{Refused}
+use Rattle.tds_world.specs.declared.outcome.Refusal.{Refusal}
 use Rattle.tds_world.specs.declared.outcome.Refusal.TheVariants.{AllInUse}
 use Rattle.tds_play.specs.declared.player.Player.{Player}
 use Rattle.tds_play.specs.Pooled.{seated_from}
+use Rattle.tds_play.specs.Seen.{done_as}
 use Rattle.tds_play.proofs.pooled.Happening.{opens_happen, refuses_happen, steps_happen}
 use Rattle.tds_play.proofs.pooled.Leasing.{again_steps, again_there, refused_found, refused_held}
 use Rattle.tds_play.proofs.pooled.Opening.{LentAgain, lent_again_of, lent_new_of}
@@ -51,17 +54,17 @@ returns-in_ok-done-in-New g c =
 
 -- ---- None
 
-pub returns-in_default : goal.returns-in_default
-returns-in_default g c =
+pub returns-in_ok-lends_not-in-Err : goal.returns-in_ok-lends_not-in-Err
+returns-in_ok-lends_not-in-Err g c =
     let old = c.args.self.now in
     let pipes = g.C.EventCarrier.pipes c.args.carrier.now in
     refuses_happen (λ x. answer_of (g.E.Engine.statements_of x) (g.E.Engine.step_of x)) event.Lease AllInUse old (record old { pool = c.lease.new.self }) pipes _ c.refused.result
     c.requires.tied tt
-    (λ setup engine w is idle. refused_found setup engine w old pipes _ is c.requires.held c.requires.few idle (λ some. let bad = c.in-Err.ensures.takes_none some in absurd (cc)) c.in_default.not-Memory c.in-Err.ensures.refused)
+    (λ setup engine w is idle. refused_found setup engine w old pipes _ is c.requires.held c.requires.few idle (λ some. let bad = c.in-Err.ensures.takes_none some in absurd (cc)) c.in_ok-lends_not-in-Err.ensures.some c.in-Err.ensures.refused)
     (refused_held old (record old { pool = c.lease.new.self }) c.requires.held refl c.in-Err.ensures.err.0 c.in-Err.ensures.err.1 refl refl
     (record { engine_is = refl; max_is = refl; size_is = refl; told_is = refl }))
     (ap (seated_from 1 old.links.items) c.in-Err.ensures.err.0) refl
     (record { leases_are = refl; tickets_are = refl; asked_are = refl })
     (record { engine_is = refl; max_is = refl; size_is = refl; told_is = refl })
     (λ most few. record { links_few = omega (arith, few.links_few); leases_few = omega (arith, few.leases_few); tickets_few = omega (arith, few.tickets_few) })
-    c.refused.ensures
+    (c.refused.ensures ∙ ap (λ (why : Refusal). done_as (Refused why)) c.in_ok-lends_not-in-Err.ensures.value)

@@ -33,6 +33,6 @@ held_at_first {E} {S} player links leases tickets none last max size = record {
 
 pub returns-clause-pooled : goal.returns-clause-pooled
 returns-clause-pooled g c =
-    let pool = c.in-Some.ensures.value in
-    held_at_first (record { alloc = c.args.alloc; engine = c.args.engine; size = c.args.size; max = c.args.max; on_attention = c.args.on_attention; links = c.new-2.result; pool = c.in-Some.pool; leases = c.new-3.result; tickets = c.new-4.result; asked_on = c.new-5.result })
-    c.new-2.ensures.items c.new-3.ensures c.new-4.ensures pool.0 pool.3 pool.1 pool.2
+    let pool = c.requires.pool in
+    held_at_first (record { alloc = c.args.alloc; engine = c.args.engine; size = c.args.size; max = c.args.max; on_attention = c.args.on_attention; links = c.new.result; pool = c.args.pool; leases = c.new-2.result; tickets = c.new-3.result; asked_on = c.new-4.result })
+    c.new.ensures.items c.new-2.ensures c.new-3.ensures c.requires.none pool.2 pool.0 pool.1

@@ -4,19 +4,23 @@ use Rattle.tds_client.specs.Session.{ClientSession}
 use Rattle.tds_pool.specs.Connections.{PoolState, connections, numbered}
 use Rattle.tds_pool.specs.Calls.{is_broken}
 use Rattle.tds_pool.specs.Cleaning.{client_at}
+use Rattle.tds_session.specs.Answer.{Answers, answer_of}
 use Rattle.tds_session.specs.declared.attention.OnAttention.TheVariants.{Keep}
 use Rattle.tds_world.specs.Connection.{new_connection}
 use Rattle.tds_world.specs.declared.report.Place.{Place}
 use Rattle.tds_world.specs.declared.report.Place.TheVariants.{Leased}
+use Rattle.tds_play.specs.Stepping.{ends_event}
 use Rattle.tds_play.specs.declared.link.EventDone.{EventDone}
 use Rattle.tds_play.specs.Pipe.{Pipe}
 use Rattle.tds_play.specs.Failures.{calls_of}
-use Rattle.tds_play.specs.Plays.{MayLose, RepresentsConnection}
+use Rattle.tds_play.specs.Plays.{MayLose, RepresentsConnection, acts_on}
 use Rattle.tds_play.specs.Pooled.{ChangesOne, place_by, seat_by, seat_in}
 use Rattle.tds_play.specs.Reads.{IsReading}
 use Rattle.tds_play.specs.Seats.{Seat, behind_event, placed_behind, seated}
 use Rattle.tds_play.specs.declared.seat.Held.{Held}
+use Rattle.tds_play.proofs.Acting.{cut_alike}
 use Rattle.tds_play.proofs.Failing.{settled_as}
+use Rattle.tds_play.proofs.Losing.{whole_alike}
 use Rattle.tds_play.proofs.Tying.{faithful_before, ties_handed}
 use Rattle.tds_play.proofs.any_bytes.Brought.{gone_on}
 use Rattle.tds_play.proofs.any_bytes.Stays.{stays_numbered}
@@ -31,8 +35,19 @@ returns-then-self-clause-pool g c =
 
 pub returns-then-self-clause-reads : goal.returns-then-self-clause-reads
 returns-then-self-clause-reads g c = λ size reads.
-    gone_on size c.args.event.now c.on_cut.result.outcome (new_connection Keep (Leased 0)) c.args.self.now.link (seat_in c.args.self.now c.args.pool.now).client.columns (g.C.EventCarrier.pipes c.args.carrier.now c.args.self.now.link.number)
+    gone_on size (ends_event c.args.step) c.on_cut.result.outcome (new_connection Keep (Leased 0)) c.args.self.now.link (seat_in c.args.self.now c.args.pool.now).client.columns (g.C.EventCarrier.pipes c.args.carrier.now c.args.self.now.link.number)
     (ap (λ (d : EventDone). d.outcome) (c.on_cut.ensures.value (new_connection Keep (Leased 0)))) reads
+
+-- What was cut before does nothing, in the model as here.
+pub returns-then-self-clause-refines : goal.returns-then-self-clause-refines
+returns-then-self-clause-refines g c = λ setup w m engine faithful played gives few next.
+    let n : ℕ = c.args.self.now.link.number in
+    let size : ℕ = setup.packet_size in
+    let seat : Seat = seat_in c.args.self.now c.args.pool.now in
+    let old : Option Pipe = g.C.EventCarrier.pipes c.args.carrier.now n in
+    let answers : Answers = answer_of (g.E.Engine.statements_of engine) (g.E.Engine.step_of engine) in
+    whole_alike n size engine c.on_cut.result c.args.self.now.link seat old (λ e. acts_on setup answers w e n m) (ends_event c.args.step) m
+    (cut_alike n size engine c.args.self.now.link seat old setup answers w (ends_event c.args.step) m c.on_cut.result played c.if-self.true (c.on_cut.ensures.value m))
 
 -- What stands under its number once the client has done what the event does.
 pub settle-requires-clause-is_in : goal.settle-requires-clause-is_in
@@ -62,7 +77,7 @@ returns-clause-reads g c = λ size reads.
     let seat : numbered c.act.new.self.number (connections mid) ≡ Some (with s it.connection) =
     ap (λ (k : ℕ). numbered k (connections mid)) c.in_ok-done.ensures.number
     ∙ c.in_ok-done.ensures.client.here ∙ ap (option_map (with s)) it.there in
-    settled_reads size c.args.event.now c.in_ok-done.done.outcome c.act.new.self c.settle.new.self.link s.columns (seat_in c.settle.new.self c.settle.new.pool).client.columns old (g.C.EventCarrier.pipes c.act.new.carrier n) (g.C.EventCarrier.pipes c.settle.new.carrier n)
+    settled_reads size (ends_event c.args.step) c.in_ok-done.done.outcome c.act.new.self c.settle.new.self.link s.columns (seat_in c.settle.new.self c.settle.new.pool).client.columns old (g.C.EventCarrier.pipes c.act.new.carrier n) (g.C.EventCarrier.pipes c.settle.new.carrier n)
     (c.in_ok-done.ensures.reads size (subst (λ (k : Option ℕ). IsReading size c.args.self.now.link k old) columns reads))
     (stays_numbered c.act.new.self.number n c.act.new.self c.settle.new.self.link (g.C.EventCarrier.pipes c.act.new.carrier) (g.C.EventCarrier.pipes c.settle.new.carrier) c.in_ok-done.ensures.number c.in_ok-settle.ensures.still)
     (λ live. ap (λ (x : ClientSession). x.columns) (c.in_ok-settle.ensures.client live) ∙ ap (λ o. (seat_by h o).client.columns) seat)
@@ -91,11 +106,11 @@ returns-clause-refines g c = λ setup w m engine faithful played gives few next.
     let is : seat_in now mid ≡ seated p s = ap (seat_by h) found in
     record {
       outcome = acted.outcome;
-      played = settled_played n size engine now c.settle.new.self s (seated (placed_behind c.args.event.now s p) s) c.settle.new.pool (g.C.EventCarrier.pipes c.act.new.carrier n) (g.C.EventCarrier.pipes c.settle.new.carrier n) _ refl acted.played
+      played = settled_played n size engine now c.settle.new.self s (seated (placed_behind (ends_event c.args.step) s p) s) c.settle.new.pool (g.C.EventCarrier.pipes c.act.new.carrier n) (g.C.EventCarrier.pipes c.settle.new.carrier n) _ refl acted.played
           (λ cut. let z = c.in_ok-settle.ensures.cut cut in (z.0, ap (λ x. g.C.EventCarrier.pipes x n) z.1))
           (λ lives fine.
           let z = c.in_ok-settle.ensures.sound lives (ap (λ (x : Seat). is_broken x.client.stage) is ∙ fine) in
-          (z.0, ap (λ x. g.C.EventCarrier.pipes x n) z.1, z.2 ∙ ap (behind_event c.args.event.now) is));
+          (z.0, ap (λ x. g.C.EventCarrier.pipes x n) z.1, z.2 ∙ ap (behind_event (ends_event c.args.step)) is));
     }
 
 pub returns-clause-number : goal.returns-clause-number
@@ -117,7 +132,7 @@ returns-clause-ties g c =
 
 pub returns-clause-failed : goal.returns-clause-failed
 returns-clause-failed g c = λ fine.
-    settled_as c.args.self.now.link.number c.act.new.self.number (calls_of c.args.event.now) c.in_ok-done.done c.act.new.self c.settle.new.self.link
+    settled_as c.args.self.now.link.number c.act.new.self.number (calls_of (ends_event c.args.step)) c.in_ok-done.done c.act.new.self c.settle.new.self.link
     (g.C.EventCarrier.pipes c.act.new.carrier) (g.C.EventCarrier.pipes c.settle.new.carrier)
     c.in_ok-done.ensures.number (λ cut. ap (λ h. h.link.is_cut) (c.in_ok-settle.ensures.cut cut).0 ∙ cut) c.in_ok-settle.ensures.failed (c.in_ok-done.ensures.failed fine)
 
@@ -125,7 +140,7 @@ pub returns-clause-gone : goal.returns-clause-gone
 returns-clause-gone g c = λ cut. let bad : true ≡ false = sym cut ∙ c.if-self.false in absurd (cc)
 
 pub returns-clause-loses : goal.returns-clause-loses
-returns-clause-loses g c = λ lost. subst (λ (b : Bool). MayLose b c.args.event.now) (sym c.if-self.false) (c.in_ok-done.ensures.loses lost)
+returns-clause-loses g c = λ lost. subst (λ (b : Bool). MayLose b (ends_event c.args.step)) (sym c.if-self.false) (c.in_ok-done.ensures.loses lost)
 
 pub act-requires-clause-unasked : goal.act-requires-clause-unasked
 act-requires-clause-unasked g c = c.requires.unasked c.if-self.false
