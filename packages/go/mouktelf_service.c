@@ -6,7 +6,7 @@
  * printed from what came out. So besides what libmouktelf.a trusts (the checker, the kit's backend, the middle of
  * LLVM) it trusts the printer and the layer at its end (scripts/release_parts), and your C compiler. Never edit it.
  *
- * sources 099ddcadb0a488e00739f14054408ce10809d05958756e5272c0e6c70ddfe667 of tds_service_c
+ * sources 1fac03eb47fcf7a177abc3978db419d9433aab0c2816a294f00cc3417a8a91a4 of tds_service_c
  * module 09dbe97546f2aead67eb5cc8378521e4d4f12ccf28d28e3a3d946c06beb895e3: logic=proved functions=162 sum=dac8208d650f15bf
  * kit rattle-kit-13f logic dac8208d650f15bf
  *

@@ -2,7 +2,7 @@
 //
 // sources b463c7cd4e796544145e85997d7f784e1698b3bcf435cff0dbcf064959afd218 of tds_c
 // module 99b94a8f7ac086c462f8d528a51fdc08988a66ba76db9d51fe8f339bf431e574: logic=proved functions=162 sum=dac8208d650f15bf
-// sources 099ddcadb0a488e00739f14054408ce10809d05958756e5272c0e6c70ddfe667 of tds_service_c
+// sources 1fac03eb47fcf7a177abc3978db419d9433aab0c2816a294f00cc3417a8a91a4 of tds_service_c
 // module 09dbe97546f2aead67eb5cc8378521e4d4f12ccf28d28e3a3d946c06beb895e3: logic=proved functions=162 sum=dac8208d650f15bf
 // kit rattle-kit-13f logic dac8208d650f15bf
 
