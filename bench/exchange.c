@@ -1,5 +1,5 @@
-/* The exchanges of tests/crates/test_listen/src/exchanging.rs from C, by libtds_service_c.a and libtds_c.a: a lease, a request of one
- * packet, its answer of one, the return. Beside it stands plain_service.c, which does the same.
+/* The exchanges of tests/crates/test_listen/src/exchanging.rs from C, by libtds_c.a: a lease, a request of one packet,
+ * its answer of one, the return. Beside it stands plain_service.c, which does the same.
  *
  * usage: exchange TIMES      prints the bytes of all requests, and how many tokens were told
  */

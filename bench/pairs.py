@@ -94,7 +94,7 @@ def service(_room):
     times = lambda n: [str(100 * n)]
     what = "a lease, a request and an answer of a packet each, the return"
     yield Pair("a service", what, "test_listen", lambda n: ["exchange", *times(n)], "plain_service.c", times, "request", 100, 2)
-    yield Pair("a service from C, by `libtds_service_c.a` (`bench/exchange.c`)", what, "exchange", times, "plain_service.c", times,
+    yield Pair("a service from C, by `libtds_c.a` (`bench/exchange.c`)", what, "exchange", times, "plain_service.c", times,
                "request", 100, 2)
 
 

@@ -6,8 +6,8 @@
  * printed from what came out. So besides what libmouktelf.a trusts (the checker, the kit's backend, the middle of
  * LLVM) it trusts the printer and the layer at its end (scripts/release_parts), and your C compiler. Never edit it.
  *
- * sources eb21b2536edd74646d6f3f1cb7bb8bb08722adab8d3039e332b67edb8cc101b6 of tds_judge_c
- * module aaa66b0d3f515536c2b28e6b2a2560dcca08d16c847aaf859b982e33100d6831: logic=proved functions=11 sum=dac8208d650f15bf
+ * sources 2a255d113d60d2206f990d1b53239bc6695c122cb62e0045a6d92f179fbfaca1 of tds_judge_c
+ * module bce68c6dbb6fd588190c72f7663d7f7fa7b75c33abe587319f01b016873c65f1: logic=proved functions=11 sum=dac8208d650f15bf
  * kit rattle-kit-13f logic dac8208d650f15bf
  *
  * It wants malloc, realloc and free besides memcpy and the like. There is no state here: two calls on different values may run at the same time. */

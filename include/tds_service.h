@@ -1,5 +1,5 @@
 /* A table of connections that callers share, in front of any server: who holds each one, and what
- * becomes of it. C99 and C++. It is libtds_service_c.a, a library of its own; the clients in it are
+ * becomes of it. C99 and C++. The clients in it are
  * those of tds.h. What a caller owes is said there, and beside it:
  *  - `seats` is the same array at every call, with room for `most` connections, all of it written once
  *    (`= {0}`). A table goes with its array: neither is used with another, nor is an old copy of either.

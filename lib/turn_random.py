@@ -25,9 +25,9 @@ class Deeds:
 
     async def one(self):
         self.name = self.rng.choice("abc")
-        deed = self.rng.choices(list(self.often), list(self.often.values()))[0]
-        await getattr(self, deed)()
-        return deed
+        action = self.rng.choices(list(self.often), list(self.often.values()))[0]
+        await getattr(self, action)()
+        return action
 
     async def pause(self):
         await asyncio.sleep(self.rng.random() * 2 * self.think)
@@ -183,19 +183,19 @@ class Random:
         it = Application(self.port, self.vices, place % 4 != 3)
         await it.connect()
         self.seen["sessions"] += 1
-        deeds = Deeds(it, rng, 0.005)
+        actions = Deeds(it, rng, 0.005)
         await it.ask(EVERYTHING)
         process = it.process
         try:
             for _ in range(rng.randrange(1, 14)):
-                await deeds.pause()
-                deed = await deeds.one()
-                self.seen["cancelled"] += deed == "cancelled"
+                await actions.pause()
+                action = await actions.one()
+                self.seen["cancelled"] += action == "cancelled"
                 # By another connection than the one before: somebody had that meanwhile.
                 self.seen["moved"] += it.process != process
                 process = it.process
             if rng.random() < 0.3:
-                return await deeds.ends()
+                return await actions.ends()
         finally:
             self.seen["requests"] += len(it.trace)
         return await it.leave()

@@ -49,7 +49,7 @@ def cases_of(path):
 
 
 class Peer:
-    """A client that is let in, and asks for session recovery."""
+    """A client that is authenticated, and asks for session recovery."""
 
     def __init__(self, port, features=RECOVERY):
         self.link, self.descriptor = connect(port), 0

@@ -17,7 +17,7 @@ import time
 import zipfile
 
 HERE = os.path.dirname(os.path.abspath(__file__))
-C_FILES = ("mouktelf", "mouktelf_service", "mouktelf_judge")
+C_FILES = ("mouktelf", "mouktelf_judge")
 FLAGS = ("-std=c11", "-O2", "-fPIC", "-shared")
 
 

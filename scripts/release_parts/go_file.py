@@ -20,16 +20,13 @@ WORDS_OF_A_CONSTANT = ("private", "internal", "unnamed_addr", "local_unnamed_add
 
 
 class GoPrinter(Printer):
-    """The printer of a module. Behind others it shares their memory, types and helpers, and its functions have another `prefix`."""
+    """The printer of a module."""
 
-    def __init__(self, text, prefix="of", behind=None):
+    def __init__(self, text):
         super().__init__(text)
-        self.places, self.image, self.prefix = {}, bytearray(FIRST_PLACE), prefix
+        self.places, self.image = {}, bytearray(FIRST_PLACE)
         # What a function's rooms take of the stack, and which functions it calls: of the one that is printed, and of all by name.
         self.frame, self.called, self.frames = 0, set(), {}
-        if behind:
-            self.image, self.structs, self.struct_texts = behind.image, behind.structs, behind.struct_texts
-            self.copiers, self.copier_order, self.own_helpers = behind.copiers, behind.copier_order, behind.own_helpers
 
     # Types and numbers
 
@@ -145,7 +142,7 @@ class GoPrinter(Printer):
     # Values
 
     def name_of(self, word):
-        return f"{self.prefix}_{super().name_of(word)}"
+        return f"of_{super().name_of(word)}"
 
     def value(self, reader, kind):
         word = reader.peek()
@@ -281,11 +278,10 @@ class GoPrinter(Printer):
             raise Refused(f"{word}: {line}")
         INSTRUCTIONS[word](self, reader, result, word)
 
-    def whole(self, package, imports, others=()):
-        """The file of this printer's module, and of those of others that are behind it."""
-        printers = (self, *others)
-        bodies = [printer.function(it) for printer in printers for it in printer.module.reached()[0]]
-        stack = max(printer.deepest(it) for printer in printers for it in printer.frames)
+    def whole(self, package, imports):
+        """The file of this printer's module."""
+        bodies = [self.function(it) for it in self.module.reached()[0]]
+        stack = max(map(self.deepest, self.frames))
         copiers = [self.copiers[key] for key in self.copier_order]
         image = "".join(f"\\x{it:02x}" for it in self.image)
         wanted = "\n".join(f'\t"{it}"' for it in sorted({"bytes", "encoding/binary", "math/bits", "runtime", "unsafe", *imports}))

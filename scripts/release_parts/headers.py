@@ -27,14 +27,13 @@ CRATES = {
     "mouktelf_version": "tds_c",
     "tds": "tds_c",
     "tds_wire": "tds_c",
-    "tds_service": "tds_service_c",
+    "tds_service": "tds_c",
     "tds_judge": "tds_judge_c",
     "tds_play": "tds_play_c",
 }
 # The C file that is printed of each.
 FILES = {
     "tds_c": "mouktelf.c",
-    "tds_service_c": "mouktelf_service.c",
     "tds_judge_c": "mouktelf_judge.c",
     "tds_play_c": "mouktelf_play.c",
 }
@@ -67,7 +66,7 @@ LAST = """
 #endif
 """
 # Where a header tells of its library: what is installed is one.
-OWN_LIBRARY = re.compile(r"It is lib\w+\.a, a library of its(?: |\n \* )own(?: beside(?: |\n \* )lib\w+\.a)?(?:\.|; (\w))(?: |\n \* )?")
+OWN_LIBRARY = re.compile(r"It is lib\w+\.a, a library of its(?: |\n \* )own(?: beside(?: |\n \* )lib\w+\.a)?\.(?: |\n \* )?")
 # What each header has of its own around what it declares.
 FRAME = re.compile(
     r"#ifndef \w+_H\n#define \w+_H\n|#include [<\"][\w.]+[>\"]\n|#ifdef __cplusplus\n(?:extern \"C\" \{|\})\n#endif\n|#endif\s*\Z", re.M
@@ -94,7 +93,7 @@ def version():
 
 def body_of(name):
     """What a header declares and says, without its frame."""
-    text = OWN_LIBRARY.sub(lambda found: (found[1] or "").upper(), FRAME.sub("", text_of(name)))
+    text = OWN_LIBRARY.sub("", FRAME.sub("", text_of(name)))
     return re.sub(r"\n{3,}", "\n\n", text).strip() + "\n"
 
 

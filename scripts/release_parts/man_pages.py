@@ -13,7 +13,7 @@ PROGRAMS = {
     "tdsplay": "plays schedules of pooled TDS sessions",
     "tdsview": "shows the play of a schedule as a picture, as bytes and in words",
     "tdsserve": "a server for TDS drivers to be tried on",
-    "tdsask": "a TDS client by words",
+    "tdsask": "a TDS client by arguments",
     "tdsrelay": "lets many applications share few connections to a TDS server",
     "tdswatch": "says what the connections of a capture did wrong",
 }

@@ -152,8 +152,6 @@ static void of_walks(void) {
     MISFIT(tds_client_hear(&client, &walk, &memory, bytes, 8, 0, &taken, &found, 1, NULL));
 }
 
-/* What another file or library has than the client and the walk: the table, and with all judge and player. */
-#if defined WITH_TABLE || defined WITH_ALL
 static void of_services(void) {
     struct tds_service service = {0, 0, 0, 512};
     struct tds_seat seat = {{0}, 0, 0, 0, 0};
@@ -205,8 +203,8 @@ static void of_services(void) {
     is("no such lease", tds_service_find(&service, &seat, 1, 1, &n), TDS_SERVICE_UNKNOWN);
     is("no room for any", tds_service_lease(&service, NULL, 0, &lent), TDS_SERVICE_ALL_IN_USE);
 }
-#endif
 
+/* What another file or library has. */
 #ifdef WITH_ALL
 static void of_judge_and_player(void) {
     struct tds_judge_limits limits = {0, 16, 0, 0};
@@ -233,10 +231,8 @@ int main(void) {
     of_streams();
     of_tokens();
     of_walks();
-#if defined WITH_TABLE || defined WITH_ALL
     of_services();
     n = 77;
-#endif
 #ifdef WITH_ALL
     of_judge_and_player();
 #endif

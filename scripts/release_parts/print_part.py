@@ -24,8 +24,7 @@ FIRST = """/* Mouktelf {version}: {what}.
 
 # What each crate's file has.
 PARTS = {
-    "tds_c": "a client of one connection, and a walk over any answer",
-    "tds_service_c": "a table of connections that callers share",
+    "tds_c": "a client of one connection, a walk over any answer, and a table of connections that callers share",
     "tds_judge_c": "the judge of recorded connections",
     "tds_play_c": "the player of schedules",
 }

@@ -1,4 +1,4 @@
-"""Scenes of tests/relay: whose login is equal, and who is judged by the server itself.
+"""Scenes of tests/relay: whose login is equal, and who is authenticated by the server itself.
 
 The places of LOGIN7's fields are written from MS-TDS 2.2.6.4.
 """
@@ -37,31 +37,31 @@ def saying(byte=None, **texts):
 
 
 def equals(program, cases, server):
-    """Only whose login is equal in all that makes a session is let in without the server."""
+    """Only whose login is equal in all that makes a session is authenticated without the server."""
     with Before(server) as before, Relay(program, before, 1) as relay:
 
-        def judged(login):
+        def authenticated(login):
             """Whether the server was asked about this login, and by it."""
             count = len(before.logins)
             with connect(relay.port) as link:
                 link.sendall(packet(0x10, login))
                 if 0xAD not in message(link):
-                    return "not let in"
+                    return "not authenticated"
             return [] if len(before.logins) == count else before.logins[count:]
 
         usual = saying()
-        cases.check("the first one is judged, by its own login", judged(usual) == [usual])
-        cases.check("an equal one isn't", judged(usual) == [])
+        cases.check("the first one is authenticated, by its own login", authenticated(usual) == [usual])
+        cases.check("an equal one isn't", authenticated(usual) == [])
         for name in ("password", *(it for it in PLACES if it not in ("password", "host"))):
             other = saying(**{name: USUAL[name] + "2"})
-            cases.check(f"another {name} is judged", judged(other) == [other])
+            cases.check(f"another {name} is authenticated", authenticated(other) == [other])
             other = saying(**{name: USUAL[name].upper()})
-            cases.check(f"the same length of another {name} is", judged(other) == [other])
+            cases.check(f"the same length of another {name} is", authenticated(other) == [other])
         for name, byte in SESSION.items():
             other = saying(byte)
-            cases.check(f"another {name} is judged", judged(other) == [other])
+            cases.check(f"another {name} is authenticated", authenticated(other) == [other])
         other = saying(user="sap", password="ass")
-        cases.check("two texts that are equal joined", judged(other) == [other])
+        cases.check("two texts that are equal joined", authenticated(other) == [other])
         for name, byte in OWN.items():
-            cases.check(f"another {name} isn't judged", judged(saying(byte)) == [])
-        cases.check("nor another host", judged(saying(host="there")) == [])
+            cases.check(f"another {name} isn't authenticated", authenticated(saying(byte)) == [])
+        cases.check("nor another host", authenticated(saying(host="there")) == [])

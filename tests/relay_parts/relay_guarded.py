@@ -15,7 +15,7 @@ import time
 from peers import PATIENCE, batch, connect, login, message, packet
 from relay_operator import all_of, until
 from relay_servers import Before
-from relay_told import Relay, bare, error_in, error_of, error_packet, let_in, login_of, rows
+from relay_told import Relay, bare, error_in, error_of, error_packet, log_in, login_of, rows
 
 TOO_MANY, LOST = 50106, 50109
 # What a browser says of a page that it has loaded from elsewhere, and what an order wants.
@@ -25,7 +25,7 @@ ORIGIN, SITE, MEANT = "Origin: http://evil.example", "Sec-Fetch-Site: cross-site
 def orders_of_pages(program, cases, server):
     """No page of a browser can give an order, or read what the relay tells under a name of its owner's."""
     with Relay(program, server) as relay:
-        one = let_in(relay)
+        one = log_in(relay)
         cases.check("a row before a page's orders", rows(one, 1))
         here = f"Host: 127.0.0.1:{relay.stats}"
         for what, fields in (("no field of the relay's own", [here]), ("an Origin", [here, MEANT, ORIGIN]),
@@ -70,7 +70,7 @@ def unix_place(program, cases, server, room):
 def unread(program, cases, server):
     """Nobody reads the log: the relay goes on, and says then how many lines it has left out."""
     with Relay(program, server, "--log") as relay:
-        one = let_in(relay)
+        one = log_in(relay)
         for _ in range(4000):
             connect(relay.port).close()
         one.settimeout(120)
@@ -95,7 +95,7 @@ def unread(program, cases, server):
 def unlet(program, cases, server):
     """A first login that the server refuses: who it was, and why, and it is counted."""
     with Before(server, (), error_packet(18456, "no")[8:]) as before, Relay(program, before.port, "--log") as relay:
-        link = let_in(relay, "web-1", "billing", "anna", "sales")
+        link = log_in(relay, "web-1", "billing", "anna", "sales")
         port = link.getsockname()[1]
         cases.same("a login that the server refuses is counted", relay.json()["total_applications_refused"], 1)
         lines = [it.partition(" ")[2] for it in relay.end()[1].decode().splitlines()]
@@ -167,7 +167,7 @@ def vanished(program, cases, server):
                 cases.same(f"who {what} is there", far.stdout.readline(), b"there\n")
                 time.sleep(0.5)
                 vanish()
-                two, begun = let_in(relay), time.monotonic()
+                two, begun = log_in(relay), time.monotonic()
                 two.settimeout(PATIENCE)
                 cases.check(f"who {what} vanishes: the connection is another one's", rows(two, 2))
                 took = time.monotonic() - begun
@@ -183,7 +183,7 @@ def server_vanished(program, cases, serve):
         with subprocess.Popen([*inside, serve, f"{FAR}:1433", "--let-others-in"], stderr=subprocess.PIPE) as far, killed(far):
             far.stderr.readline()
             with Relay(program, 1433, "--unacknowledged", "3", "--check", "0", at=FAR) as relay:
-                one = let_in(relay)
+                one = log_in(relay)
                 cases.check("a row of a far server", rows(one, 1))
                 vanish()
                 begun = time.monotonic()
@@ -208,11 +208,11 @@ def crowded(program, cases, server):
             with contextlib.suppress(OSError):
                 link.sendall(login())
                 told.append(error_in(message(link)))
-        let_in_count = told.count(None)
-        cases.check("as many are let in as there is room for", let_in_count >= 30, told)
+        authenticated_count = told.count(None)
+        cases.check("as many are authenticated as there is room for", authenticated_count >= 30, told)
         cases.check("further ones are told so, as far as there is room for that", TOO_MANY in told
                     and set(told) == {None, TOO_MANY}, told)
-        cases.check("those within go on", all(rows(link, 1) and not link.close() for link in links[:let_in_count]))
+        cases.check("those within go on", all(rows(link, 1) and not link.close() for link in links[:authenticated_count]))
         cases.same("it tells what it does", relay.ask("/metrics")[0], 200)
         for link in links:
             link.close()
@@ -224,11 +224,11 @@ def crowded(program, cases, server):
 def within(program, cases, server):
     """A limit of seconds runs out within one second of it."""
     with Relay(program, server, "--most", "1", "--wait", "2") as relay:
-        one, took = let_in(relay), []
+        one, took = log_in(relay), []
         cases.check("a row before a limit", rows(one, 1))
         # A busy machine may keep this script waiting itself: once it doesn't.
         while not took or min(took) >= 3 and len(took) < 12:
-            two, begun = let_in(relay), time.monotonic()
+            two, begun = log_in(relay), time.monotonic()
             two.sendall(batch("rows 2 1"))
             two.settimeout(PATIENCE)
             two.recv(65536)
@@ -237,12 +237,12 @@ def within(program, cases, server):
 
 
 def kinds(program, cases, server):
-    """More kinds of logins than there may be: those go that nobody uses. What is judged of one address has a limit."""
+    """More kinds of logins than there may be: those go that nobody uses. What is authenticated of one address has a limit."""
     with Relay(program, server) as relay:
         for number in range(260):
-            let_in(relay, program=f"p{number}").close()
+            log_in(relay, program=f"p{number}").close()
         found = relay.json()
-        cases.same("one more kind than there may be is let in", found["total_applications_let_in"], 260)
+        cases.same("one more kind than there may be is authenticated", found["total_applications_authenticated"], 260)
         cases.check("in the place of one that nobody uses", found["groups_shared"] <= 256, found["groups_shared"])
     with socket.create_server(("127.0.0.1", 0)) as silent, Relay(program, silent.getsockname()[1], "--login", "60") as relay:
         links = []
@@ -250,8 +250,8 @@ def kinds(program, cases, server):
             links.append(connect(relay.port))
             links[-1].sendall(login_of(user=f"user{number}"))
         links[-1].settimeout(PATIENCE)
-        cases.same("what is judged of one address has a limit", all_of(links[-1]), error_packet(
-            50100, "The relay has as many logins of this address judged as it does at a time, 32."))
+        cases.same("what is authenticated of one address has a limit", all_of(links[-1]), error_packet(
+            50100, "The relay has as many logins of this address authenticated as it does at a time, 32."))
         other = socket.create_connection(("127.0.0.1", relay.port), PATIENCE, ("127.0.0.2", 0))
         other.sendall(login_of(user="other"))
         end = time.monotonic() + PATIENCE
@@ -276,7 +276,7 @@ def outage(program, cases, serve):
     with socket.create_server(("127.0.0.1", 0)) as it:
         port = it.getsockname()[1]
     with served(serve, port) as first, Relay(program, port, "--most", "2", "--wait", "120", "--login", "2") as relay:
-        one, two = let_in(relay), let_in(relay)
+        one, two = log_in(relay), log_in(relay)
         cases.check("a row before an outage", rows(one, 1))
         first.kill()
         first.wait()
@@ -308,7 +308,7 @@ def restarted(program, cases, serve):
     with socket.create_server(("127.0.0.1", 0)) as it:
         port = it.getsockname()[1]
     with served(serve, port) as first, Relay(program, port, "--most", "16", "--wait", "300") as relay:
-        links = [let_in(relay) for _ in range(200)]
+        links = [log_in(relay) for _ in range(200)]
         for it in links:
             it.settimeout(300)
         asking, holding, waiting, quiet = links[:6], links[6:16], links[16:100], links[100:]
@@ -348,13 +348,13 @@ def has_row(link, number):
 def total(program, cases, server):
     """The connections of all logins together: what nobody holds gives way to who needs one."""
     with Relay(program, server, "--total", "2") as relay:
-        a, b = let_in(relay, program="a"), let_in(relay, program="b")
+        a, b = log_in(relay, program="a"), log_in(relay, program="b")
         cases.check("two kinds have one each", rows(a, 1) and rows(b, 2))
         c = connect(relay.port)
         c.sendall(login_of(program="c"))
         cases.same("a third one finds none", all_of(c), error_packet(
             50100, "The relay has as many connections as it may, and all are held (--total)."))
-        other = let_in(relay, program="b")
+        other = log_in(relay, program="b")
         other.sendall(batch("rows 3 1"))
         time.sleep(1)
         cases.same("who needs another one waits", until(relay, lambda it: it["applications_waiting"] == 1)["applications_waiting"], 1)
@@ -362,7 +362,7 @@ def total(program, cases, server):
         cases.check("and is lent one where one is free", struct.pack("<Bi", 0xD1, 3) in message(other))
         other.close()
         until(relay, lambda it: it["connections_free"] >= 1)
-        cases.check("and so is another kind", rows(let_in(relay, program="c"), 4))
+        cases.check("and so is another kind", rows(log_in(relay, program="c"), 4))
 
 
 def notices(program, cases, server):
@@ -373,7 +373,7 @@ def notices(program, cases, server):
     # Behind a packet's header and the count of ALL_HEADERS, up to the header's type.
     for what, headers, known in (("first", notice + transaction, 18), ("second", transaction + notice, 36)):
         with Relay(program, server) as relay:
-            one, two, other = let_in(relay), let_in(relay), let_in(relay)
+            one, two, other = log_in(relay), log_in(relay), log_in(relay)
             whole = packet(1, struct.pack("<I", 4 + len(headers)) + headers + text)
             cases.check(f"rows before a notification, {what}", rows(one, 1) and rows(other, 1))
             one.sendall(whole)

@@ -46,7 +46,7 @@ def alone(program, cases, server):
             for number in range(2):
                 link = connect(relay.port)
                 link.sendall(named(**places))
-                cases.check(f"a login that isn't shared is let in: {what} {number}", 0xAD in message(link))
+                cases.check(f"a login that isn't shared is authenticated: {what} {number}", 0xAD in message(link))
                 links.append(link)
         cases.check("each has a connection of its own", comes_to(server, before + len(links)))
         for number, link in enumerate(links):
@@ -85,7 +85,7 @@ def legs(program, cases, server):
         told = message(link)
         cases.check("the second one", told == two[1], told[:20])
         link.sendall(packet(0x11, b"last"))
-        cases.check("it is let in behind its legs", 0xAD in message(link))
+        cases.check("it is authenticated behind its legs", 0xAD in message(link))
         cases.check("the legs came whole", before.legs == [(0x11, answer), (0x11, b"last")], before.legs)
         link.sendall(batch("rows 7 1"))
         cases.check("and gets its rows", tokens(message(link))[0] == [7])
@@ -116,7 +116,7 @@ def legs(program, cases, server):
         link.sendall(with_features((1, b""), (2, b"\x03\x01"), (10, b"\x01")))
         cases.check("a federated login's leg", message(link) == federated(b"where"))
         link.sendall(packet(8, b"token"))
-        cases.check("it is let in behind its token", 0xAD in message(link))
+        cases.check("it is authenticated behind its token", 0xAD in message(link))
         cases.check("the token came", before.legs == [(8, b"token")], before.legs)
         cases.check("no other feature is asked for",
                     before.logins[0] == with_features((2, b"\x03\x01"))[8:], before.logins[0].hex())

@@ -13,7 +13,7 @@ import time
 from peers import PATIENCE, connect, message
 from relay_operator import all_of, until
 from relay_servers import Before, routing
-from relay_told import Relay, error_in, let_in, login_of, rows
+from relay_told import Relay, error_in, log_in, login_of, rows
 
 UNKNOWN = "The relay knows no address of its server's name."
 
@@ -62,7 +62,7 @@ class Names:
 
 
 def first_error(relay, **who):
-    """The error of a login, None where it is let in."""
+    """The error of a login, None where it is authenticated."""
     with connect(relay.port) as link:
         link.sendall(login_of(**who))
         return error_in(message(link))
@@ -78,7 +78,7 @@ def named(program, cases, server, room):
 def addresses(program, cases, server, room):
     """A server is named: its addresses are tried in order, and asked anew behind their time to live."""
     with Names(room, sql="600 127.0.0.9 127.0.0.1") as names, Relay(program, server, *names.words, "--log", at="sql") as relay:
-        one = let_in(relay)
+        one = log_in(relay)
         cases.check("a row of a server that is named", rows(one, 1))
         found = relay.json()
         cases.same("the first address was tried, and the next one", (found["total_servers_failed"], found["total_connections_opened"]), (1, 1))
@@ -93,7 +93,7 @@ def addresses(program, cases, server, room):
         end = time.monotonic() + PATIENCE
         while first_error(relay) and time.monotonic() < end:
             time.sleep(0.2)
-        cases.check("it is asked again behind its time to live", time.monotonic() < end and rows(let_in(relay), 1), names.asked)
+        cases.check("it is asked again behind its time to live", time.monotonic() < end and rows(log_in(relay), 1), names.asked)
         # From now on nothing is answered: what is known stays, and nobody waits.
         del names.found["sql"]
         time.sleep(2)
@@ -144,11 +144,11 @@ def sent_on(program, cases, server, room):
             begun = time.monotonic()
             relay.json()
             cases.check("nobody waits for the name", time.monotonic() - begun < 8)
-            cases.same("the login isn't answered yet", relay.json()["total_applications_let_in"], 0)
+            cases.same("the login isn't answered yet", relay.json()["total_applications_authenticated"], 0)
             names.found["other"] = "600 127.0.0.1"
             with connect(relay.port) as second:
                 second.sendall(login_of(program="another"))
-                cases.same("one that asks the same name is let in", error_in(message(second)), None)
+                cases.same("one that asks the same name is authenticated", error_in(message(second)), None)
             cases.same("and so is the first one", error_in(message(link)), None)
             cases.check("it has a row", rows(link, 7))
             link.close()

@@ -12,7 +12,7 @@ import time
 
 from peers import ATTENTION, PATIENCE, batch, connect, login, message, packet
 from relay_servers import Before
-from relay_told import Relay, error_packet, let_in, rows
+from relay_told import Relay, error_packet, log_in, rows
 
 NOT_OPENED, REFUSED = 50105, 50100
 # What a server at an address did, as the relay says it.
@@ -62,7 +62,7 @@ def lines_of(relay):
 def holders(program, cases, server):
     """Who holds which connection, who waits, and for how long at most."""
     with Relay(program, server, "--most", "1", "--hold", "500", "--transaction", "400") as relay:
-        one, two, three = let_in(relay, "web-1", "billing", "anna"), let_in(relay, "", "billing", "anna"), let_in(relay)
+        one, two, three = log_in(relay, "web-1", "billing", "anna"), log_in(relay, "", "billing", "anna"), log_in(relay)
         one.sendall(batch("begin"))
         message(one)
         two.sendall(batch("rows 3 1"))
@@ -75,7 +75,7 @@ def holders(program, cases, server):
         cases.same("the limit of who leaves a transaction open", (first["at"], first["limit"]),
                    ("is quiet with a transaction open", 400))
         group = next(it for it in found["groups"] if it["user"] == "anna")
-        cases.same("the group, and its line", (group["shared"], group["most"], group["line"]),
+        cases.same("the group, and its wait queue", (group["shared"], group["most"], group["waiting"]),
                    (True, 1, [second["number"]]))
         lines = lines_of(relay)
         cases.check("the page says so", [it for it in lines if not it.startswith("  connection")][:4] == [
@@ -84,7 +84,7 @@ def holders(program, cases, server):
             f", N s of 400 s (web-1, billing, from 127.0.0.1:{port_of(one)})",
             f"  application {second['number']} waits for a connection to be free, N s of 120 s"
             f" (billing, from 127.0.0.1:{port_of(two)})",
-            f"  the line: {second['number']}"], lines)
+            f"  the wait queue: {second['number']}"], lines)
         of_it = (rf"  connection {held['number']} is held by application {first['number']}, N s "
                  r"\(SPID (5[1-9]|[6-9]\d|\d{3,}), server 0\)")
         cases.check("of the connection, too, and its session's number", any(re.fullmatch(of_it, it) for it in lines), lines)
@@ -102,7 +102,7 @@ def holders(program, cases, server):
 def acknowledgements(program, cases, server):
     """What waits for an acknowledgement of the server says so."""
     with Before(server) as before, Relay(program, before.port, "--most", "3", "--cancel", "60") as relay:
-        one, two, three = let_in(relay), let_in(relay), let_in(relay)
+        one, two, three = log_in(relay), log_in(relay), log_in(relay)
         for number, link in enumerate((one, two, three)):
             cases.check(f"a row before it {number}", rows(link, number))
         three.sendall(batch("begin"))
@@ -133,7 +133,7 @@ def acknowledgements(program, cases, server):
 def pauses(program, cases, server):
     """Since when a group is paused, who waits for that, and that who asked first is lent a connection first."""
     with Relay(program, server, "--most", "1") as relay:
-        holder, *others = [let_in(relay) for _ in range(5)]
+        holder, *others = [log_in(relay) for _ in range(5)]
         cases.check("a row before a pause", rows(holder, 1))
         group = relay.json()["groups"][0]["group"]
         relay.ask(f"/pause/{group}", "POST")
@@ -150,16 +150,16 @@ def pauses(program, cases, server):
             f"group {group}, shared, paused for N s, no user, at most 1 connections",
             "  who holds a connection may go on asking, who holds none isn't read"])
         cases.check("who holds a connection does", rows(holder, 5))
-        quiet = let_in(relay)
+        quiet = log_in(relay)
         found = relay.json()
         cases.same("who has asked nothing waits for nothing", (socket_of(found, quiet)["at"], found["applications_quiet"]),
                    ("is quiet", 1))
         relay.ask(f"/pause/{group}", "POST")
         cases.check("another pause doesn't begin anew", relay.json()["groups"][0]["paused_seconds"] >= 2)
         relay.ask(f"/resume/{group}", "POST")
-        found = until(relay, lambda it: len(it["groups"][0]["line"]) == 4)
-        line = [socket_of(found, others[place])["number"] for place in (2, 0, 3, 1)]
-        cases.same("who asked first stands first", found["groups"][0]["line"], line)
+        found = until(relay, lambda it: len(it["groups"][0]["waiting"]) == 4)
+        waiting = [socket_of(found, others[place])["number"] for place in (2, 0, 3, 1)]
+        cases.same("who asked first stands first", found["groups"][0]["waiting"], waiting)
         cases.check("it is paused no more", "paused_seconds" not in found["groups"][0], found["groups"])
         holder.close()
         for place in (2, 0, 3, 1):
@@ -171,7 +171,7 @@ def not_opened(program, cases, server):
     """Who waits for a connection that can't be opened is told an error: the server is gone, is silent, or refuses."""
     for what in ("gone", "silent", "refuses"):
         with Before(server) as before, Relay(program, before.port, "--login", "2", "--wait", "8", "--log") as relay:
-            one, two = let_in(relay), let_in(relay)
+            one, two = log_in(relay), log_in(relay)
             # The first connection is cleaned first of all, and lent then.
             number = socket_of(until(relay, lambda it: it["connections_free"] == 1), two)["number"]
             cases.check(f"a row before the server {what}", rows(one, 1))
@@ -232,7 +232,7 @@ def silent(program, cases):
 def log(program, cases, server):
     """Each line of the log, in order: of those who ask over HTTP there is none."""
     with Relay(program, server, "--log") as relay:
-        one = let_in(relay, "web-1", "billing", "anna", "sales")
+        one = log_in(relay, "web-1", "billing", "anna", "sales")
         until(relay, lambda it: it["connections_free"] == 1)
         cases.check("a row for the log", rows(one, 1))
         port = port_of(one)
@@ -245,6 +245,6 @@ def log(program, cases, server):
         whose = f"(user anna, database sales, from 127.0.0.1:{port})"
         cases.same("the log", [it.partition(" ")[2] for it in lines[:-1]] + lines[-1:], [
             f"socket 1 has come (from 127.0.0.1:{port})", f"connection 2 is dialed at 127.0.0.1:{server}",
-            "connection 2 is opened", f"application 1 is let in, group 0 {whose}",
+            "connection 2 is opened", f"application 1 is authenticated, group 0 {whose}",
             f"socket 1 has ended: the other end has closed the connection {whose}",
             "the relay is to end, since its standard input has ended", "ended: applications 0"])

@@ -13,7 +13,7 @@ import time
 from peers import ATTENTION, batch, message
 from relay_operator import all_of, until
 from relay_servers import Before, until_some
-from relay_told import Relay, closes, error_packet, let_in, rows
+from relay_told import Relay, closes, error_packet, log_in, rows
 
 LATE_HOLD, LATE_TRANSACTION, LOST = 50102, 50104, 50109
 
@@ -36,7 +36,7 @@ def asks_late(link, pieces=1):
 def unasked(program, cases, server):
     """Nothing is told where nothing is asked: an error answers the next request, behind its end."""
     with Relay(program, server.port, "--hold", "1") as relay:
-        one, two = let_in(relay), let_in(relay)
+        one, two = log_in(relay), log_in(relay)
         cases.check("rows before a hold", rows(one, 1) and rows(two, 2))
         found = until(relay, lambda it: it["total_limits_hold"] == 2)
         cases.same("both hold too long", found["total_limits_hold"], 2)
@@ -49,7 +49,7 @@ def unasked(program, cases, server):
         cases.same("the next request is answered", asks_late(one), wanted)
         cases.same("in pieces behind its end", asks_late(two, 3), wanted)
     with Relay(program, server.port, "--transaction", "1") as relay:
-        one = let_in(relay)
+        one = log_in(relay)
         one.sendall(batch("begin"))
         message(one)
         until(relay, lambda it: it["total_limits_transaction"] == 1)
@@ -57,7 +57,7 @@ def unasked(program, cases, server):
         cases.same("of a transaction", asks_late(one), error_packet(
             LATE_TRANSACTION, "The relay closes who leaves a transaction open for long and asks nothing (--transaction)."))
     with Before(server) as before, Relay(program, before.port) as relay:
-        one = let_in(relay)
+        one = log_in(relay)
         cases.check("a row before a connection ends", rows(one, 1))
         before.drop()
         until(relay, lambda it: it["total_connections_ended"] == 1)
@@ -65,16 +65,16 @@ def unasked(program, cases, server):
         cases.same("of a connection", asks_late(one), error_packet(
             LOST, f"The server 127.0.0.1:{before.port} has closed the connection."))
     with Relay(program, server.port) as relay:
-        quiet, one = let_in(relay), let_in(relay)
+        quiet, one = log_in(relay), log_in(relay)
         cases.check("a row before a drain", rows(one, 1))
         relay.ask("/drain", "POST")
         cases.same("who asks nothing is just closed at the end", (all_of(quiet), all_of(one)), (b"", b""))
 
 
-def judged_again(program, cases, server):
+def authenticated_again(program, cases, server):
     """A password that is changed: the group takes nobody new, and closes as its connections come back."""
     with Before(server) as before, Relay(program, before.port, "--judge-again", "1", "--log") as relay:
-        one, two = let_in(relay, user="anna"), let_in(relay, user="anna")
+        one, two = log_in(relay, user="anna"), log_in(relay, user="anna")
         cases.check("rows before a judgement", rows(one, 1) and rows(two, 2))
         until_some(lambda: len(before.logins) >= 4)
         cases.check("it is judged again and again", len(before.logins) >= 4, len(before.logins))
@@ -87,21 +87,21 @@ def judged_again(program, cases, server):
         found = until(relay, lambda it: it["connections_free"] == 0)
         cases.same("what is free is closed", (found["connections_free"], found["connections_held"]), (0, 1))
         cases.check("who holds one goes on", rows(one, 3))
-        late = let_in(relay, user="anna")
-        cases.same("a new one is judged itself", relay.json()["total_applications_refused"], 1)
+        late = log_in(relay, user="anna")
+        cases.same("a new one is authenticated itself", relay.json()["total_applications_refused"], 1)
         late.close()
         one.close()
         found = until(relay, lambda it: it["connections_free"] + it["connections_held"] + it["connections_cleaning"] == 0)
         cases.same("and the last one goes as it comes back", (found["connections_held"], found["groups_shared"]), (0, 0))
         lines = relay.lines()
-        cases.check("a line says who isn't let in", any(
+        cases.check("a line says who isn't authenticated", any(
             it.endswith(f"is refused: 127.0.0.1:{before.port} refuses the login with error 18456") for it in lines), lines)
         cases.check("and one why connections are closed", any(
-            it.endswith("is closed, since its login isn't let in any more (--judge-again)") for it in lines), lines)
+            it.endswith("is closed, since its login isn't authenticated any more (--judge-again)") for it in lines), lines)
     with Relay(program, server.port, "--kinds", "2") as relay:
-        kept = [let_in(relay, program=it) for it in "ab"]
+        kept = [log_in(relay, program=it) for it in "ab"]
         cases.check("two kinds", all(rows(it, 1) for it in kept))
-        third = let_in(relay, program="c")
+        third = log_in(relay, program="c")
         cases.same("a third kind is refused", relay.json()["total_applications_refused"], 1)
         third.close()
 
@@ -121,7 +121,7 @@ class Slow(Before):
 def first_request(program, cases, server):
     """A group's first request waits for the cleaning of the connection that its login opened, and dials no second one."""
     with Slow(server) as slow, Relay(program, slow.port) as relay:
-        one, two = let_in(relay), let_in(relay)
+        one, two = log_in(relay), log_in(relay)
         for number, it in enumerate((one, two)):
             it.sendall(batch(f"rows {number} 1"))
         found = until(relay, lambda it: it["applications_waiting"] == 2)
@@ -133,7 +133,7 @@ def first_request(program, cases, server):
             struct.pack("<Bi", 0xD1, number) in message(it) for number, it in enumerate((one, two))))
         cases.same("the second one has one of its own", relay.json()["total_connections_dialed"], 2)
     with Slow(server) as slow, Relay(program, slow.port, "--cancel", "1") as relay:
-        one = let_in(relay)
+        one = log_in(relay)
         one.sendall(batch("rows 5 1"))
         until(relay, lambda it: it["total_limits_cancel"] == 1)
         slow.may.set()
@@ -143,7 +143,7 @@ def first_request(program, cases, server):
 def waits_once(program, cases, server):
     """Who waits for another one's connection, and then for one that can't be opened, waits within one limit."""
     with Before(server) as before, Relay(program, before.port, "--most", "1", "--wait", "10") as relay:
-        one, two = let_in(relay), let_in(relay)
+        one, two = log_in(relay), log_in(relay)
         cases.check("a row before a wait", rows(one, 1))
         begun = time.monotonic()
         two.sendall(batch("rows 2 1"))
@@ -159,7 +159,7 @@ def half_closed(program, cases, server):
     with Before(server) as before:
         for seconds, least, most in ((0, 0, 20), (2, 2, 20)):
             with Relay(program, before.port, "--half-closed", str(seconds)) as relay:
-                one = let_in(relay)
+                one = log_in(relay)
                 cases.check(f"a row before an end, {seconds}", rows(one, 1))
                 before.is_deaf = True
                 one.sendall(batch("rows 2 1"))
@@ -175,7 +175,7 @@ def half_closed(program, cases, server):
                 before.is_deaf = False
                 before.drop()
     with Relay(program, server.port, "--half-closed", "55") as relay:
-        one, two = let_in(relay), let_in(relay)
+        one, two = log_in(relay), log_in(relay)
         one.sendall(batch("rows 3 1"))
         one.shutdown(socket.SHUT_WR)
         begun = time.monotonic()

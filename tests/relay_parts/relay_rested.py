@@ -8,7 +8,7 @@ import contextlib
 import time
 
 from relay_servers import Before
-from relay_told import Relay, closes, error_packet, let_in, rows
+from relay_told import Relay, closes, error_packet, log_in, rows
 
 # Seconds: twice the longest time from one look to the next, and the one within which all is to be done.
 REST, SOON = 1.2, 10
@@ -28,7 +28,7 @@ def soon(relay, is_so):
 def freed(program, server, *words):
     """A relay with a connection that is free, and has rested."""
     with Relay(program, server, *words) as relay:
-        one = let_in(relay)
+        one = log_in(relay)
         if not rows(one, 1):
             raise OSError("no row comes")
         one.close()
@@ -56,9 +56,9 @@ def rested(program, cases, server, room):
         cases.check("other settings are those of what has been free", soon(relay, has_none_free))
     with Before(server) as before, freed(program, before.port, "--judge-again", "2") as relay:
         before.ends = error_packet(18456, "no")[8:]
-        cases.check("so does a login that isn't let in any more", soon(relay, has_none_free))
+        cases.check("so does a login that isn't authenticated any more", soon(relay, has_none_free))
     with Relay(program, server.port) as relay:
-        quiet, one = let_in(relay), let_in(relay)
+        quiet, one = log_in(relay), log_in(relay)
         cases.check("a row before a rest", rows(one, 1))
         time.sleep(REST)
         begun = time.monotonic()

@@ -58,7 +58,7 @@ def until_some(look):
 
 class Before:
     """A server on a free port. `says` is what it answers a LOGIN7: each is sent, and then a message is awaited;
-    behind the last one it lets the login in, or where `ends` is set, says that and closes."""
+    behind the last one it authenticates the login, or where `ends` is set, says that and closes."""
 
     def __init__(self, server, says=(), ends=None, spid=0):
         self.server, self.says, self.ends, self.spid = server, says, ends, spid

@@ -10,7 +10,7 @@ import subprocess
 from peers import ATTENTION, batch, connect, login, message, packet
 from relay_operator import all_of, until
 from relay_servers import DONE, PRELOGIN, Before, ack, routing
-from relay_told import Relay, closes, error_packet, let_in, rows
+from relay_told import Relay, closes, error_packet, log_in, rows
 
 REFUSED = 50100
 # Of no machine (RFC 5737).
@@ -56,7 +56,7 @@ class Answering(Before):
 
 
 def unreached(program, cases):
-    """Why no server lets a login in: the application is told, and the log has a line with the address."""
+    """Why no server authenticates a login: the application is told, and the log has a line with the address."""
     with socket.create_server(("127.0.0.1", 0)) as it:
         port = it.getsockname()[1]
     found = [("a closed port", "fails with ECONNREFUSED: Connection refused (os error 111)", None),
@@ -111,7 +111,7 @@ def refused(program, cases, server):
 def orders(program, cases, server):
     """What an operator orders over HTTP is in the log; what isn't done is answered with why."""
     with Relay(program, server.port, "--log", "--stats", "0.0.0.0:0") as relay:
-        one = let_in(relay)
+        one = log_in(relay)
         cases.check("a row before the orders", rows(one, 1))
         for path, line in (("/pause/0", "group 0 is paused, by POST /pause"), ("/resume/0", "group 0 goes on, by POST /resume"),
                            ("/reload", "the settings are read again, by POST /reload"),
@@ -154,17 +154,17 @@ def ask_from_afar(relay):
 def broken(program, cases, server):
     """Who breaks the rules is closed for a fault, which the log names: an application, a server, a server's packet."""
     with Before(server) as before, Relay(program, before.port, "--log", "--most", "1") as relay:
-        one = let_in(relay, user="anna", database="sales")
+        one = log_in(relay, user="anna", database="sales")
         port = one.getsockname()[1]
         cases.check("a row before a fault", rows(one, 1))
         before.is_deaf = True
         one.sendall(batch("rows 1 1") + ATTENTION + ATTENTION)
         cases.check("who sends two attentions is closed", closes(one))
-        two = let_in(relay)
+        two = log_in(relay)
         before.is_deaf = False
         before.drop()
-        cases.check("a row behind that", rows(let_in(relay), 2))
-        three = let_in(relay)
+        cases.check("a row behind that", rows(log_in(relay), 2))
+        three = log_in(relay)
         lines = [it.partition(" ")[2] for it in relay.end()[1].decode().splitlines()]
         cases.check("an application's fault is named, and whose it is",
                     any(re.fullmatch(r"application \d+ breaks the rules: fault 10 of an application, SecondAttention"
@@ -179,7 +179,7 @@ def broken(program, cases, server):
             before.answers = "rows 98", wrong
             if data:
                 before.send = lambda link, said, data=data: link.sendall(data) if said == wrong else Before.send(before, link, said)
-            one = let_in(relay)
+            one = log_in(relay)
             cases.check(f"a row before {what} fault", rows(one, 1))
             one.sendall(batch("rows 98 1"))
             cases.check(f"{what} fault closes", closes(one))

@@ -89,7 +89,7 @@ def login_of(host="", program="", user="", database=""):
     return bytes(data)
 
 
-def let_in(relay, *names, **named):
+def log_in(relay, *names, **named):
     """An application that is logged in, which says that it is this."""
     link = connect(relay.port)
     link.sendall(login_of(*names, **named))

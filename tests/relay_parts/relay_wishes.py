@@ -15,7 +15,7 @@ from peers import PATIENCE, PROXY_HEADER, batch, connect, login, message, packet
 from relay_logins import with_features
 from relay_operator import all_of, until
 from relay_servers import DONE, Before, until_some
-from relay_told import Relay, error_in, error_of, error_packet, let_in, login_of, rows
+from relay_told import Relay, error_in, error_of, error_packet, log_in, login_of, rows
 
 LATE, LOST = 50108, 50109
 
@@ -23,7 +23,7 @@ LATE, LOST = 50108, 50109
 def json_log(program, cases, server):
     """Each line of the log is an object of JSON, with whose it is."""
     with Relay(program, server, "--log-json") as relay:
-        one = let_in(relay, "web-1", "billing", "anna", "sales")
+        one = log_in(relay, "web-1", "billing", "anna", "sales")
         until(relay, lambda it: it["connections_free"] == 1)
         port = one.getsockname()[1]
         one.close()
@@ -35,7 +35,7 @@ def json_log(program, cases, server):
         whose = {"user": "anna", "database": "sales", **at}
         cases.same("the log as JSON", lines, [
             {"text": "socket 1 has come", **at}, {"text": f"connection 2 is dialed at 127.0.0.1:{server}"},
-            {"text": "connection 2 is opened"}, {"text": "application 1 is let in, group 0", **whose},
+            {"text": "connection 2 is opened"}, {"text": "application 1 is authenticated, group 0", **whose},
             {"text": "socket 1 has ended: the other end has closed the connection", **whose},
             {"text": "the relay is to end, since its standard input has ended"}, {"text": "ended: applications 0"}])
 
@@ -43,7 +43,7 @@ def json_log(program, cases, server):
 def named_groups(program, cases, server):
     """A group is told by the user, the database and the application that its login names."""
     with Relay(program, server) as relay:
-        one = let_in(relay, "web-1", "billing", "anna", "sales")
+        one = log_in(relay, "web-1", "billing", "anna", "sales")
         found = relay.json()["groups"][0]
         cases.same("a group's names", [found[it] for it in ("user", "database", "program")], ["anna", "sales", "billing"])
         cases.check("the page says them", "\ngroup 0, shared, user anna, database sales, application billing, at most 16"
@@ -54,7 +54,7 @@ def named_groups(program, cases, server):
 def requests(program, cases, server):
     """A request that runs too long is cancelled, and its application told, where nothing of the answer has come."""
     with Before(server) as before, Relay(program, before.port, "--request", "6", "--log") as relay:
-        one, two = let_in(relay), let_in(relay)
+        one, two = log_in(relay), log_in(relay)
         cases.check("rows before a long request", rows(one, 1) and rows(two, 2))
         before.is_deaf = True
         one.sendall(batch("rows 3 1"))
@@ -87,7 +87,7 @@ def follows(program, cases, server, room):
 
     may_be(1)
     with Relay(program, server, "--config", path) as relay:
-        one, two, three, four = [let_in(relay) for _ in range(4)]
+        one, two, three, four = [log_in(relay) for _ in range(4)]
         cases.check("a row at one connection", rows(one, 1))
         for number, it in enumerate((two, three, four)):
             it.sendall(batch(f"rows {number} 1"))
@@ -106,7 +106,7 @@ def follows(program, cases, server, room):
         two.close()
         cases.check("what is free is lent", struct.pack("<Bi", 0xD1, 1) in message(three))
         relay.ask("/kill/0", "POST")
-        links = [let_in(relay) for _ in range(2)]
+        links = [log_in(relay) for _ in range(2)]
         cases.check("a row of a later group", rows(links[0], 7))
         links[1].sendall(batch("rows 8 1"))
         found = until(relay, lambda it: it["applications_waiting"] == 1)
@@ -116,7 +116,7 @@ def follows(program, cases, server, room):
 def kept(program, cases, server):
     """Connections that stay however idle they are."""
     with Relay(program, server, "--idle", "1", "--least", "1") as relay:
-        links = [let_in(relay) for _ in range(3)]
+        links = [log_in(relay) for _ in range(3)]
         cases.check("rows of three", all(rows(it, number) for number, it in enumerate(links)))
         cases.same("each has a connection", relay.json()["connections_held"], 3)
         for it in links:
@@ -150,7 +150,7 @@ def recovered(program, cases, server):
 def lost(program, cases, server):
     """A server ends connections: who asks there and has nothing of the answer is told, who asks nothing at its next request."""
     with Before(server) as before, Relay(program, before.port) as relay:
-        one, two, three = let_in(relay), let_in(relay), let_in(relay)
+        one, two, three = log_in(relay), log_in(relay), log_in(relay)
         cases.check("rows before a connection's end", all(rows(it, number) for number, it in enumerate((one, two, three))))
         before.is_deaf = True
         one.sendall(batch("rows 3 1"))
@@ -171,7 +171,7 @@ def lost(program, cases, server):
 def pieces(program, cases, server):
     """Who asks for JSON holds nobody up: an application has its answer meanwhile."""
     with Relay(program, server, "--login", "0") as relay:
-        one = let_in(relay)
+        one = log_in(relay)
         cases.check("a row before JSON", rows(one, 1))
         crowd = [connect(relay.port) for _ in range(3000)]
         until(relay, lambda it: it["applications_logging_in"] == 3000)
@@ -218,22 +218,22 @@ def proxied(program, cases, server):
         link.close()
         said = [json.loads(it) for it in relay.end()[1].decode().splitlines()]
         cases.check("the log has the client's address", any(
-            it.get("from") == "192.0.2.7:50000" and "is let in" in it["text"] for it in said), said)
+            it.get("from") == "192.0.2.7:50000" and "is authenticated" in it["text"] for it in said), said)
         cases.check("and why the other one was closed", any("no header of the PROXY protocol" in it["text"] for it in said), said)
     with Relay(program, server) as relay:
         link = connect(relay.port)
         link.sendall(PROXY_HEADER + login_of("web-1"))
         cases.same("a header that isn't due is no login", all_of(link), b"")
-    judged_of_clients(program, cases)
+    authenticated_of_clients(program, cases)
 
 
-def judged_of_clients(program, cases):
-    """Behind a proxy what is judged is counted by the client's address, and not by the proxy's."""
+def authenticated_of_clients(program, cases):
+    """Behind a proxy what is authenticated is counted by the client's address, and not by the proxy's."""
     with socket.create_server(("127.0.0.1", 0)) as silent, Relay(
             program, silent.getsockname()[1], "--login", "60", "--proxy", "127.0.0.1") as relay:
         links = [behind_proxy(relay, PROXY_HEADER, f"user{number}") for number in range(33)]
-        cases.same("what is judged of one client has a limit", all_of(links[-1]), error_packet(
-            50100, "The relay has as many logins of this address judged as it does at a time, 32."))
+        cases.same("what is authenticated of one client has a limit", all_of(links[-1]), error_packet(
+            50100, "The relay has as many logins of this address authenticated as it does at a time, 32."))
         # 192.0.2.8 in the place of 192.0.2.7.
         links.append(behind_proxy(relay, PROXY_HEADER.replace(bytes([192, 0, 2, 7]), bytes([192, 0, 2, 8])), "other"))
         found = until(relay, lambda it: it["total_connections_dialed"] == 33)

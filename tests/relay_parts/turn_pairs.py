@@ -141,11 +141,11 @@ CASES = []
 
 
 def case(wanted, vices=Vices(), words=SHARES, why=None, **who):
-    """A deed of the first one, and what is wanted to be found where the second one asks; of one that is kept, the relay's
+    """An action of the first one, and what is wanted to be found where the second one asks; of one that is kept, the relay's
     word for why."""
-    def add(deed):
-        CASES.append((deed, wanted, vices, words, why, who))
-        return deed
+    def add(action):
+        CASES.append((action, wanted, vices, words, why, who))
+        return action
     return add
 
 
@@ -157,11 +157,11 @@ def shared(**how):
     return case("shared", **how)
 
 
-async def played(pair, deed):
+async def played(pair, action):
     """Plays a case, and ends its applications whatever happens."""
     try:
         await pair.begin()
-        await deed(pair)
+        await action(pair)
         await pair.end()
     finally:
         # Where the first one has met something wrong, what the second one is at doesn't matter.
@@ -169,18 +169,18 @@ async def played(pair, deed):
             pair.task.exception()
 
 
-def play(program, cases, deed, wanted, vices, words, why, who):
+def play(program, cases, action, wanted, vices, words, why, who):
     """One case, at a relay and a server of its own."""
     with Server(vices) as server, Relay(program, server.port, "--most", "1", *words) as relay:
         pair = Pair(relay, server, **who)
-        asyncio.run(played(pair, deed))
+        asyncio.run(played(pair, action))
         is_so = pair.found in ([wanted] if wanted else ["kept", "shared"])
-        cases.check(f"{deed.__name__}: its connection is {wanted or 'kept or shared'}", is_so, pair.found)
+        cases.check(f"{action.__name__}: its connection is {wanted or 'kept or shared'}", is_so, pair.found)
         rests = pair.found == "shared" or pair.is_only_kept
-        cases.same(f"{deed.__name__}: the relay says whether it rests", pair.is_told_to_rest, rests)
+        cases.same(f"{action.__name__}: the relay says whether it rests", pair.is_told_to_rest, rests)
         if why:
-            cases.same(f"{deed.__name__}: the relay says why", pair.why, [why, SAID[why]])
-            cases.same(f"{deed.__name__}: and counts it", pair.waits_behind, {why.split()[0]: 1})
+            cases.same(f"{action.__name__}: the relay says why", pair.why, [why, SAID[why]])
+            cases.same(f"{action.__name__}: and counts it", pair.waits_behind, {why.split()[0]: 1})
 
 
 def beside(cases, scenes):

@@ -150,7 +150,7 @@ def is_silent(program, cases, text, question):
 
 
 def waited_for(program, cases):
-    """Who comes while the server is asked is let in behind that, and the first one needn't stay for it."""
+    """Who comes while the server is asked is authenticated behind that, and the first one needn't stay for it."""
     async def run():
         first = connect(relay.port)
         first.sendall(with_features((RECOVERY, b"")))
@@ -159,7 +159,7 @@ def waited_for(program, cases):
         await until(lambda: relay.json()["applications_logging_in"] == 3, "three that wait")
         first.close()
         await until(lambda: relay.json()["applications_logging_in"] == 2, "two that wait")
-        cases.same("nobody is let in", [it.done() for it in others], [False, False])
+        cases.same("nobody is authenticated", [it.done() for it in others], [False, False])
         server.go_on()
         cases.same("they share by transactions", await in_turn(relay, *await asyncio.gather(*others), "shared"), "shared")
         cases.same("one login is asked", [len(server.questions_on(process)) for process, _ in server.logins], [len(ASKED)])

@@ -126,14 +126,14 @@ async def unprepared_in_vain(pair):
 
 def returned_otherwise(how):
     """A handle that isn't read: it is as if none were counted, up to a full reset."""
-    async def deed(pair):
+    async def action(pair):
         await pair.a.call((PREPARE, "get b"))
         await pair.a.ask("get a")
         await pair.other()
         await pair.a.ask("get a", END | RESET)
         await pair.served()
-    deed.__name__ = f"handle_returned_as_{how}"
-    kept(vices=Vices(returns=how))(deed)
+    action.__name__ = f"handle_returned_as_{how}"
+    kept(vices=Vices(returns=how))(action)
 
 
 for way in ("none", "two", "long", "named"):

@@ -20,16 +20,16 @@ SCENES = []
 
 def scene(most=1, count=2, words=(), vices=Vices()):
     """A scene of so many applications that ask for session recovery, at a relay with so many connections."""
-    def add(deed):
-        SCENES.append((deed, most, count, words, vices))
-        return deed
+    def add(action):
+        SCENES.append((action, most, count, words, vices))
+        return action
     return add
 
 
-def play(program, cases, deed, most, count, words, vices):
+def play(program, cases, action, most, count, words, vices):
     async def run(port, server, relay):
         ones = [await Application(port, server.vices).connect() for _ in range(count)]
-        await deed(cases, server, relay, *ones)
+        await action(cases, server, relay, *ones)
         for it in ones:
             await it.leave()
         await until(lambda: not server.left_over(), "sessions in which nothing is left")
@@ -44,7 +44,7 @@ async def served(*tasks):
 
 
 async def waits(relay, count=1):
-    await until(lambda: relay.json()["applications_waiting"] == count, f"{count} in the line")
+    await until(lambda: relay.json()["applications_waiting"] == count, f"{count} in the wait queue")
 
 
 async def is_ended(one, text, error=LOST):

@@ -213,7 +213,7 @@ def own_addresses(place, cases):
     to = f"127.0.0.1:{place.clear.port}"
     for name, words, line in (("tdsserve", [place.program, "127.0.0.1:0", "--proxy"], "connection 1 comes for 127.0.0.1:{}"),
                               ("tdsrelay", [built("tdsrelay")[0], "127.0.0.1:0", to, "--proxy", "127.0.0.1"],
-                               "application 1 is let in, group 0 (from 127.0.0.1:{})")):
+                               "application 1 is authenticated, group 0 (from 127.0.0.1:{})")):
         if not os.path.exists(words[0]):
             print(f"encryption: {name} isn't built, so it wasn't told any address")
             continue

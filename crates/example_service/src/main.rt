@@ -3,22 +3,22 @@
 #![tactic(auto)]
 
 mod caller;
-mod desk;
 mod server;
+mod table;
 mod wire;
 
 use caller::Plan;
-use desk::Desk;
+use table::Table;
 
 fn main(rt: HostRuntime) -> anyhow::Result<()> {
-    let mut desk = Desk::new(&rt, 2)?;
-    desk.arrive("anna", Plan::Ask("set a 5;get a"))?;
-    desk.arrive("ben", Plan::Cancel("rows 1 3"))?;
-    desk.arrive("cleo", Plan::Ask("get a"))?;
-    desk.arrive("dora", Plan::Vanish("rows 1 3"))?;
-    desk.arrive("emil", Plan::BeLiedTo)?;
-    desk.round(&rt)?;
-    desk.round(&rt)?;
-    desk.round(&rt)?;
+    let mut table = Table::new(&rt, 2)?;
+    table.arrive("anna", Plan::Ask("set a 5;get a"))?;
+    table.arrive("ben", Plan::Cancel("rows 1 3"))?;
+    table.arrive("cleo", Plan::Ask("get a"))?;
+    table.arrive("dora", Plan::Vanish("rows 1 3"))?;
+    table.arrive("emil", Plan::BeLiedTo)?;
+    table.round(&rt)?;
+    table.round(&rt)?;
+    table.round(&rt)?;
     Ok(())
 }

@@ -12,9 +12,9 @@ use Rattle.tds_service.specs.Parts.{Item, Part}
 use Rattle.tds_service.specs.Line.{new_line}
 use Rattle.tds_service.specs.Service.{Free, Seat, seat_numbered}
 use Rattle.laws_conforming_server.specs.Lawful.{Session}
-use Rattle.tds_relay.specs.Desk as desk
-use Rattle.tds_relay.specs.Desk.{Event, Sharing, Way, turn}
-use Rattle.tds_relay.specs.declared.desk.Mode.TheVariants.{Sessions}
+use Rattle.tds_relay.specs.Pool as pool
+use Rattle.tds_relay.specs.Pool.{Event, Sharing, Way, turn}
+use Rattle.tds_relay.specs.declared.pool.Mode.TheVariants.{Sessions}
 use Rattle.laws_as_if_alone.specs.Serving.{Moment, Request, Server, answers_alone, but_news, fresh, new_world, world_after}
 use Rattle.laws_as_if_alone.specs.Turns.{AllParkedFresh, IsParkedFresh, asks_but}
 use Rattle.laws_as_if_alone.specs.Alone.{AllOrderly, asks, given}
@@ -72,7 +72,7 @@ abbrev pub one : Sharing
 one = record { most = 1; mode = Sessions }
 
 abbrev pub way : Way
-way = desk.Sent 0 0
+way = pool.Sent 0 0
 
 abbrev pub whole : List (Item Token) → Part Token
 whole items = record { items = items; close = parts.Ends }
@@ -84,10 +84,10 @@ piece items = record { items = items; close = parts.Goes }
 
 abbrev play : List (Moment ℕ)
 play =
-    at (desk.Waits 1) ∷ at desk.Serves ∷ at (desk.Does 1 desk.Asks) ∷ at (desk.Waits 2) ∷ at (desk.Does 1 (desk.Ends 0)) ∷ at (desk.Comes 1 (whole (row 0 ∷ done ∷ [])) way)
-    ∷ at (desk.Does 1 desk.Asks) ∷ at (desk.Does 1 (desk.Ends 0)) ∷ at (desk.Comes 1 (piece (row 1 ∷ [])) way) ∷ at desk.Serves ∷ cleaning (desk.Leaves 1 true way)
-    ∷ cleaning (desk.Comes 1 (whole (acknowledged ∷ [])) way) ∷ at (desk.Comes 1 (whole (news ∷ done ∷ [])) way) ∷ at desk.Serves ∷ at (desk.Does 2 desk.Asks) ∷ at (desk.Does 2 (desk.Ends 0))
-    ∷ at (desk.Comes 1 (piece (news ∷ row 0 ∷ [])) way) ∷ at (desk.Comes 1 (whole (done ∷ [])) way) ∷ []
+    at (pool.Waits 1) ∷ at pool.Serves ∷ at (pool.Does 1 pool.Asks) ∷ at (pool.Waits 2) ∷ at (pool.Does 1 (pool.Ends 0)) ∷ at (pool.Comes 1 (whole (row 0 ∷ done ∷ [])) way)
+    ∷ at (pool.Does 1 pool.Asks) ∷ at (pool.Does 1 (pool.Ends 0)) ∷ at (pool.Comes 1 (piece (row 1 ∷ [])) way) ∷ at pool.Serves ∷ cleaning (pool.Leaves 1 true way)
+    ∷ cleaning (pool.Comes 1 (whole (acknowledged ∷ [])) way) ∷ at (pool.Comes 1 (whole (news ∷ done ∷ [])) way) ∷ at pool.Serves ∷ at (pool.Does 2 pool.Asks) ∷ at (pool.Does 2 (pool.Ends 0))
+    ∷ at (pool.Comes 1 (piece (news ∷ row 0 ∷ [])) way) ∷ at (pool.Comes 1 (whole (done ∷ [])) way) ∷ []
 
 second_is_given : given turn 2 counter (new_world counter one) play ≡ row 0 ∷ done ∷ []
 unfolding place_change place_done
@@ -115,8 +115,8 @@ second_is_orderly =
 
 abbrev cancelled : List (Moment ℕ)
 cancelled =
-    at (desk.Waits 2) ∷ at desk.Serves ∷ at (desk.Does 2 desk.Asks) ∷ at (desk.Does 2 (desk.Ends 0)) ∷ at (desk.Comes 1 (piece (row 0 ∷ [])) way) ∷ at (desk.Does 2 desk.Stops)
-    ∷ at (desk.Comes 1 (whole (done ∷ acknowledged ∷ [])) way) ∷ at (desk.Does 2 desk.Asks) ∷ at (desk.Does 2 (desk.Ends 0)) ∷ at (desk.Comes 1 (whole (row 7 ∷ done ∷ [])) way) ∷ []
+    at (pool.Waits 2) ∷ at pool.Serves ∷ at (pool.Does 2 pool.Asks) ∷ at (pool.Does 2 (pool.Ends 0)) ∷ at (pool.Comes 1 (piece (row 0 ∷ [])) way) ∷ at (pool.Does 2 pool.Stops)
+    ∷ at (pool.Comes 1 (whole (done ∷ acknowledged ∷ [])) way) ∷ at (pool.Does 2 pool.Asks) ∷ at (pool.Does 2 (pool.Ends 0)) ∷ at (pool.Comes 1 (whole (row 7 ∷ done ∷ [])) way) ∷ []
 
 cancelled_given : given turn 2 counter (new_world counter one) cancelled ≡ row 0 ∷ row 7 ∷ done ∷ []
 unfolding place_change place_done
@@ -135,8 +135,8 @@ cancelled_orderly =
 
 abbrev lost : List (Moment ℕ)
 lost =
-    at (desk.Waits 2) ∷ at desk.Serves ∷ at (desk.Does 2 desk.Asks) ∷ at (desk.Does 2 (desk.Ends 0)) ∷ at (desk.Comes 1 (piece (row 0 ∷ [])) way) ∷ at (desk.Loses 1)
-    ∷ at (desk.Waits 2) ∷ at desk.Serves ∷ at (desk.Does 2 desk.Asks) ∷ at (desk.Does 2 (desk.Ends 0)) ∷ at (desk.Comes 2 (whole (row 0 ∷ done ∷ [])) way) ∷ []
+    at (pool.Waits 2) ∷ at pool.Serves ∷ at (pool.Does 2 pool.Asks) ∷ at (pool.Does 2 (pool.Ends 0)) ∷ at (pool.Comes 1 (piece (row 0 ∷ [])) way) ∷ at (pool.Loses 1)
+    ∷ at (pool.Waits 2) ∷ at pool.Serves ∷ at (pool.Does 2 pool.Asks) ∷ at (pool.Does 2 (pool.Ends 0)) ∷ at (pool.Comes 2 (whole (row 0 ∷ done ∷ [])) way) ∷ []
 
 lost_given : given turn 2 counter (new_world counter one) lost ≡ row 0 ∷ row 0 ∷ done ∷ []
 unfolding place_change place_done
@@ -164,8 +164,8 @@ beginning event = record { event = event; request = begins; left = session 7 }
 
 abbrev kept : List (Moment ℕ)
 kept =
-    at (desk.Waits 2) ∷ at desk.Serves ∷ at (desk.Does 2 desk.Asks) ∷ beginning (desk.Does 2 (desk.Ends 0)) ∷ at (desk.Comes 1 (whole (begun ∷ done ∷ [])) way) ∷ at (desk.Renews 2 true)
-    ∷ at (desk.Does 2 desk.Asks) ∷ at (desk.Does 2 (desk.Ends 0)) ∷ at (desk.Comes 1 (whole (row 0 ∷ news ∷ done ∷ [])) way) ∷ []
+    at (pool.Waits 2) ∷ at pool.Serves ∷ at (pool.Does 2 pool.Asks) ∷ beginning (pool.Does 2 (pool.Ends 0)) ∷ at (pool.Comes 1 (whole (begun ∷ done ∷ [])) way) ∷ at (pool.Renews 2 true)
+    ∷ at (pool.Does 2 pool.Asks) ∷ at (pool.Does 2 (pool.Ends 0)) ∷ at (pool.Comes 1 (whole (row 0 ∷ news ∷ done ∷ [])) way) ∷ []
 
 kept_given : given turn 2 counter_late (new_world counter_late one) kept ≡ begun ∷ done ∷ row 0 ∷ done ∷ []
 unfolding place_change place_done
@@ -189,23 +189,23 @@ abbrev reading : Event → Moment ℕ
 reading event = record { event = event; request = reads; left = session 7 }
 
 abbrev until_parked : List (Moment ℕ)
-until_parked = at (desk.Waits 1) ∷ at desk.Serves ∷ at (desk.Does 1 desk.Asks) ∷ reading (desk.Does 1 (desk.Ends 0)) ∷ at (desk.Comes 1 (whole (row 0 ∷ done ∷ [])) way) ∷ []
+until_parked = at (pool.Waits 1) ∷ at pool.Serves ∷ at (pool.Does 1 pool.Asks) ∷ reading (pool.Does 1 (pool.Ends 0)) ∷ at (pool.Comes 1 (whole (row 0 ∷ done ∷ [])) way) ∷ []
 
 abbrev parked : List (Moment ℕ)
 parked =
-    until_parked ++ cleaning (desk.Leaves 1 true way) ∷ at (desk.Comes 1 (whole (news ∷ done ∷ [])) way) ∷ at (desk.Waits 1) ∷ at desk.Serves ∷ at (desk.Does 1 desk.Asks)
-    ∷ reading (desk.Does 1 (desk.Ends 0)) ∷ at (desk.Comes 1 (whole (news ∷ row 0 ∷ done ∷ [])) way) ∷ []
+    until_parked ++ cleaning (pool.Leaves 1 true way) ∷ at (pool.Comes 1 (whole (news ∷ done ∷ [])) way) ∷ at (pool.Waits 1) ∷ at pool.Serves ∷ at (pool.Does 1 pool.Asks)
+    ∷ reading (pool.Does 1 (pool.Ends 0)) ∷ at (pool.Comes 1 (whole (news ∷ row 0 ∷ done ∷ [])) way) ∷ []
 
 abbrev is_parking : Event → Bool
-is_parking (desk.Waits key) = false
-is_parking (desk.Unwaits key) = false
-is_parking desk.Serves = false
-is_parking (desk.Brings gives how) = false
-is_parking (desk.Does key deed) = false
-is_parking (desk.Leaves key gives how) = true
-is_parking (desk.Renews key resumes) = false
-is_parking (desk.Comes number part how) = false
-is_parking (desk.Loses number) = false
+is_parking (pool.Waits key) = false
+is_parking (pool.Unwaits key) = false
+is_parking pool.Serves = false
+is_parking (pool.Brings gives how) = false
+is_parking (pool.Does key action) = false
+is_parking (pool.Leaves key gives how) = true
+is_parking (pool.Renews key resumes) = false
+is_parking (pool.Comes number part how) = false
+is_parking (pool.Loses number) = false
 
 abbrev parks : Moment ℕ → Bool
 parks m = is_parking m.event
@@ -233,12 +233,12 @@ no_park e = absurd (let u : ⊥ = cc in u)
 parked_fresh : AllParkedFresh parks turn 1 counter (new_world counter one) parked
 unfolding place_change place_done
 parked_fresh =
-    let parked_here : IsParkedFresh 1 counter (world_after turn counter (new_world counter one) until_parked) (cleaning (desk.Leaves 1 true way)) = record {
+    let parked_here : IsParkedFresh 1 counter (world_after turn counter (new_world counter one) until_parked) (cleaning (pool.Leaves 1 true way)) = record {
       gives = true;
       way = way;
       leaves = refl;
       hold = record { key = 1; lease = 1; number = 1 };
-      seat = its_seat (seat_numbered 1 (world_after turn counter (new_world counter one) until_parked).desk.service.seats);
+      seat = its_seat (seat_numbered 1 (world_after turn counter (new_world counter one) until_parked).pool.service.seats);
       rests = record { holds = refl; waits = refl; there = refl; lent = refl; idle = refl };
       session = refl;
     } in

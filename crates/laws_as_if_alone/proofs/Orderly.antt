@@ -3,8 +3,8 @@ use Rattle.std.proofs.Common.{◌≡◌, ◌∙◌, ◌==◌, ℕ, Bool, true, f
 use Rattle.std.specs.Prelude.{Option, Some, None}
 use Rattle.std.proofs.lemmas.Bool.{eq-eqb}
 use Rattle.tds_relay.specs.Away.{IsAway}
-use Rattle.tds_relay.specs.Desk as desk
-use Rattle.tds_relay.specs.Desk.{Desk, Event, Turn, whose}
+use Rattle.tds_relay.specs.Pool as pool
+use Rattle.tds_relay.specs.Pool.{Pool, Event, Turn, whose}
 use Rattle.tds_relay.specs.Promises.{comes_to_wait}
 use Rattle.tds_relay.proofs.held.Ours.{same_number}
 use Rattle.laws_as_if_alone.specs.Serving.{Moment, Server, World, happens}
@@ -19,24 +19,24 @@ is_its key None = false
 is_its key (Some other) = other == key
 
 abbrev Demand : {V : Type 0} → ℕ → World V → Event → Type 0 → Type 0
-Demand key w (desk.Waits other) rest = IfIts (other == key) (IsAway key w.desk) rest
-Demand key w (desk.Comes number part way) rest =
-    IfIts (is_its key (whose w.desk number)) ((heard_of (line_of w.desk number) part ≡ desk.Wrong → ⊥) → IsNextAt (line_of w.desk number).stage part (w.ends number).due) rest
+Demand key w (pool.Waits other) rest = IfIts (other == key) (IsAway key w.pool) rest
+Demand key w (pool.Comes number part way) rest =
+    IfIts (is_its key (whose w.pool number)) ((heard_of (line_of w.pool number) part ≡ pool.Wrong → ⊥) → IsNextAt (line_of w.pool number).stage part (w.ends number).due) rest
 Demand key w event rest = rest
 
-abbrev pub Demands : {V : Type 0} → (Desk → Event → Turn) → ℕ → Server V → World V → List (Moment V) → Type 0
+abbrev pub Demands : {V : Type 0} → (Pool → Event → Turn) → ℕ → Server V → World V → List (Moment V) → Type 0
 Demands turns key server w [] = Unit {0}
 Demands turns key server w (m ∷ ms) = Demand key w m.event (Demands turns key server (happens turns server w m) ms)
 
 -- ---- One moment
 
 abbrev IsRight : {V : Type 0} → ℕ → World V → Event → Type 0
-IsRight key w event = (comes_to_wait event ≡ key ∷ [] → IsAway key w.desk) × IsSaid key w event
+IsRight key w event = (comes_to_wait event ≡ key ∷ [] → IsAway key w.pool) × IsSaid key w event
 
 nobody_waits : (key : ℕ) → ◌≡◌ {A = List ℕ} [] (key ∷ []) → ⊥
 nobody_waits key e = let u : ⊥ = cc in u
 
-waits_by : {V : Type 0} (key other : ℕ) (w : World V) (rest : Type 0) (b : Bool) → (other == key) ≡ b → IfIts b (IsAway key w.desk) rest → (other ∷ [] ≡ key ∷ [] → IsAway key w.desk) × rest
+waits_by : {V : Type 0} (key other : ℕ) (w : World V) (rest : Type 0) (b : Bool) → (other == key) ≡ b → IfIts b (IsAway key w.pool) rest → (other ∷ [] ≡ key ∷ [] → IsAway key w.pool) × rest
 waits_by key other w rest true e d = (λ is. d.0, d.1)
 waits_by key other w rest false e d = (
   λ is. absurd (let same : other ≡ key = cc in let yes : (other == key) ≡ true = eq-eqb other key same in let u : true ≡ false = sym yes ∙ e in let v : ⊥ = cc in v),
@@ -51,22 +51,22 @@ comes_by key whom next rest false e d = (
 )
 
 one : {V : Type 0} (key : ℕ) (w : World V) (event : Event) (rest : Type 0) → Demand key w event rest → IsRight key w event × rest
-one key w (desk.Waits other) rest d = let s = waits_by key other w rest (other == key) refl d in ((s.0, tt), s.1)
-one key w (desk.Unwaits other) rest d = ((λ is. absurd (nobody_waits key is), tt), d)
-one key w desk.Serves rest d = ((λ is. absurd (nobody_waits key is), tt), d)
-one key w (desk.Brings gives way) rest d = ((λ is. absurd (nobody_waits key is), tt), d)
-one key w (desk.Does other deed) rest d = ((λ is. absurd (nobody_waits key is), tt), d)
-one key w (desk.Leaves other gives way) rest d = ((λ is. absurd (nobody_waits key is), tt), d)
-one key w (desk.Renews other resumes) rest d = ((λ is. absurd (nobody_waits key is), tt), d)
-one key w (desk.Comes number part way) rest d =
-    let whom = whose w.desk number in
-    let s = comes_by key whom ((heard_of (line_of w.desk number) part ≡ desk.Wrong → ⊥) → IsNextAt (line_of w.desk number).stage part (w.ends number).due) rest (is_its key whom) refl d in
+one key w (pool.Waits other) rest d = let s = waits_by key other w rest (other == key) refl d in ((s.0, tt), s.1)
+one key w (pool.Unwaits other) rest d = ((λ is. absurd (nobody_waits key is), tt), d)
+one key w pool.Serves rest d = ((λ is. absurd (nobody_waits key is), tt), d)
+one key w (pool.Brings gives way) rest d = ((λ is. absurd (nobody_waits key is), tt), d)
+one key w (pool.Does other action) rest d = ((λ is. absurd (nobody_waits key is), tt), d)
+one key w (pool.Leaves other gives way) rest d = ((λ is. absurd (nobody_waits key is), tt), d)
+one key w (pool.Renews other resumes) rest d = ((λ is. absurd (nobody_waits key is), tt), d)
+one key w (pool.Comes number part way) rest d =
+    let whom = whose w.pool number in
+    let s = comes_by key whom ((heard_of (line_of w.pool number) part ≡ pool.Wrong → ⊥) → IsNextAt (line_of w.pool number).stage part (w.ends number).due) rest (is_its key whom) refl d in
     ((λ is. absurd (nobody_waits key is), s.0), s.1)
-one key w (desk.Loses number) rest d = ((λ is. absurd (nobody_waits key is), tt), d)
+one key w (pool.Loses number) rest d = ((λ is. absurd (nobody_waits key is), tt), d)
 
 -- ---- All of them
 
-pub orderly : {V : Type 0} (turns : Desk → Event → Turn) (key : ℕ) (server : Server V) (w : World V) (ms : List (Moment V)) → Demands turns key server w ms → AllOrderly turns key server w ms
+pub orderly : {V : Type 0} (turns : Pool → Event → Turn) (key : ℕ) (server : Server V) (w : World V) (ms : List (Moment V)) → Demands turns key server w ms → AllOrderly turns key server w ms
 orderly turns key server w [] d = tt
 orderly turns key server w (m ∷ ms) d =
     let s = one key w m.event (Demands turns key server (happens turns server w m) ms) d in

@@ -21,9 +21,9 @@ use Rattle.tds_service.specs.Line.{Line, Act, Packet, OfRequest, Stage, Turn, tu
 use Rattle.tds_service.specs.History.{history, line_after}
 use Rattle.tds_service.specs.Refusing.{packets, refusal_in}
 use Rattle.laws_conforming_server.specs.Lawful.{Session, reset_by}
-use Rattle.tds_relay.specs.Desk as desk
-use Rattle.tds_relay.specs.Desk.{Deed, hearing_of}
-use Rattle.tds_relay.proofs.held.Ours.{acts_of_deed, first_of}
+use Rattle.tds_relay.specs.Pool as pool
+use Rattle.tds_relay.specs.Pool.{Action, hearing_of}
+use Rattle.tds_relay.proofs.held.Ours.{acts_of_action, first_of}
 use Rattle.laws_as_if_alone.specs.Serving.{Ask, Runs, Resets, Stops, Finds, Ends, End, Moment, Server, but_news, fresh, is_news, packets_in, reset_if, takes_all, told_if}
 use Rattle.laws_as_if_alone.specs.Alone.{EndsBehind, IsNext, IsNextAt, does_at, given_at, settles_at}
 
@@ -75,7 +75,7 @@ module _ {V : Type 0} (server : Server V) (m : Moment V) (count : ℕ) (s : Sess
   asks_acted l e (line.Broken fault) f h = absurd h
 
   stops_acted : (l : Line) (e : End V) (stage : Stage) → l.stage ≡ stage → StandsAt server s stage l.heard.mark e
-      → Acted server m count s stage e (cancels {T = Token} l stage).line ((cancels {T = Token} l stage).sent ++ []) (does_at m count desk.Stops stage)
+      → Acted server m count s stage e (cancels {T = Token} l stage).line ((cancels {T = Token} l stage).sent ++ []) (does_at m count pool.Stops stage)
   stops_acted l e line.Idle is h =
       let before : Stands server s l e = subst (λ (st : Stage). StandsAt server s st l.heard.mark e) (sym is) h in
       subst (λ (st : Stage). Acted server m count s st e l [] []) is (same_acted l e before)
@@ -162,30 +162,30 @@ module _ {V : Type 0} (server : Server V) (m : Moment V) (count : ℕ) (s : Sess
   puts_by l number e (line.Broken fault) is f h = absurd h
 
   ends_by : (l : Line) (number : ℕ) (e : End V) (stage : Stage) → l.stage ≡ stage → refusal_in (sends {T = Token} l true stage).answer ≡ None → StandsAt server s stage l.heard.mark e
-      → Acted server m count s stage e (line_after {T = Token} l (packets number ++ line.Send true ∷ [])) (packets_in (history l (packets number ++ line.Send true ∷ []))) (does_at m count (desk.Ends number) stage)
+      → Acted server m count s stage e (line_after {T = Token} l (packets number ++ line.Send true ∷ [])) (packets_in (history l (packets number ++ line.Send true ∷ []))) (does_at m count (pool.Ends number) stage)
   ends_by l number e line.Idle is f h = absurd (let u : ⊥ = cc in u)
   ends_by l number e (line.Sending begun) is f h = ends_acted l number begun e is h
   ends_by l number e line.Reading is f h = absurd (let u : ⊥ = cc in u)
   ends_by l number e line.Cancelling is f h = absurd (let u : ⊥ = cc in u)
   ends_by l number e (line.Broken fault) is f h = absurd h
 
-  -- ---- A deed
+  -- ---- An action
 
-  pub deed_acted : (l : Line) (deed : Deed) (e : End V) → refusal_in (turn l (first_of deed)).answer ≡ None → Stands server s l e
-      → Acted server m count s l.stage e (line_after l (acts_of_deed deed)) (packets_in (history l (acts_of_deed deed))) (does_at m count deed l.stage)
-  deed_acted l desk.Asks e f h = asks_acted l e l.stage f h
-  deed_acted l (desk.Puts number) e f h = puts_by l number e l.stage refl f h
-  deed_acted l (desk.Ends number) e f h = ends_by l number e l.stage refl f h
-  deed_acted l desk.Stops e f h = stops_acted l e l.stage refl h
+  pub action_acted : (l : Line) (action : Action) (e : End V) → refusal_in (turn l (first_of action)).answer ≡ None → Stands server s l e
+      → Acted server m count s l.stage e (line_after l (acts_of_action action)) (packets_in (history l (acts_of_action action))) (does_at m count action l.stage)
+  action_acted l pool.Asks e f h = asks_acted l e l.stage f h
+  action_acted l (pool.Puts number) e f h = puts_by l number e l.stage refl f h
+  action_acted l (pool.Ends number) e f h = ends_by l number e l.stage refl f h
+  action_acted l pool.Stops e f h = stops_acted l e l.stage refl h
 
-  ends_refused : (l : Line) (number : ℕ) (stage : Stage) (why : ClientRefusal) → refusal_in (sends {T = Token} l true stage).answer ≡ Some why → does_at m count (desk.Ends number) stage ≡ []
+  ends_refused : (l : Line) (number : ℕ) (stage : Stage) (why : ClientRefusal) → refusal_in (sends {T = Token} l true stage).answer ≡ Some why → does_at m count (pool.Ends number) stage ≡ []
   ends_refused l number line.Idle why f = refl
   ends_refused l number (line.Sending begun) why f = absurd (let u : ⊥ = cc in u)
   ends_refused l number line.Reading why f = refl
   ends_refused l number line.Cancelling why f = refl
   ends_refused l number (line.Broken fault) why f = refl
 
-  stops_refused : (l : Line) (stage : Stage) (why : ClientRefusal) → refusal_in (cancels {T = Token} l stage).answer ≡ Some why → does_at m count desk.Stops stage ≡ []
+  stops_refused : (l : Line) (stage : Stage) (why : ClientRefusal) → refusal_in (cancels {T = Token} l stage).answer ≡ Some why → does_at m count pool.Stops stage ≡ []
   stops_refused l line.Idle why f = refl
   stops_refused l (line.Sending false) why f = refl
   stops_refused l (line.Sending true) why f = absurd (let u : ⊥ = cc in u)
@@ -193,11 +193,11 @@ module _ {V : Type 0} (server : Server V) (m : Moment V) (count : ℕ) (s : Sess
   stops_refused l line.Cancelling why f = refl
   stops_refused l (line.Broken fault) why f = refl
 
-  pub refused_asks : (l : Line) (deed : Deed) (why : ClientRefusal) → refusal_in (turn l (first_of deed)).answer ≡ Some why → does_at m count deed l.stage ≡ []
-  refused_asks l desk.Asks why f = refl
-  refused_asks l (desk.Puts number) why f = refl
-  refused_asks l (desk.Ends number) why f = ends_refused l number l.stage why f
-  refused_asks l desk.Stops why f = stops_refused l l.stage why f
+  pub refused_asks : (l : Line) (action : Action) (why : ClientRefusal) → refusal_in (turn l (first_of action)).answer ≡ Some why → does_at m count action l.stage ≡ []
+  refused_asks l pool.Asks why f = refl
+  refused_asks l (pool.Puts number) why f = refl
+  refused_asks l (pool.Ends number) why f = ends_refused l number l.stage why f
+  refused_asks l pool.Stops why f = stops_refused l l.stage why f
 
   -- ---- What comes
 
@@ -251,7 +251,7 @@ module _ {V : Type 0} (server : Server V) (m : Moment V) (count : ℕ) (s : Sess
   unowed h heard part e f = unowed_by (hear_items false h part.items) part.close heard e f
 
   reads_heard : (l : Line) (part : Part Token) (e : End V) (ends : Bool) (until : Heard) (r : Result Heard ListenFault) → is_end part.close ≡ ends → hear_part false l.heard part ≡ r
-      → e.session ≡ s → IsNext part e.due → (hearing_of (reads l part ends until r).answer ≡ desk.Wrong → ⊥) → Hears part line.Reading e (reads l part ends until r)
+      → e.session ≡ s → IsNext part e.due → (hearing_of (reads l part ends until r).answer ≡ pool.Wrong → ⊥) → Hears part line.Reading e (reads l part ends until r)
   reads_heard l part e ends until (Err fault) is heard h said right = absurd (right refl)
   reads_heard l part e false until (Ok heard) is f h said right =
       record { sent = refl; next = s; stands = h; follows = (refl, split_due part.items said.0 e.due said.1) }
@@ -268,14 +268,14 @@ module _ {V : Type 0} (server : Server V) (m : Moment V) (count : ℕ) (s : Sess
   skips_end_heard l part e heard Acknowledged =
       record { sent = refl; next = reset_if server heard.mark e.session; stands = refl; follows = (refl, (refl, refl, refl)) }
 
-  skips_heard : (l : Line) (part : Part Token) (e : End V) (ends : Bool) (until : Heard) (r : Result Heard ListenFault) → (hearing_of (skips {T = Token} l ends until r).answer ≡ desk.Wrong → ⊥)
+  skips_heard : (l : Line) (part : Part Token) (e : End V) (ends : Bool) (until : Heard) (r : Result Heard ListenFault) → (hearing_of (skips {T = Token} l ends until r).answer ≡ pool.Wrong → ⊥)
       → Hears part line.Cancelling e (skips {T = Token} l ends until r)
   skips_heard l part e ends until (Err fault) right = absurd (right refl)
   skips_heard l part e false until (Ok heard) right = record { sent = refl; next = s; stands = tt; follows = (refl, refl) }
   skips_heard l part e true until (Ok heard) right = skips_end_heard l part e heard heard.done
 
   pub comes_heard : (l : Line) (part : Part Token) (e : End V) (stage : Stage) → StandsAt server s stage l.heard.mark e → IsNextAt stage part e.due
-      → (hearing_of (comes l part stage).answer ≡ desk.Wrong → ⊥) → Hears part stage e (comes l part stage)
+      → (hearing_of (comes l part stage).answer ≡ pool.Wrong → ⊥) → Hears part stage e (comes l part stage)
   comes_heard l part e line.Idle h said right = absurd (right refl)
   comes_heard l part e (line.Sending begun) h said right = absurd (right refl)
   comes_heard l part e line.Reading h said right =

@@ -1,12 +1,12 @@
--- Desks that the law refuses: plays as they are supposed, in which what an application is given isn't what it's answered alone.
+-- Pools that the law refuses: plays as they are supposed, in which what an application is given isn't what it's answered alone.
 use Rattle.std.proofs.Common.{◌≡◌, ◌∙◌, ℕ, true, List, [], ◌∷◌, ◌++◌, refl, sym, ap, arith}
 use Rattle.std.specs.Prelude.{Option, Some, None}
 use Rattle.tds_client.specs.Hearing.{place_change, place_done}
 use Rattle.tds_wire.specs.declared.told.Token.{Token}
 use Rattle.tds_service.specs.Parts.{Item}
-use Rattle.tds_relay.specs.declared.desk.Hold.{Hold}
-use Rattle.tds_relay.specs.Desk as desk
-use Rattle.tds_relay.specs.Desk.{Desk, Event, Turn, find_key, holding, moves, rests, turn, without_lease}
+use Rattle.tds_relay.specs.declared.pool.Hold.{Hold}
+use Rattle.tds_relay.specs.Pool as pool
+use Rattle.tds_relay.specs.Pool.{Pool, Event, Turn, find_key, holding, moves, rests, turn, without_lease}
 use Rattle.laws_as_if_alone.specs.Serving.{Moment, answers_alone, fresh, new_world, world_after}
 use Rattle.laws_as_if_alone.specs.Alone.{AllOrderly, AsIfAlone, asks, given, underway}
 use Rattle.laws_as_if_alone.proofs.Orderly.{orderly}
@@ -19,19 +19,19 @@ numbers_differ xs ys m n rest e f never same =
     never (ap (λ (x : Item Token). x.token.start) first)
 
 -- One that hands a connection on as it is, to whoever waits first.
-abbrev hands_on_to : Desk → Option Hold → List ℕ → Event → Turn
+abbrev hands_on_to : Pool → Option Hold → List ℕ → Event → Turn
 hands_on_to d None line event = turn d event
 hands_on_to d (Some h) [] event = turn d event
 hands_on_to d (Some h) (key ∷ others) event = moves d (without_lease h.lease d.holds ++ holding key h.lease h.number ∷ []) others []
 
-abbrev hands_on : Desk → Event → Turn
-hands_on d (desk.Leaves key gives way) = hands_on_to d (find_key key d.holds) d.line (desk.Leaves key gives way)
+abbrev hands_on : Pool → Event → Turn
+hands_on d (pool.Leaves key gives way) = hands_on_to d (find_key key d.holds) d.line (pool.Leaves key gives way)
 hands_on d event = turn d event
 
 abbrev handed_on : List (Moment ℕ)
 handed_on =
-    at (desk.Waits 1) ∷ at desk.Serves ∷ at (desk.Does 1 desk.Asks) ∷ at (desk.Does 1 (desk.Ends 0)) ∷ at (desk.Comes 1 (whole (row 0 ∷ done ∷ [])) way) ∷ at (desk.Waits 2)
-    ∷ at (desk.Leaves 1 true way) ∷ at (desk.Does 2 desk.Asks) ∷ at (desk.Does 2 (desk.Ends 0)) ∷ at (desk.Comes 1 (whole (row 1 ∷ done ∷ [])) way) ∷ []
+    at (pool.Waits 1) ∷ at pool.Serves ∷ at (pool.Does 1 pool.Asks) ∷ at (pool.Does 1 (pool.Ends 0)) ∷ at (pool.Comes 1 (whole (row 0 ∷ done ∷ [])) way) ∷ at (pool.Waits 2)
+    ∷ at (pool.Leaves 1 true way) ∷ at (pool.Does 2 pool.Asks) ∷ at (pool.Does 2 (pool.Ends 0)) ∷ at (pool.Comes 1 (whole (row 1 ∷ done ∷ [])) way) ∷ []
 
 handed_on_orderly : AllOrderly hands_on 2 counter (new_world counter one) handed_on
 unfolding place_change place_done
@@ -53,17 +53,17 @@ hands_on_refused same =
     (λ e. let u : ⊥ = omega (arith, e) in u) same
 
 -- One by which whoever comes to wait takes over what another holds.
-abbrev takes_over_of : Desk → List Hold → ℕ → Turn
-takes_over_of d [] key = turn d (desk.Waits key)
+abbrev takes_over_of : Pool → List Hold → ℕ → Turn
+takes_over_of d [] key = turn d (pool.Waits key)
 takes_over_of d (h ∷ hs) key = moves d (holding key h.lease h.number ∷ hs) d.line []
 
-abbrev takes_over : Desk → Event → Turn
-takes_over d (desk.Waits key) = takes_over_of d d.holds key
+abbrev takes_over : Pool → Event → Turn
+takes_over d (pool.Waits key) = takes_over_of d d.holds key
 takes_over d event = turn d event
 
 abbrev taken_over : List (Moment ℕ)
 taken_over =
-    at (desk.Waits 1) ∷ at desk.Serves ∷ at (desk.Does 1 desk.Asks) ∷ at (desk.Does 1 (desk.Ends 0)) ∷ at (desk.Waits 2) ∷ at (desk.Comes 1 (whole (row 0 ∷ done ∷ [])) way) ∷ []
+    at (pool.Waits 1) ∷ at pool.Serves ∷ at (pool.Does 1 pool.Asks) ∷ at (pool.Does 1 (pool.Ends 0)) ∷ at (pool.Waits 2) ∷ at (pool.Comes 1 (whole (row 0 ∷ done ∷ [])) way) ∷ []
 
 taken_over_orderly : AllOrderly takes_over 2 counter (new_world counter one) taken_over
 unfolding place_change place_done
@@ -87,12 +87,12 @@ takes_over_refused same =
     (answers_alone counter [] (fresh counter) (asks takes_over 2 counter 0 (new_world counter one) taken_over)) (row 0) (done ∷ []) taken_over_given taken_over_alone same
 
 -- One that doesn't send what is asked to its end.
-abbrev keeps_back : Desk → Event → Turn
-keeps_back d (desk.Does key (desk.Ends count)) = rests d
+abbrev keeps_back : Pool → Event → Turn
+keeps_back d (pool.Does key (pool.Ends count)) = rests d
 keeps_back d event = turn d event
 
 abbrev kept_back : List (Moment ℕ)
-kept_back = at (desk.Waits 1) ∷ at desk.Serves ∷ at (desk.Does 1 desk.Asks) ∷ at (desk.Does 1 (desk.Ends 0)) ∷ []
+kept_back = at (pool.Waits 1) ∷ at pool.Serves ∷ at (pool.Does 1 pool.Asks) ∷ at (pool.Does 1 (pool.Ends 0)) ∷ []
 
 kept_back_orderly : AllOrderly keeps_back 1 counter (new_world counter one) kept_back
 kept_back_orderly =

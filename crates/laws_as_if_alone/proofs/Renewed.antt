@@ -10,9 +10,9 @@ use Rattle.tds_service.specs.Line.{Line, Packet, Stage}
 use Rattle.tds_service.specs.History.{history, line_after}
 use Rattle.tds_service.specs.Service.{on, steps}
 use Rattle.laws_conforming_server.specs.Lawful.{Session, reset_by}
-use Rattle.tds_relay.specs.declared.desk.Hold.{Hold}
-use Rattle.tds_relay.specs.Desk as desk
-use Rattle.tds_relay.specs.Desk.{Event, Turn, find_key, holding, turn}
+use Rattle.tds_relay.specs.declared.pool.Hold.{Hold}
+use Rattle.tds_relay.specs.Pool as pool
+use Rattle.tds_relay.specs.Pool.{Event, Turn, find_key, holding, turn}
 use Rattle.tds_relay.proofs.promises.Caring.{Sound}
 use Rattle.laws_as_if_alone.specs.Serving.{Ask, Resets, End, Moment, Server, World, goes_out, happens, logged_in, packets_in, reset_if, said, takes_all}
 use Rattle.laws_as_if_alone.specs.Alone.{asks_by, given_at, given_in, keeps_by, underway}
@@ -49,22 +49,22 @@ abbrev kept_if : {V : Type 0} → Bool → Option ℕ → List (Ask V)
 kept_if resumes o = if is_some o then (if resumes then Resets KeepTransaction ∷ [] else Resets Full ∷ []) else []
 
 -- what it asks by a renewal, by whether there is a ticket for it
-renews_asks : {V : Type 0} (server : Server V) (key count : ℕ) (w : World V) (resumes : Bool) (m : Moment V) (h : Hold) → m.event ≡ desk.Renews key resumes → find_key key w.desk.holds ≡ Some h
-    → asks_by key server w m count m.event ≡ kept_if {V = V} resumes (ticket_for w.desk h)
+renews_asks : {V : Type 0} (server : Server V) (key count : ℕ) (w : World V) (resumes : Bool) (m : Moment V) (h : Hold) → m.event ≡ pool.Renews key resumes → find_key key w.pool.holds ≡ Some h
+    → asks_by key server w m count m.event ≡ kept_if {V = V} resumes (ticket_for w.pool h)
 renews_asks {V} server key count w resumes m h is f =
-    ap (λ (x : Event). asks_by key server w m count x) is ∙ (let same : (key == key) ≡ true = same_number key in rw same refl) ∙ ap (λ (x : Option Hold). keeps_by {V = V} w.desk resumes x) f
+    ap (λ (x : Event). asks_by key server w m count x) is ∙ (let same : (key == key) ≡ true = same_number key in rw same refl) ∙ ap (λ (x : Option Hold). keeps_by {V = V} w.pool resumes x) f
 
 -- ---- Not kept
 
-unkept_next : {V : Type 0} (server : Server V) (key count : ℕ) (s : Session V) (w : World V) (resumes : Bool) (m : Moment V) (k : Holding server key s w) → m.event ≡ desk.Renews key resumes → Sound w.desk
-    → ticket_for w.desk k.hold ≡ None → turn w.desk (desk.Renews key resumes) ≡ desk.rests w.desk → Next server key count s w m
+unkept_next : {V : Type 0} (server : Server V) (key count : ℕ) (s : Session V) (w : World V) (resumes : Bool) (m : Moment V) (k : Holding server key s w) → m.event ≡ pool.Renews key resumes → Sound w.pool
+    → ticket_for w.pool k.hold ≡ None → turn w.pool (pool.Renews key resumes) ≡ pool.rests w.pool → Next server key count s w m
 unkept_next {V} server key count s w resumes m k is sound none rest =
-    let d = w.desk in
+    let d = w.pool in
     let h = k.hold in
     let c = k.seat in
     let f = found d key h c sound k.its in
-    let t : turn d m.event ≡ desk.rests d = ap (λ (x : Event). turn d x) is ∙ rest in
-    let its2 : Its (turn d m.event).desk key h c = subst (λ (x : Turn). Its x.desk key h c) (sym t) (record { sole = k.its.sole; there = k.its.there; lent = k.its.lent; line = k.its.line }) in
+    let t : turn d m.event ≡ pool.rests d = ap (λ (x : Event). turn d x) is ∙ rest in
+    let its2 : Its (turn d m.event).pool key h c = subst (λ (x : Turn). Its x.pool key h c) (sym t) (record { sole = k.its.sole; there = k.its.there; lent = k.its.lent; line = k.its.line }) in
     let out : goes_out turn d m.event h.number ≡ [] = ap (λ (x : Turn). packets_in (on h.number (steps d.service x.calls))) t in
     let asks : asks_by key server w m count m.event ≡ [] = renews_asks server key count w resumes m h is f ∙ ap (λ (x : Option ℕ). kept_if {V = V} resumes x) none in
     let nothing : given_in key d m.event ≡ [] = ap (λ (x : Event). given_in key d x) is in
@@ -72,17 +72,17 @@ unkept_next {V} server key count s w resumes m k is sound none rest =
 
 -- ---- Kept
 
-kept_next : {V : Type 0} (server : Server V) (key count : ℕ) (s : Session V) (w : World V) (m : Moment V) (k : Holding server key s w) (ticket : ℕ) → m.event ≡ desk.Renews key true → Sound w.desk
-    → ticket_for w.desk k.hold ≡ Some ticket → k.seat.line.stage ≡ line.Idle → IsRelent w.desk key k.hold k.seat true → Next server key count s w m
+kept_next : {V : Type 0} (server : Server V) (key count : ℕ) (s : Session V) (w : World V) (m : Moment V) (k : Holding server key s w) (ticket : ℕ) → m.event ≡ pool.Renews key true → Sound w.pool
+    → ticket_for w.pool k.hold ≡ Some ticket → k.seat.line.stage ≡ line.Idle → IsRelent w.pool key k.hold k.seat true → Next server key count s w m
 kept_next {V} server key count s w m k ticket is sound some idle r =
-    let d = w.desk in
+    let d = w.pool in
     let h = k.hold in
     let c = k.seat in
     let f = found d key h c sound k.its in
     let h2 = holding h.key r.lease c.number in
     let c2 = relent r.lease c in
     let l2 = c2.line in
-    let its2 : Its (turn d m.event).desk key h2 c2 = subst (λ (x : Event). Its (turn d x).desk key h2 c2) (sym is) r.its in
+    let its2 : Its (turn d m.event).pool key h2 c2 = subst (λ (x : Event). Its (turn d x).pool key h2 c2) (sym is) r.its in
     let out : goes_out turn d m.event c.number ≡ [] = ap (λ (x : Event). packets_in (on c.number (steps d.service (turn d x).calls))) is ∙ ap packets_in r.out ∙ marked_quiet c.line idle in
     let number = number_is d key h c sound k.its in
     let e = w.ends h.number in
@@ -97,7 +97,7 @@ kept_next {V} server key count s w m k ticket is sound some idle r =
     let nothing_given : given_in key d m.event ≡ [] = ap (λ (x : Event). given_in key d x) is in
     let before : underway key w ≡ [] = underway_held key w h c line.Idle f k.its.there idle in
     let behind : underway key (happens turn server w m) ≡ [] =
-    underway_held key (happens turn server w m) h2 c2 line.Idle (theirs_found key h2 (turn d m.event).desk.holds its2.sole) its2.there (marked_idle c.line idle) in
+    underway_held key (happens turn server w m) h2 c2 line.Idle (theirs_found key h2 (turn d m.event).pool.holds its2.sole) its2.there (marked_idle c.line idle) in
     record {
       next = s2;
       story = inl (record { hold = h2; seat = c2; its = its2; stands = subst (λ (x : End V). Stands server s2 l2 x) (sym end) stands });
@@ -106,26 +106,26 @@ kept_next {V} server key count s w m k ticket is sound some idle r =
     }
 
 -- Where memory is refused to it, it's closed.
-refused_next : {V : Type 0} (server : Server V) (key count : ℕ) (s : Session V) (w : World V) (m : Moment V) (k : Holding server key s w) (ticket : ℕ) → m.event ≡ desk.Renews key false → Sound w.desk
-    → ticket_for w.desk k.hold ≡ Some ticket → k.seat.line.stage ≡ line.Idle → Gone key (turn w.desk (desk.Renews key false)).desk → Next server key count s w m
+refused_next : {V : Type 0} (server : Server V) (key count : ℕ) (s : Session V) (w : World V) (m : Moment V) (k : Holding server key s w) (ticket : ℕ) → m.event ≡ pool.Renews key false → Sound w.pool
+    → ticket_for w.pool k.hold ≡ Some ticket → k.seat.line.stage ≡ line.Idle → Gone key (turn w.pool (pool.Renews key false)).pool → Next server key count s w m
 refused_next {V} server key count s w m k ticket is sound some idle gone =
-    let d = w.desk in
+    let d = w.pool in
     let h = k.hold in
     let c = k.seat in
-    let there : Gone key (turn d m.event).desk = subst (λ (x : Event). Gone key (turn d x).desk) (sym is) gone in
+    let there : Gone key (turn d m.event).pool = subst (λ (x : Event). Gone key (turn d x).pool) (sym is) gone in
     let asks : asks_by key server w m count m.event ≡ Resets Full ∷ [] =
     renews_asks server key count w false m h is (found d key h c sound k.its) ∙ ap (λ (x : Option ℕ). kept_if {V = V} false x) some in
     let due : given_at c.line.stage (w.ends h.number).due ≡ [] = ap (λ (x : Stage). given_at x (w.ends h.number).due) idle in
     goes_away server key count s w m h c (Resets Full ∷ []) sound k.its there.holds (inl there.waits) asks (ap (λ (x : Event). given_in key d x) is) (refl, (due, refl, refl))
 
-renewed_next : {V : Type 0} (server : Server V) (key count : ℕ) (s : Session V) (w : World V) (resumes : Bool) (m : Moment V) (k : Holding server key s w) → m.event ≡ desk.Renews key resumes → Sound w.desk
-    → Renewed w.desk key k.hold k.seat resumes → Next server key count s w m
+renewed_next : {V : Type 0} (server : Server V) (key count : ℕ) (s : Session V) (w : World V) (resumes : Bool) (m : Moment V) (k : Holding server key s w) → m.event ≡ pool.Renews key resumes → Sound w.pool
+    → Renewed w.pool key k.hold k.seat resumes → Next server key count s w m
 renewed_next server key count s w resumes m k is sound (Rests none rest) = unkept_next server key count s w resumes m k is sound none rest
 renewed_next server key count s w true m k is sound (Lends ticket some given idle lent) = kept_next server key count s w m k ticket is sound some idle lent
 renewed_next server key count s w false m k is sound (Lends ticket some given idle lent) = absurd (let u : ⊥ = cc in u)
 renewed_next server key count s w true m k is sound (Goes ticket some given idle gone) = absurd (let u : ⊥ = cc in u)
 renewed_next server key count s w false m k is sound (Goes ticket some given idle gone) = refused_next server key count s w m k ticket is sound some idle gone
 
-pub renews_next : {V : Type 0} (server : Server V) (key count : ℕ) (s : Session V) (w : World V) (resumes : Bool) (m : Moment V) (k : Holding server key s w) → m.event ≡ desk.Renews key resumes → Sound w.desk
+pub renews_next : {V : Type 0} (server : Server V) (key count : ℕ) (s : Session V) (w : World V) (resumes : Bool) (m : Moment V) (k : Holding server key s w) → m.event ≡ pool.Renews key resumes → Sound w.pool
     → Next server key count s w m
-renews_next server key count s w resumes m k is sound = renewed_next server key count s w resumes m k is sound (renewed w.desk key k.hold k.seat sound k.its resumes)
+renews_next server key count s w resumes m k is sound = renewed_next server key count s w resumes m k is sound (renewed w.pool key k.hold k.seat sound k.its resumes)

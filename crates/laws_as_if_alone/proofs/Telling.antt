@@ -4,8 +4,8 @@ use Rattle.std.specs.Prelude.{Option, nat_lt, if◌then◌else◌}
 use Rattle.tds_packet.specs.declared.status.Reset.{Reset}
 use Rattle.tds_service.specs.Line.{Packet, OfRequest, Ignore, Attention}
 use Rattle.tds_relay.specs.Away.{IsAway, WaitsAway, done_before, done_since}
-use Rattle.tds_relay.specs.Desk as desk
-use Rattle.tds_relay.specs.Desk.{Event, Sharing, desk_after, new_desk, turn}
+use Rattle.tds_relay.specs.Pool as pool
+use Rattle.tds_relay.specs.Pool.{Event, Sharing, pool_after, new_pool, turn}
 use Rattle.tds_relay.specs.Giving.{Visit}
 use Rattle.tds_state.specs.Pasts.{Remark}
 use Rattle.laws_as_if_alone.specs.Alone.{AllOrderly}
@@ -38,15 +38,15 @@ all_told server t (packet ∷ packets) told is =
 
 -- what came leaves the session
 said_session : {V : Type 0} (n : ℕ) (event : Event) (e : End V) → (said n event e).session ≡ e.session
-said_session n (desk.Waits key) e = refl
-said_session n (desk.Unwaits key) e = refl
-said_session n desk.Serves e = refl
-said_session n (desk.Brings gives way) e = refl
-said_session n (desk.Does key deed) e = refl
-said_session n (desk.Leaves key gives way) e = refl
-said_session n (desk.Renews key resumes) e = refl
-said_session n (desk.Comes number part way) e = refl
-said_session n (desk.Loses number) e = refl
+said_session n (pool.Waits key) e = refl
+said_session n (pool.Unwaits key) e = refl
+said_session n pool.Serves e = refl
+said_session n (pool.Brings gives way) e = refl
+said_session n (pool.Does key action) e = refl
+said_session n (pool.Leaves key gives way) e = refl
+said_session n (pool.Renews key resumes) e = refl
+said_session n (pool.Comes number part way) e = refl
+said_session n (pool.Loses number) e = refl
 
 -- one that logs in is in a new session
 logged_by : {V : Type 0} (server : Server V) (b : Bool) (e : End V) (es : List (RoundTrip V)) → session_left server es ≡ e.session
@@ -62,9 +62,9 @@ AllTold server w x = (n : ℕ) → session_left server (x n) ≡ (w.ends n).sess
 behind_told : {V : Type 0} (server : Server V) (w : World V) (x : RoundTrips V) (t : Remarked V) → AllTold server w x
     → AllTold server (happens turn server w (moment_of t)) (trips_after turn server w x t)
 behind_told server w x t told = λ n.
-    let logged = logged_by server (nat_lt w.desk.service.last n) (w.ends n) (x n) (told n) in
-    let heard = said_session n t.event (logged_in server w.desk.service n (w.ends n)) in
-    all_told server t (goes_out turn w.desk t.event n) (told_before server w x t n) (logged ∙ sym heard)
+    let logged = logged_by server (nat_lt w.pool.service.last n) (w.ends n) (x n) (told n) in
+    let heard = said_session n t.event (logged_in server w.pool.service n (w.ends n)) in
+    all_told server t (goes_out turn w.pool t.event n) (told_before server w x t n) (logged ∙ sym heard)
 
 after_told : {V : Type 0} (server : Server V) (w : World V) (x : RoundTrips V) (ts : List (Remarked V)) → AllTold server w x
     → AllTold server (world_after turn server w (moments_of ts)) (all_trips_after turn server w x ts)
@@ -95,7 +95,7 @@ all_fresh server key parks login may w x (t ∷ ts) tells told parked = (
 )
 
 pub alone_where_all_is_told : {V E : Type 0} (server : Server V) (sharing : Sharing) (key : ℕ) (parks : Moment V → Bool) (login : List Remark) (may : E → List (RoundTrip V)) (before since : List (Remarked V))
-    → TellsAll server login may → IsAway key (reached server sharing (moments_of before)).desk
+    → TellsAll server login may → IsAway key (reached server sharing (moments_of before)).pool
     → AllOrderly turn key server (reached server sharing (moments_of before)) (moments_of since)
     → AllParkedAtRest parks turn key server login may (reached server sharing (moments_of before)) (all_trips_after turn server (new_world server sharing) no_trips before) since
     → AsIfUnparked parks turn key server (fresh server) (reached server sharing (moments_of before)) (moments_of since) (world_after turn server (reached server sharing (moments_of before)) (moments_of since))
@@ -105,7 +105,7 @@ alone_where_all_is_told server sharing key parks login may before since tells aw
     (all_fresh server key parks login may (reached server sharing (moments_of before)) (all_trips_after turn server (new_world server sharing) no_trips before) since tells told parked)
 
 pub told_in_visits : {V E : Type 0} (server : Server V) (login : List Remark) (may : E → List (RoundTrip V)) (sharing : Sharing) (key : ℕ) (parks : Moment V → Bool) (v : Visit sharing key) (ms : Moments V v) (before since : List (Remarked V))
-    → IsAway key (desk_after (new_desk sharing) (done_before v)) → WaitsAway key (desk_after (new_desk sharing) (done_before v)) (done_since v)
+    → IsAway key (pool_after (new_pool sharing) (done_before v)) → WaitsAway key (pool_after (new_pool sharing) (done_before v)) (done_since v)
     → moments_of before ≡ ms.before → moments_of since ≡ ms.since → TellsAll server login may
     → AllSaid turn key server (world_in server ms) ms.since
     → AllParkedAtRest parks turn key server login may (world_in server ms) (all_trips_after turn server (new_world server sharing) no_trips before) since

@@ -10,10 +10,10 @@ use Rattle.tds_service.specs.Line as line
 use Rattle.tds_service.specs.Line.{Stage}
 use Rattle.tds_service.specs.Service.{Seat}
 use Rattle.laws_conforming_server.specs.Lawful.{Session, reset_by}
-use Rattle.tds_relay.specs.declared.desk.Hold.{Hold}
+use Rattle.tds_relay.specs.declared.pool.Hold.{Hold}
 use Rattle.tds_relay.specs.Away.{IsAway}
-use Rattle.tds_relay.specs.Desk as desk
-use Rattle.tds_relay.specs.Desk.{Event, Sharing, find_key, new_desk, turn}
+use Rattle.tds_relay.specs.Pool as pool
+use Rattle.tds_relay.specs.Pool.{Event, Sharing, find_key, new_pool, turn}
 use Rattle.tds_relay.specs.Promises.{comes_to_wait}
 use Rattle.tds_relay.proofs.promises.Caring.{Sound}
 use Rattle.tds_relay.proofs.promises.Bringing.{always_sound, turn_sound}
@@ -30,54 +30,54 @@ use Rattle.laws_as_if_alone.proofs.Away.{away_next}
 
 -- ---- One moment
 
-module _ {V : Type 0} (server : Server V) (key count : ℕ) (s : Session V) (w : World V) (m : Moment V) (k : Holding server key s w) (sound : Sound w.desk) (sit : AllSit w.desk) (orderly : IsOrderly key w m) where
+module _ {V : Type 0} (server : Server V) (key count : ℕ) (s : Session V) (w : World V) (m : Moment V) (k : Holding server key s w) (sound : Sound w.pool) (sit : AllSit w.pool) (orderly : IsOrderly key w m) where
   of_others : (event : Event) → m.event ≡ event → IsOthers key k.hold.number event → Next server key count s w m
   of_others event is h = others_next server key count s w m k sound sit (subst (λ (x : Event). IsOthers key k.hold.number x) (sym is) h)
 
-  waits_by : (other : ℕ) (b : Bool) → (other == key) ≡ b → m.event ≡ desk.Waits other → Next server key count s w m
+  waits_by : (other : ℕ) (b : Bool) → (other == key) ≡ b → m.event ≡ pool.Waits other → Next server key count s w m
   waits_by other true e is =
       let same : other ≡ key = eqb-true other key e in
-      let away : IsAway key w.desk = orderly.waits (ap comes_to_wait is ∙ ap (λ (x : ℕ). x ∷ []) same) in
-      let here : find_key key w.desk.holds ≡ Some k.hold = found w.desk key k.hold k.seat sound k.its in
+      let away : IsAway key w.pool = orderly.waits (ap comes_to_wait is ∙ ap (λ (x : ℕ). x ∷ []) same) in
+      let here : find_key key w.pool.holds ≡ Some k.hold = found w.pool key k.hold k.seat sound k.its in
       absurd (let u : None ≡ Some k.hold = sym away.holds ∙ here in let v : ⊥ = cc in v)
-  waits_by other false e is = of_others (desk.Waits other) is e
+  waits_by other false e is = of_others (pool.Waits other) is e
 
-  does_by : (other : ℕ) (deed : desk.Deed) (b : Bool) → (other == key) ≡ b → m.event ≡ desk.Does other deed → Next server key count s w m
-  does_by other deed true e is = does_next server key count s w deed m k (is ∙ ap (λ (x : ℕ). desk.Does x deed) (eqb-true other key e)) sound
-  does_by other deed false e is = of_others (desk.Does other deed) is e
+  does_by : (other : ℕ) (action : pool.Action) (b : Bool) → (other == key) ≡ b → m.event ≡ pool.Does other action → Next server key count s w m
+  does_by other action true e is = does_next server key count s w action m k (is ∙ ap (λ (x : ℕ). pool.Does x action) (eqb-true other key e)) sound
+  does_by other action false e is = of_others (pool.Does other action) is e
 
-  leaves_by : (other : ℕ) (gives : Bool) (way : desk.Way) (b : Bool) → (other == key) ≡ b → m.event ≡ desk.Leaves other gives way → Next server key count s w m
-  leaves_by other gives way true e is = leaves_next server key count s w gives way m k (is ∙ ap (λ (x : ℕ). desk.Leaves x gives way) (eqb-true other key e)) sound
-  leaves_by other gives way false e is = of_others (desk.Leaves other gives way) is e
+  leaves_by : (other : ℕ) (gives : Bool) (way : pool.Way) (b : Bool) → (other == key) ≡ b → m.event ≡ pool.Leaves other gives way → Next server key count s w m
+  leaves_by other gives way true e is = leaves_next server key count s w gives way m k (is ∙ ap (λ (x : ℕ). pool.Leaves x gives way) (eqb-true other key e)) sound
+  leaves_by other gives way false e is = of_others (pool.Leaves other gives way) is e
 
-  renews_by : (other : ℕ) (resumes : Bool) (b : Bool) → (other == key) ≡ b → m.event ≡ desk.Renews other resumes → Next server key count s w m
-  renews_by other resumes true e is = renews_next server key count s w resumes m k (is ∙ ap (λ (x : ℕ). desk.Renews x resumes) (eqb-true other key e)) sound
-  renews_by other resumes false e is = of_others (desk.Renews other resumes) is e
+  renews_by : (other : ℕ) (resumes : Bool) (b : Bool) → (other == key) ≡ b → m.event ≡ pool.Renews other resumes → Next server key count s w m
+  renews_by other resumes true e is = renews_next server key count s w resumes m k (is ∙ ap (λ (x : ℕ). pool.Renews x resumes) (eqb-true other key e)) sound
+  renews_by other resumes false e is = of_others (pool.Renews other resumes) is e
 
-  comes_by : (number : ℕ) (part : Part Token) (way : desk.Way) (b : Bool) → (k.hold.number == number) ≡ b → m.event ≡ desk.Comes number part way → Next server key count s w m
+  comes_by : (number : ℕ) (part : Part Token) (way : pool.Way) (b : Bool) → (k.hold.number == number) ≡ b → m.event ≡ pool.Comes number part way → Next server key count s w m
   comes_by number part way true e is =
-      comes_next server key count s w part way m k (is ∙ ap (λ (x : ℕ). desk.Comes x part way) (sym (eqb-true k.hold.number number e))) sound orderly
-  comes_by number part way false e is = of_others (desk.Comes number part way) is e
+      comes_next server key count s w part way m k (is ∙ ap (λ (x : ℕ). pool.Comes x part way) (sym (eqb-true k.hold.number number e))) sound orderly
+  comes_by number part way false e is = of_others (pool.Comes number part way) is e
 
-  loses_by : (number : ℕ) (b : Bool) → (k.hold.number == number) ≡ b → m.event ≡ desk.Loses number → Next server key count s w m
-  loses_by number true e is = loses_next server key count s w m k (is ∙ ap (λ (x : ℕ). desk.Loses x) (sym (eqb-true k.hold.number number e))) sound
-  loses_by number false e is = of_others (desk.Loses number) is e
+  loses_by : (number : ℕ) (b : Bool) → (k.hold.number == number) ≡ b → m.event ≡ pool.Loses number → Next server key count s w m
+  loses_by number true e is = loses_next server key count s w m k (is ∙ ap (λ (x : ℕ). pool.Loses x) (sym (eqb-true k.hold.number number e))) sound
+  loses_by number false e is = of_others (pool.Loses number) is e
 
   held_by : (event : Event) → m.event ≡ event → Next server key count s w m
-  held_by (desk.Waits other) is = waits_by other (other == key) refl is
-  held_by (desk.Unwaits other) is = of_others (desk.Unwaits other) is tt
-  held_by desk.Serves is = of_others desk.Serves is tt
-  held_by (desk.Brings gives way) is = of_others (desk.Brings gives way) is tt
-  held_by (desk.Does other deed) is = does_by other deed (other == key) refl is
-  held_by (desk.Leaves other gives way) is = leaves_by other gives way (other == key) refl is
-  held_by (desk.Renews other resumes) is = renews_by other resumes (other == key) refl is
-  held_by (desk.Comes number part way) is = comes_by number part way (k.hold.number == number) refl is
-  held_by (desk.Loses number) is = loses_by number (k.hold.number == number) refl is
+  held_by (pool.Waits other) is = waits_by other (other == key) refl is
+  held_by (pool.Unwaits other) is = of_others (pool.Unwaits other) is tt
+  held_by pool.Serves is = of_others pool.Serves is tt
+  held_by (pool.Brings gives way) is = of_others (pool.Brings gives way) is tt
+  held_by (pool.Does other action) is = does_by other action (other == key) refl is
+  held_by (pool.Leaves other gives way) is = leaves_by other gives way (other == key) refl is
+  held_by (pool.Renews other resumes) is = renews_by other resumes (other == key) refl is
+  held_by (pool.Comes number part way) is = comes_by number part way (k.hold.number == number) refl is
+  held_by (pool.Loses number) is = loses_by number (k.hold.number == number) refl is
 
   held_next : Next server key count s w m
   held_next = held_by m.event refl
 
-pub one_moment : {V : Type 0} (server : Server V) (key count : ℕ) (s : Session V) (w : World V) (m : Moment V) → Story server key s w → Sound w.desk → AllSit w.desk → IsOrderly key w m → Next server key count s w m
+pub one_moment : {V : Type 0} (server : Server V) (key count : ℕ) (s : Session V) (w : World V) (m : Moment V) → Story server key s w → Sound w.pool → AllSit w.pool → IsOrderly key w m → Next server key count s w m
 one_moment server key count s w m (inl k) sound sit orderly = held_next server key count s w m k sound sit orderly
 one_moment server key count s w m (inr x) sound sit orderly = away_next server key count s w m x sound orderly
 
@@ -132,42 +132,42 @@ then_more {V} server count s next said before items began behind (ask ∷ []) as
     asks_one server count s next said before items began behind ask asked is h.0 h.1 (more [] refl)
 then_more {V} server count s next said before items began behind (ask ∷ another ∷ now) asked is h more = absurd h
 
-told : {V : Type 0} (server : Server V) (key count : ℕ) (s : Session V) (w : World V) (ms : List (Moment V)) (said : List (Item Token)) → length said ≡ count → Story server key s w → Sound w.desk
-    → AllSit w.desk → AllOrderly turn key server w ms
+told : {V : Type 0} (server : Server V) (key count : ℕ) (s : Session V) (w : World V) (ms : List (Moment V)) (said : List (Item Token)) → length said ≡ count → Story server key s w → Sound w.pool
+    → AllSit w.pool → AllOrderly turn key server w ms
     → Goes server said (underway key w) s (asks turn key server count w ms) (given turn key server w ms ++ underway key (world_after turn server w ms))
 told server key count s w [] said is story sound sit orderly = refl
 told {V} server key count s w (m ∷ ms) said is story sound sit orderly =
     let n = one_moment server key count s w m story sound sit orderly.0 in
     let w2 = happens turn server w m in
     let now = asks_by key server w m count m.event in
-    let items = given_in key w.desk m.event in
+    let items = given_in key w.pool m.event in
     let count2 = count_behind count now items in
     let behind = given turn key server w2 ms ++ underway key (world_after turn server w2 ms) in
     then_more server count s n.next said (underway key w) items (underway key w2) behind now (asks turn key server count2 w2 ms) is n.follows
-    (λ more size. told server key count2 n.next w2 ms more size n.story (turn_sound w.desk m.event sound) (turn_sits w.desk sound sit m.event) orderly.1)
+    (λ more size. told server key count2 n.next w2 ms more size n.story (turn_sound w.pool m.event sound) (turn_sits w.pool sound sit m.event) orderly.1)
     ∙ ap (λ (x : List (Item Token)). said ++ x) (sym (joined items (given turn key server w2 ms) (underway key (world_after turn server w2 ms))))
 
 abbrev Holds : {V : Type 0} → World V → Type 0
-Holds w = Sound w.desk × AllSit w.desk
+Holds w = Sound w.pool × AllSit w.pool
 
 all_hold : {V : Type 0} (server : Server V) (w : World V) (ms : List (Moment V)) → Holds w → Holds (world_after turn server w ms)
 all_hold server w [] h = h
-all_hold server w (m ∷ ms) h = all_hold server (happens turn server w m) ms (turn_sound w.desk m.event h.0, turn_sits w.desk h.0 h.1 m.event)
+all_hold server w (m ∷ ms) h = all_hold server (happens turn server w m) ms (turn_sound w.pool m.event h.0, turn_sits w.pool h.0 h.1 m.event)
 
 pub reached_holds : {V : Type 0} (server : Server V) (sharing : Sharing) (before : List (Moment V)) → Holds (reached server sharing before)
 reached_holds server sharing before = all_hold server (new_world server sharing) before (always_sound sharing [], tt)
 
-pub as_if_alone : {V : Type 0} (server : Server V) (sharing : Sharing) (key : ℕ) (before moments : List (Moment V)) → IsAway key (reached server sharing before).desk
+pub as_if_alone : {V : Type 0} (server : Server V) (sharing : Sharing) (key : ℕ) (before moments : List (Moment V)) → IsAway key (reached server sharing before).pool
     → AllOrderly turn key server (reached server sharing before) moments
     → AsIfAlone turn key server (fresh server) (reached server sharing before) moments (world_after turn server (reached server sharing before) moments)
 as_if_alone {V} server sharing key before moments away uncut =
     let w = reached server sharing before in
-    let none = none_theirs key w.desk.holds away.holds in
+    let none = none_theirs key w.pool.holds away.holds in
     let story : Story server key (fresh server) w = inr (record { none = none; session = refl; once = inl away.waits }) in
     let all = told server key 0 (fresh server) w moments [] refl story (reached_holds server sharing before).0 (reached_holds server sharing before).1 uncut in
     sym all ∙ ap (λ (x : List (Item Token)). answers_alone server x (fresh server) (asks turn key server 0 w moments)) (underway_none key w none)
 
-pub goes_on : {V : Type 0} (server : Server V) (sharing : Sharing) (key : ℕ) (before moments : List (Moment V)) (h : Hold) (c : Seat) → IsAtRest key (reached server sharing before).desk h c
+pub goes_on : {V : Type 0} (server : Server V) (sharing : Sharing) (key : ℕ) (before moments : List (Moment V)) (h : Hold) (c : Seat) → IsAtRest key (reached server sharing before).pool h c
     → AllOrderly turn key server (reached server sharing before) moments
     → AsIfAlone turn key server (found_next server (reached server sharing before) h c) (reached server sharing before) moments (world_after turn server (reached server sharing before) moments)
 goes_on {V} server sharing key before moments h c rest uncut =
@@ -175,15 +175,15 @@ goes_on {V} server sharing key before moments h c rest uncut =
     let s = found_next server w h c in
     let idle : StandsAt server s line.Idle c.line.heard.mark (w.ends h.number) = refl in
     let stands : Stands server s c.line (w.ends h.number) = subst (λ (x : Stage). StandsAt server s x c.line.heard.mark (w.ends h.number)) (sym rest.idle) idle in
-    let its : Its w.desk key h c = record { sole = rest.holds; there = rest.there; lent = rest.lent; line = rest.waits } in
+    let its : Its w.pool key h c = record { sole = rest.holds; there = rest.there; lent = rest.lent; line = rest.waits } in
     let sound = (reached_holds server sharing before).0 in
     let story : Story server key s w = inl (record { hold = h; seat = c; its = its; stands = stands }) in
     let all = told server key 0 s w moments [] refl story sound (reached_holds server sharing before).1 uncut in
-    let nothing : underway key w ≡ [] = underway_held key w h c line.Idle (found w.desk key h c sound its) rest.there rest.idle in
+    let nothing : underway key w ≡ [] = underway_held key w h c line.Idle (found w.pool key h c sound its) rest.there rest.idle in
     sym all ∙ ap (λ (x : List (Item Token)). answers_alone server x s (asks turn key server 0 w moments)) nothing
 
 -- Whoever shares with it, it's given the same where it asks the same.
-pub given_alike : {V : Type 0} (server : Server V) (sharing alike : Sharing) (key other : ℕ) (before there moments others : List (Moment V)) → IsAway key (reached server sharing before).desk → IsAway other (reached server alike there).desk
+pub given_alike : {V : Type 0} (server : Server V) (sharing alike : Sharing) (key other : ℕ) (before there moments others : List (Moment V)) → IsAway key (reached server sharing before).pool → IsAway other (reached server alike there).pool
     → AllOrderly turn key server (reached server sharing before) moments → AllOrderly turn other server (reached server alike there) others
     → asks turn key server 0 (reached server sharing before) moments ≡ asks turn other server 0 (reached server alike there) others
     → given turn key server (reached server sharing before) moments ++ underway key (world_after turn server (reached server sharing before) moments)

@@ -9,9 +9,9 @@ use Rattle.tds_service.specs.Line as line
 use Rattle.tds_service.specs.Line.{Stage}
 use Rattle.tds_service.specs.Service.{Seat, seat_numbered}
 use Rattle.laws_conforming_server.specs.Lawful.{Session}
-use Rattle.tds_relay.specs.declared.desk.Hold.{Hold}
+use Rattle.tds_relay.specs.declared.pool.Hold.{Hold}
 use Rattle.tds_relay.specs.Away.{IsAway}
-use Rattle.tds_relay.specs.Desk.{Sharing, find_key, turn}
+use Rattle.tds_relay.specs.Pool.{Sharing, find_key, turn}
 use Rattle.tds_relay.proofs.held.Lists.{none_theirs, theirs_found}
 use Rattle.tds_relay.proofs.held.Seated.{AllSit, turn_sits}
 use Rattle.tds_relay.proofs.promises.Bringing.{turn_sound}
@@ -26,8 +26,8 @@ use Rattle.laws_as_if_alone.proofs.Told.{Goes, joined, one_moment, reached_holds
 -- ---- In which session it is parked
 
 module _ {V : Type 0} (server : Server V) (key : ℕ) (s : Session V) (w : World V) (m : Moment V) (p : IsParkedFresh key server w m) where
-  its_hold : find_key key w.desk.holds ≡ Some p.hold
-  its_hold = theirs_found key p.hold w.desk.holds p.rests.holds
+  its_hold : find_key key w.pool.holds ≡ Some p.hold
+  its_hold = theirs_found key p.hold w.pool.holds p.rests.holds
 
   by_stage : (c : Seat) (e : End V) → c.line.stage ≡ line.Idle → StandsAt server s c.line.stage c.line.heard.mark e → StandsAt server s line.Idle c.line.heard.mark e
   by_stage c e idle stands = subst (λ (x : Stage). StandsAt server s x c.line.heard.mark e) idle stands
@@ -35,7 +35,7 @@ module _ {V : Type 0} (server : Server V) (key : ℕ) (s : Session V) (w : World
   in_session : Story server key s w → s ≡ fresh server
   in_session (inl k) =
       let hold : k.hold ≡ p.hold = (let u : k.hold ∷ [] ≡ p.hold ∷ [] = sym k.its.sole ∙ p.rests.holds in cc) in
-      let there : Some k.seat ≡ Some p.seat = sym k.its.there ∙ ap (λ (h : Hold). seat_numbered h.number w.desk.service.seats) hold ∙ p.rests.there in
+      let there : Some k.seat ≡ Some p.seat = sym k.its.there ∙ ap (λ (h : Hold). seat_numbered h.number w.pool.service.seats) hold ∙ p.rests.there in
       let seat : k.seat ≡ p.seat = cc in
       let one : Stands server s k.seat.line (w.ends p.hold.number) = subst (λ (h : Hold). Stands server s k.seat.line (w.ends h.number)) hold k.stands in
       let two : Stands server s p.seat.line (w.ends p.hold.number) = subst (λ (c : Seat). Stands server s c.line (w.ends p.hold.number)) seat one in
@@ -47,11 +47,11 @@ module _ {V : Type 0} (server : Server V) (key : ℕ) (s : Session V) (w : World
 
   asks_reset : (count : ℕ) → asks_by key server w m count m.event ≡ Resets Full ∷ []
   asks_reset count =
-      let at : asks_by key server w m count m.event ≡ (if key == key then ends_by w.desk count (find_key key w.desk.holds) else []) = ap (asks_by key server w m count) p.leaves in
-      let own : (if key == key then ends_by {V = V} w.desk count (find_key key w.desk.holds) else []) ≡ ends_by w.desk count (find_key key w.desk.holds) =
-      ap (λ (b : Bool). if b then ends_by {V = V} w.desk count (find_key key w.desk.holds) else []) (eq-eqb key key refl) in
-      let held : ends_by {V = V} w.desk count (find_key key w.desk.holds) ≡ ends_at count (line_at (seat_numbered p.hold.number w.desk.service.seats)).stage = ap (ends_by w.desk count) its_hold in
-      let seated : ends_at {V = V} count (line_at (seat_numbered p.hold.number w.desk.service.seats)).stage ≡ ends_at count p.seat.line.stage = ap (λ (o : Option Seat). ends_at count (line_at o).stage) p.rests.there in
+      let at : asks_by key server w m count m.event ≡ (if key == key then ends_by w.pool count (find_key key w.pool.holds) else []) = ap (asks_by key server w m count) p.leaves in
+      let own : (if key == key then ends_by {V = V} w.pool count (find_key key w.pool.holds) else []) ≡ ends_by w.pool count (find_key key w.pool.holds) =
+      ap (λ (b : Bool). if b then ends_by {V = V} w.pool count (find_key key w.pool.holds) else []) (eq-eqb key key refl) in
+      let held : ends_by {V = V} w.pool count (find_key key w.pool.holds) ≡ ends_at count (line_at (seat_numbered p.hold.number w.pool.service.seats)).stage = ap (ends_by w.pool count) its_hold in
+      let seated : ends_at {V = V} count (line_at (seat_numbered p.hold.number w.pool.service.seats)).stage ≡ ends_at count p.seat.line.stage = ap (λ (o : Option Seat). ends_at count (line_at o).stage) p.rests.there in
       at ∙ own ∙ held ∙ seated ∙ ap (ends_at count) p.rests.idle
 
   -- so nothing is asked by it
@@ -65,32 +65,32 @@ module _ {V : Type 0} (server : Server V) (key : ℕ) (s : Session V) (w : World
 -- ---- All of them
 
 asked_so : {V : Type 0} (server : Server V) (key count : ℕ) (s : Session V) (w : World V) (m : Moment V) (parks : Moment V → Bool) (b : Bool) → parks m ≡ b → Story server key s w → (parks m ≡ true → IsParkedFresh key server w m)
-    → (n : Next server key count s w m) → Follows server count s (underway key w) (if b then [] else asks_by key server w m count m.event) (given_in key w.desk m.event) n.next (underway key (happens turn server w m))
-asked_so server key count s w m parks true e story fresh n = parked server key s w m (fresh e) count n.next (given_in key w.desk m.event) (underway key (happens turn server w m)) story n.follows
+    → (n : Next server key count s w m) → Follows server count s (underway key w) (if b then [] else asks_by key server w m count m.event) (given_in key w.pool m.event) n.next (underway key (happens turn server w m))
+asked_so server key count s w m parks true e story fresh n = parked server key s w m (fresh e) count n.next (given_in key w.pool m.event) (underway key (happens turn server w m)) story n.follows
 asked_so server key count s w m parks false e story fresh n = n.follows
 
-told : {V : Type 0} (server : Server V) (key count : ℕ) (parks : Moment V → Bool) (s : Session V) (w : World V) (ms : List (Moment V)) (said : List (Item Token)) → length said ≡ count → Story server key s w → Sound w.desk
-    → AllSit w.desk → AllOrderly turn key server w ms → AllParkedFresh parks turn key server w ms
+told : {V : Type 0} (server : Server V) (key count : ℕ) (parks : Moment V → Bool) (s : Session V) (w : World V) (ms : List (Moment V)) (said : List (Item Token)) → length said ≡ count → Story server key s w → Sound w.pool
+    → AllSit w.pool → AllOrderly turn key server w ms → AllParkedFresh parks turn key server w ms
     → Goes server said (underway key w) s (asks_but parks turn key server count w ms) (given turn key server w ms ++ underway key (world_after turn server w ms))
 told server key count parks s w [] said is story sound sit orderly fresh = refl
 told {V} server key count parks s w (m ∷ ms) said is story sound sit orderly fresh =
     let n = one_moment server key count s w m story sound sit orderly.0 in
     let w2 = happens turn server w m in
     let now = asks_in parks key server w m count in
-    let items = given_in key w.desk m.event in
+    let items = given_in key w.pool m.event in
     let count2 = count_behind count now items in
     let behind = given turn key server w2 ms ++ underway key (world_after turn server w2 ms) in
     then_more server count s n.next said (underway key w) items (underway key w2) behind now (asks_but parks turn key server count2 w2 ms) is
     (asked_so server key count s w m parks (parks m) refl story fresh.0 n)
-    (λ more size. told server key count2 parks n.next w2 ms more size n.story (turn_sound w.desk m.event sound) (turn_sits w.desk sound sit m.event) orderly.1 fresh.1)
+    (λ more size. told server key count2 parks n.next w2 ms more size n.story (turn_sound w.pool m.event sound) (turn_sits w.pool sound sit m.event) orderly.1 fresh.1)
     ∙ ap (λ (x : List (Item Token)). said ++ x) (sym (joined items (given turn key server w2 ms) (underway key (world_after turn server w2 ms))))
 
-pub alone_by_turns : {V : Type 0} (server : Server V) (sharing : Sharing) (key : ℕ) (parks : Moment V → Bool) (before moments : List (Moment V)) → IsAway key (reached server sharing before).desk
+pub alone_by_turns : {V : Type 0} (server : Server V) (sharing : Sharing) (key : ℕ) (parks : Moment V → Bool) (before moments : List (Moment V)) → IsAway key (reached server sharing before).pool
     → AllOrderly turn key server (reached server sharing before) moments → AllParkedFresh parks turn key server (reached server sharing before) moments
     → AsIfUnparked parks turn key server (fresh server) (reached server sharing before) moments (world_after turn server (reached server sharing before) moments)
 alone_by_turns {V} server sharing key parks before moments away uncut all =
     let w = reached server sharing before in
-    let none = none_theirs key w.desk.holds away.holds in
+    let none = none_theirs key w.pool.holds away.holds in
     let story : Story server key (fresh server) w = inr (record { none = none; session = refl; once = inl away.waits }) in
     let holds = reached_holds server sharing before in
     let so = told server key 0 parks (fresh server) w moments [] refl story holds.0 holds.1 uncut all in

@@ -10,8 +10,8 @@ use Rattle.tds_service.specs.Line.{Packet, OfRequest, Ignore, Attention}
 use Rattle.tds_service.specs.History.{Done}
 use Rattle.tds_service.specs.Service.{Service, on, steps}
 use Rattle.laws_conforming_server.specs.Lawful.{Session, reset_by}
-use Rattle.tds_relay.specs.Desk as desk
-use Rattle.tds_relay.specs.Desk.{Desk, Event, Sharing, Turn, new_desk, turn}
+use Rattle.tds_relay.specs.Pool as pool
+use Rattle.tds_relay.specs.Pool.{Pool, Event, Sharing, Turn, new_pool, turn}
 
 -- What a request is answered, and the session that it leaves.
 pub record Served (V : Type 0) : Type 0 where
@@ -86,7 +86,7 @@ serves server request reset s = record {
   due = told_if server reset (request (reset_if server reset s)).items;
 }
 
--- What happens at the desk; what the request does whose last packet goes out in it, an application's or a cleaning's; and the session
+-- What happens at the pool; what the request does whose last packet goes out in it, an application's or a cleaning's; and the session
 -- that an attention leaves which goes out in it: any.
 pub record Moment (V : Type 0) : Type 0 where
   pub event : Event
@@ -110,34 +110,34 @@ logged_in server s n e = if nat_lt s.last n then new_end server else e
 
 -- What came was said.
 abbrev pub said : {V : Type 0} → ℕ → Event → End V → End V
-said n (desk.Comes number part way) e =
+said n (pool.Comes number part way) e =
     record { session = e.session; reset = e.reset; due = if number == n then drop (length part.items) e.due else e.due }
 said n event e = e
 
--- ---- A desk, with a server's end of each connection, by its number
+-- ---- A pool, with a server's end of each connection, by its number
 
 pub record World (V : Type 0) : Type 0 where
-  pub desk : Desk
+  pub pool : Pool
   pub ends : ℕ → End V
 
 abbrev pub new_world : {V : Type 0} → Server V → Sharing → World V
-new_world server sharing = record { desk = new_desk sharing; ends = λ n. new_end server }
+new_world server sharing = record { pool = new_pool sharing; ends = λ n. new_end server }
 
 abbrev pub packets_in : List (Done Token) → List Packet
 packets_in [] = []
 packets_in (d ∷ ds) = d.sent ++ packets_in ds
 
--- What goes out on a connection. What a desk does is a parameter, so that other desks can be tried.
-abbrev pub goes_out : (Desk → Event → Turn) → Desk → Event → ℕ → List Packet
+-- What goes out on a connection. What a pool does is a parameter, so that other pools can be tried.
+abbrev pub goes_out : (Pool → Event → Turn) → Pool → Event → ℕ → List Packet
 goes_out turns d event n = packets_in (on n (steps d.service (turns d event).calls))
 
-abbrev pub happens : {V : Type 0} → (Desk → Event → Turn) → Server V → World V → Moment V → World V
+abbrev pub happens : {V : Type 0} → (Pool → Event → Turn) → Server V → World V → Moment V → World V
 happens turns server w m = record {
-  desk = (turns w.desk m.event).desk;
-  ends = λ n. takes_all server m (goes_out turns w.desk m.event n) (said n m.event (logged_in server w.desk.service n (w.ends n)));
+  pool = (turns w.pool m.event).pool;
+  ends = λ n. takes_all server m (goes_out turns w.pool m.event n) (said n m.event (logged_in server w.pool.service n (w.ends n)));
 }
 
-abbrev pub world_after : {V : Type 0} → (Desk → Event → Turn) → Server V → World V → List (Moment V) → World V
+abbrev pub world_after : {V : Type 0} → (Pool → Event → Turn) → Server V → World V → List (Moment V) → World V
 world_after turns server w [] = w
 world_after turns server w (m ∷ ms) = world_after turns server (happens turns server w m) ms
 

@@ -4,9 +4,9 @@ use Rattle.tds_packet.specs.declared.status.Reset.{Reset}
 use Rattle.tds_service.specs.Line.{Packet, OfRequest, Ignore, Attention}
 use Rattle.tds_service.specs.Service.{Seat, Service}
 use Rattle.laws_conforming_server.specs.Lawful.{Session}
-use Rattle.tds_relay.specs.declared.desk.Hold.{Hold}
-use Rattle.tds_relay.specs.Desk as desk
-use Rattle.tds_relay.specs.Desk.{Desk, Event, Turn, Way}
+use Rattle.tds_relay.specs.declared.pool.Hold.{Hold}
+use Rattle.tds_relay.specs.Pool as pool
+use Rattle.tds_relay.specs.Pool.{Pool, Event, Turn, Way}
 use Rattle.tds_state.specs.declared.asked.Request as asked
 use Rattle.tds_state.specs.Pasts.{Remark, Begins, Goes, Cancels, session_said}
 use Rattle.tds_state.specs.Sessions.{session_rests}
@@ -110,12 +110,12 @@ abbrev pub since_login : {V : Type 0} → Service → ℕ → List (RoundTrip V)
 since_login s n es = if nat_lt s.last n then [] else es
 
 abbrev pub told_before : {V : Type 0} → Server V → World V → RoundTrips V → Remarked V → ℕ → RemarkedEnd V
-told_before server w x t n = record { end = said n t.event (logged_in server w.desk.service n (w.ends n)); trips = since_login w.desk.service n (x n) }
+told_before server w x t n = record { end = said n t.event (logged_in server w.pool.service n (w.ends n)); trips = since_login w.pool.service n (x n) }
 
-abbrev pub trips_after : {V : Type 0} → (Desk → Event → Turn) → Server V → World V → RoundTrips V → Remarked V → RoundTrips V
-trips_after turns server w x t = λ n. (hears_all server t (goes_out turns w.desk t.event n) (told_before server w x t n)).trips
+abbrev pub trips_after : {V : Type 0} → (Pool → Event → Turn) → Server V → World V → RoundTrips V → Remarked V → RoundTrips V
+trips_after turns server w x t = λ n. (hears_all server t (goes_out turns w.pool t.event n) (told_before server w x t n)).trips
 
-abbrev pub all_trips_after : {V : Type 0} → (Desk → Event → Turn) → Server V → World V → RoundTrips V → List (Remarked V) → RoundTrips V
+abbrev pub all_trips_after : {V : Type 0} → (Pool → Event → Turn) → Server V → World V → RoundTrips V → List (Remarked V) → RoundTrips V
 all_trips_after turns server w x [] = x
 all_trips_after turns server w x (t ∷ ts) = all_trips_after turns server (happens turns server w (moment_of t)) (trips_after turns server w x t) ts
 
@@ -126,17 +126,17 @@ no_trips = λ n. []
 pub record IsParkedAtRest {V E : Type 0} (key : ℕ) (server : Server V) (login : List Remark) (may : E → List (RoundTrip V)) (w : World V) (x : RoundTrips V) (event : Event) : Type 0 where
   pub gives : Bool
   pub way : Way
-  pub leaves : event ≡ desk.Leaves key gives way
+  pub leaves : event ≡ pool.Leaves key gives way
   pub hold : Hold
   pub seat : Seat
-  pub rests : IsAtRest key w.desk hold seat
+  pub rests : IsAtRest key w.pool hold seat
   pub unmarked : seat.line.heard.mark ≡ None
   pub since : E
   pub there : x hold.number ≡ may since
   pub told : lets_rest (saying_of server login (may since)).all ≡ true
 
 -- So it is in each moment in which it is parked.
-abbrev pub AllParkedAtRest : {V E : Type 0} → (Moment V → Bool) → (Desk → Event → Turn) → ℕ → Server V → List Remark → (E → List (RoundTrip V)) → World V → RoundTrips V → List (Remarked V) → Type 0
+abbrev pub AllParkedAtRest : {V E : Type 0} → (Moment V → Bool) → (Pool → Event → Turn) → ℕ → Server V → List Remark → (E → List (RoundTrip V)) → World V → RoundTrips V → List (Remarked V) → Type 0
 AllParkedAtRest parks turns key server login may w x [] = Unit {0}
 AllParkedAtRest parks turns key server login may w x (t ∷ ts) =
     (parks (moment_of t) ≡ true → IsParkedAtRest key server login may w x t.event)

@@ -2,16 +2,16 @@
 //! contract is the law.
 ghost use Rattle.std.specs.Prelude.{◌≡◌, ◌++◌, ℕ, Bool, List};
 ghost use Rattle.tds_service.specs.Service.{Seat};
-ghost use Rattle.tds_relay.specs.declared.desk.Hold.{Hold};
+ghost use Rattle.tds_relay.specs.declared.pool.Hold.{Hold};
 ghost use Rattle.tds_relay.specs.Away.{IsAway};
-ghost use Rattle.tds_relay.specs.Desk.{Sharing, turn};
-ghost use Rattle.tds_relay.specs.Giving.{ReadVisit, Visit, house_in};
+ghost use Rattle.tds_relay.specs.Pool.{Sharing, turn};
+ghost use Rattle.tds_relay.specs.Giving.{ReadVisit, Visit, machine_in};
 ghost use Rattle.laws_as_if_alone.specs.Serving.{Moment, Server, World, fresh, new_world, reached};
 ghost use Rattle.laws_as_if_alone.specs.Serving.{world_after};
 ghost use Rattle.tds_state.specs.Pasts.{Remark};
 ghost use Rattle.laws_as_if_alone.specs.Alone.{AllOrderly, AsIfAlone, IsAtRest, asks, found_next};
 ghost use Rattle.laws_as_if_alone.specs.Alone.{given, underway};
-ghost use Rattle.laws_as_if_alone.specs.Bytes.{AllRead, ReadAsIfAlone, Walkers, walkers_in};
+ghost use Rattle.laws_as_if_alone.specs.Bytes.{AllRead, ReadAsIfAlone, TokenParsers, parsers_in};
 ghost use Rattle.laws_as_if_alone.specs.Telling.{AllParkedAtRest, RoundTrip, Remarked, TellsAll};
 ghost use Rattle.laws_as_if_alone.specs.Telling.{all_trips_after, moments_of, no_trips};
 ghost use Rattle.laws_as_if_alone.specs.Turns.{AllParkedFresh, AsIfUnparked};
@@ -27,7 +27,7 @@ pub fn as_if_alone<V>()
     // what it asks, whatever is cut: from a moment at which it neither waits nor holds a connection.
     ensures new { (server : Server V) (sharing : Sharing) (key : ℕ)
         (before moments : List (Moment V))
-        → IsAway key (reached server sharing before).desk
+        → IsAway key (reached server sharing before).pool
         → AllOrderly turn key server (reached server sharing before) moments
         → AsIfAlone turn key server (fresh server) (reached server sharing before) moments
         (world_after turn server (reached server sharing before) moments) }
@@ -35,7 +35,7 @@ pub fn as_if_alone<V>()
     // session that its next request finds.
     ensures rest { (server : Server V) (sharing : Sharing) (key : ℕ)
         (before moments : List (Moment V)) (h : Hold) (c : Seat)
-        → IsAtRest key (reached server sharing before).desk h c
+        → IsAtRest key (reached server sharing before).pool h c
         → AllOrderly turn key server (reached server sharing before) moments
         → AsIfAlone turn key server (found_next server (reached server sharing before) h c)
         (reached server sharing before) moments
@@ -50,7 +50,7 @@ pub fn alone_by_turns<V>()
     // So it is from a moment at which it neither waits nor holds a connection;
     ensures new { (server : Server V) (sharing : Sharing) (key : ℕ) (parks : Moment V → Bool)
         (before moments : List (Moment V))
-        → IsAway key (reached server sharing before).desk
+        → IsAway key (reached server sharing before).pool
         → AllOrderly turn key server (reached server sharing before) moments
         → AllParkedFresh parks turn key server (reached server sharing before) moments
         → AsIfUnparked parks turn key server (fresh server) (reached server sharing before) moments
@@ -74,7 +74,7 @@ pub fn alone_where_all_is_told<V, E>()
     ensures new { (server : Server V) (login : List Remark) (may : E → List (RoundTrip V))
         (sharing : Sharing) (key : ℕ) (parks : Moment V → Bool) (before since : List (Remarked V))
         → TellsAll server login may
-        → IsAway key (reached server sharing (moments_of before)).desk
+        → IsAway key (reached server sharing (moments_of before)).pool
         → AllOrderly turn key server (reached server sharing (moments_of before)) (moments_of since)
         → AllParkedAtRest parks turn key server login may
         (reached server sharing (moments_of before))
@@ -101,8 +101,8 @@ pub fn alone_where_all_is_told<V, E>()
 pub fn given_alike<V>()
     ensures { (server : Server V) (sharing alike : Sharing) (key other : ℕ)
         (before there moments others : List (Moment V))
-        → IsAway key (reached server sharing before).desk
-        → IsAway other (reached server alike there).desk
+        → IsAway key (reached server sharing before).pool
+        → IsAway other (reached server alike there).pool
         → AllOrderly turn key server (reached server sharing before) moments
         → AllOrderly turn other server (reached server alike there) others
         → asks turn key server 0 (reached server sharing before) moments
@@ -127,20 +127,20 @@ pub fn alone_in_visits<V>()
 }
 
 /// What an application is given in bytes: the tokens of the data of the packets that come on the connection that it
-/// is lent, each read from where the one before has left that connection's walker, and what is underway to it, are
+/// is lent, each read from where the one before has left that connection's parser, and what is underway to it, are
 /// what a new server of its own answers to what it asks, but for the news of resets. From where it enters a relay,
 /// behind any steps, and while it stays.
 pub fn alone_in_bytes<V>()
-    // The first packet on each connection is read by a walker that has read nothing: so it is in all steps that calls
+    // The first packet on each connection is read by a parser that has read nothing: so it is in all steps that calls
     // of a relay make, from a new one on (`read_from_new` of `tds_relay`).
     ensures new { (server : Server V) (sharing : Sharing) (key : ℕ) (v : ReadVisit sharing key)
         (ms : Moments V v.visit)
         → AllSaid turn key server (world_in server ms) ms.since
-        → ReadAsIfAlone turn server (fresh server) (walkers_in v) v.visit (world_in server ms)
+        → ReadAsIfAlone turn server (fresh server) (parsers_in v) v.visit (world_in server ms)
         ms.since (world_after turn server (world_in server ms) ms.since) }
-    // So it is from wherever walkers stand, where each packet is read from there.
+    // So it is from wherever parsers stand, where each packet is read from there.
     ensures there { (server : Server V) (sharing : Sharing) (key : ℕ) (v : Visit sharing key)
-        (ms : Moments V v) (at : Walkers) → AllRead at (house_in v) v.since
+        (ms : Moments V v) (at : TokenParsers) → AllRead at (machine_in v) v.since
         → AllSaid turn key server (world_in server ms) ms.since
         → ReadAsIfAlone turn server (fresh server) at v (world_in server ms) ms.since
         (world_after turn server (world_in server ms) ms.since) }

@@ -42,13 +42,13 @@ all_lawful l w past (act ∷ acts) all plain stands well is =
 
 -- ---- A new judge
 
-begins : (limits : Limits) (j : Judge) (r : Reading) → IsNew limits j → j.walker ≡ Some r → State (record { limits = j.limits; talk = j.talk; told = [] }) line.Idle false (new_wire r) (run_of j []) []
+begins : (limits : Limits) (j : Judge) (r : Reading) → IsNew limits j → j.parser ≡ Some r → State (record { limits = j.limits; talk = j.talk; told = [] }) line.Idle false (new_wire r) (run_of j []) []
 unfolding further found_in
-begins limits j r new walker = record {
+begins limits j r new parser = record {
   client = j.client;
   server = j.server;
-  walker = r;
-  run_is = ap (λ (x : Option Reading). run_of (record j { walker = x }) []) walker;
+  parser = r;
+  run_is = ap (λ (x : Option Reading). run_of (record j { parser = x }) []) parser;
   out = record {
     due = ap (λ (f : Frame). f.due) new.client;
     edge = First (ap (λ (f : Frame). f.part) new.client) (ap (λ (f : Frame). f.offset) new.client);
@@ -63,11 +63,11 @@ begins limits j r new walker = record {
 
 -- what was said of the bytes is what is seen
 pub heard_of : (cuts : Cuts) (limits : Limits) (j : Judge) (r : Reading) (acts : List (Act Token)) (shown : List Shown)
-    → IsNew limits j → j.walker ≡ Some r → IsHanded r (history new_line acts) shown → NoFault (history new_line acts)
+    → IsNew limits j → j.parser ≡ Some r → IsHanded r (history new_line acts) shown → NoFault (history new_line acts)
     → (tells : Tells (run_of j []) (seen (pieces shown) (run_of j []))) × AreSeen new_watch [] (history new_line acts) tells.events
-heard_of cuts limits j r acts shown new walker handed well =
+heard_of cuts limits j r acts shown new parser handed well =
     let base : Base = record { limits = j.limits; talk = j.talk; told = [] } in
-    let all = speaks cuts base new_line new_watch (new_wire r) (run_of j []) [] acts shown handed.done well handed.spelled (begins limits j r new walker) in
+    let all = speaks cuts base new_line new_watch (new_wire r) (run_of j []) [] acts shown handed.done well handed.spelled (begins limits j r new parser) in
     (record { events = all.all; talk = all.ends.talk; limits = all.ends.limits; told = all.ends.told }, all.seen)
 
 pub is_lawful_of : (acts : List (Act Token)) (all : List Said) → AllBehindLogin acts → NoFault (history new_line acts) → AreSeen new_watch [] (history new_line acts) all → IsLawful all

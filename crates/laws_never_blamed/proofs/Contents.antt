@@ -1,4 +1,4 @@
--- What the data of a packet do to a judge: those that nobody reads, those of ALL_HEADERS, and those that the walker reads.
+-- What the data of a packet do to a judge: those that nobody reads, those of ALL_HEADERS, and those that the parser reads.
 use Rattle.std.proofs.Common.{◌≡◌, ◌∙◌, ◌+◌, ◌-◌, ◌*◌, ◌/◌, ◌<◌, nat_lt, true, false, ℕ, List, [], ◌∷◌, length, refl, sym, ap, arith}
 use Rattle.std.proofs.lemmas.Bool.{lt-ltb}
 use Rattle.tds_judge.specs.declared.finding.Direction.TheVariants.{ToServer}

@@ -7,17 +7,17 @@ use Rattle.tds_front.specs.declared.front.Fed.{Fed}
 use Rattle.tds_front.specs.declared.front.Front.{Front}
 use Rattle.tds_front.specs.declared.front.Said.{Said as Answer}
 use Rattle.tds_front.specs.declared.front.Said.TheVariants as said
-use Rattle.tds_front.specs.declared.stage.Deed.{Deed}
-use Rattle.tds_front.specs.declared.stage.Deed.TheVariants as deeds
+use Rattle.tds_front.specs.declared.stage.Action.{Action}
+use Rattle.tds_front.specs.declared.stage.Action.TheVariants as actions
 use Rattle.tds_front.specs.declared.stage.Head.{Head}
 use Rattle.tds_front.specs.declared.stage.Stage.{Stage}
 use Rattle.tds_front.specs.declared.stage.Stage.TheVariants as stages
 use Rattle.tds_front.specs.Bytes.{fed}
 use Rattle.tds_front.specs.Passing.{IsData, IsSaid, SaysOf, judged, stage_fed}
 use Rattle.tds_front.specs.Rules.{taken}
-use Rattle.tds_relay.specs.Hall.{End, Open, asks_by, end_behind, takes_back}
-use Rattle.tds_relay.specs.House.{owed_by, owed_of}
-use Rattle.tds_relay.specs.Posts.{acknowledgement}
+use Rattle.tds_relay.specs.Core.{End, Open, asks_by, end_behind, takes_back}
+use Rattle.tds_relay.specs.Machine.{owed_by, owed_of}
+use Rattle.tds_relay.specs.Queues.{acknowledgement}
 use Rattle.tds_judge.specs.History.{Said}
 use Rattle.laws_never_blamed.specs.Relayed.{Side, sees_attention, sees_dropped, sees_first, sees_head, sees_judged, sees_more, sees_owed}
 use Rattle.laws_never_blamed.proofs.Sides.{Fine}
@@ -25,13 +25,13 @@ use Rattle.laws_never_blamed.proofs.Taken.{AtEnd, AtStage, LedBy, Now, led, owed
 
 -- ---- Behind a packet's header
 
-led_fine : (s : Side) (stage : Stage) (past : List Said) (head : Head) (next : Stage) (asks : Option Reset) (begun : Bool) (does : Result Deed FrontFault) → LedBy s stage past head next asks begun does
+led_fine : (s : Side) (stage : Stage) (past : List Said) (head : Head) (next : Stage) (asks : Option Reset) (begun : Bool) (does : Result Action FrontFault) → LedBy s stage past head next asks begun does
     → Fine (sees_head s stage past head does)
-led_fine s stage past head next asks begun (Ok (deeds.Begin kind reset)) l = l.fine
-led_fine s stage past head next asks begun (Ok deeds.Go) l = l.fine
-led_fine s stage past head next asks begun (Ok (deeds.Forget gone)) l = l.fine
-led_fine s stage past head next asks begun (Ok deeds.Acknowledge) l = l.0
-led_fine s stage past head next asks begun (Ok deeds.HandOn) l = l.fine
+led_fine s stage past head next asks begun (Ok (actions.Begin kind reset)) l = l.fine
+led_fine s stage past head next asks begun (Ok actions.Go) l = l.fine
+led_fine s stage past head next asks begun (Ok (actions.Forget gone)) l = l.fine
+led_fine s stage past head next asks begun (Ok actions.Acknowledge) l = l.0
+led_fine s stage past head next asks begun (Ok actions.HandOn) l = l.fine
 led_fine s stage past head next asks begun (Err fault) l = l
 
 -- ---- Where its end is then
@@ -56,7 +56,7 @@ data_seen s past stage next w asks begun (said.Forget gone) is e now = absurd is
 data_seen s past stage next w asks begun said.Acknowledge is e now = absurd is
 data_seen s past stage next w asks begun said.HandOn is e now = absurd is
 
-go_seen : (s : Side) (past : List Said) (stage : Stage) (next : Front) (w : Bool) (asks : Option Reset) (begun : Bool) (answer : Answer) → IsSaid (Ok deeds.Go) answer → next.stage ≡ stage → Now stage asks begun past
+go_seen : (s : Side) (past : List Said) (stage : Stage) (next : Front) (w : Bool) (asks : Option Reset) (begun : Bool) (answer : Answer) → IsSaid (Ok actions.Go) answer → next.stage ≡ stage → Now stage asks begun past
     → SeenBy s past next w asks begun answer
 go_seen s past stage next w asks begun said.Nothing is e now = at_stage next w asks begun past stage e now
 go_seen s past stage next w asks begun (said.Begin kind reset) is e now = absurd is
@@ -66,18 +66,18 @@ go_seen s past stage next w asks begun (said.Forget gone) is e now = absurd is
 go_seen s past stage next w asks begun said.Acknowledge is e now = absurd is
 go_seen s past stage next w asks begun said.HandOn is e now = absurd is
 
-head_seen : (s : Side) (stage : Stage) (past : List Said) (head : Head) (led_to : Stage) (next : Front) (w : Bool) (asks : Option Reset) (begun : Bool) (does : Result Deed FrontFault) (answer : Answer)
+head_seen : (s : Side) (stage : Stage) (past : List Said) (head : Head) (led_to : Stage) (next : Front) (w : Bool) (asks : Option Reset) (begun : Bool) (does : Result Action FrontFault) (answer : Answer)
     → IsSaid does answer → next.stage ≡ led_to → LedBy s stage past head led_to asks begun does → SeenBy s (sees_head s stage past head does) next w asks begun answer
-head_seen s stage past head led_to next w asks begun (Ok (deeds.Begin kind reset)) answer is e l =
+head_seen s stage past head led_to next w asks begun (Ok (actions.Begin kind reset)) answer is e l =
     subst (SeenBy s (sees_first s past head) next w asks begun) (sym is) (at_stage next w reset begun (sees_first s past head) led_to e l)
-head_seen s stage past head led_to next w asks begun (Ok deeds.Go) answer is e l = go_seen s (sees_more s past head) led_to next w asks begun answer is e l
-head_seen s stage past head led_to next w asks begun (Ok (deeds.Forget gone)) answer is e l =
+head_seen s stage past head led_to next w asks begun (Ok actions.Go) answer is e l = go_seen s (sees_more s past head) led_to next w asks begun answer is e l
+head_seen s stage past head led_to next w asks begun (Ok (actions.Forget gone)) answer is e l =
     subst (SeenBy s (sees_dropped s stage past head) next w asks begun) (sym is) (at_stage next w None begun (sees_dropped s stage past head) led_to e l)
-head_seen s stage past head led_to next w asks begun (Ok deeds.Acknowledge) answer is e l =
+head_seen s stage past head led_to next w asks begun (Ok actions.Acknowledge) answer is e l =
     let own = owed_fine s (sees_attention s past) (acknowledgement ∷ []) l.0 l.1 in
     subst (SeenBy s (sees_attention s past) next w asks begun) (sym is)
     (at_stage next w None begun (sees_owed s (sees_attention s past) (Some (acknowledgement ∷ []))) stages.Quiet (e ∙ l.3) (record { fine = own.0; at = (l.2, own.1) }))
-head_seen s stage past head led_to next w asks begun (Ok deeds.HandOn) answer is e l =
+head_seen s stage past head led_to next w asks begun (Ok actions.HandOn) answer is e l =
     subst (SeenBy s (sees_attention s past) next w asks begun) (sym is) (at_stage next w asks begun (sees_attention s past) led_to e l)
 head_seen s stage past head led_to next w asks begun (Err fault) answer is e l = absurd is
 

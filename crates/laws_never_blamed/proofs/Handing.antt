@@ -12,10 +12,10 @@ use Rattle.tds_listen.specs.declared.fault.ListenFault.{ListenFault}
 use Rattle.tds_service.specs.Parts.{Item, Close, Goes, Ends, Cut, Fails, Part, is_end}
 use Rattle.tds_service.specs.Line as line
 use Rattle.tds_service.specs.Line.{Answer}
-use Rattle.tds_relay.specs.declared.desk.coming.What.{What}
-use Rattle.tds_relay.specs.declared.desk.coming.What.TheVariants as whats
-use Rattle.tds_relay.specs.Hall.{Open, told, what_of}
-use Rattle.tds_relay.specs.House.{IsHanded, IsTold, Manner, Whole, Without, Withheld, hears_of_reset, is_said, news_in}
+use Rattle.tds_relay.specs.declared.pool.coming.What.{What}
+use Rattle.tds_relay.specs.declared.pool.coming.What.TheVariants as whats
+use Rattle.tds_relay.specs.Core.{Open, told, what_of}
+use Rattle.tds_relay.specs.Machine.{IsHanded, IsTold, Manner, Whole, Without, Withheld, hears_of_reset, is_said, news_in}
 use Rattle.tds_relay.specs.Promises.{one_if}
 use Rattle.tds_relay.proofs.ends.Tying.{Tied}
 use Rattle.tds_judge.specs.declared.talk.Event.TheVariants as events

@@ -16,7 +16,8 @@ use Rattle.tds_judge.specs.declared.talk.Event.TheVariants as events
 use Rattle.tds_judge.specs.declared.talk.Limits.{Limits}
 use Rattle.tds_judge.specs.declared.talk.Talk.{Talk}
 use Rattle.tds_wire.specs.Reading.{Reading, restarted}
-use Rattle.tds_judge.specs.Framing.{Run, begins, due_by, event_of, frame_of, goes_on, head_of, headed, headed_by, inside_of, is_plausible, is_to_fill, opened, shifted, step, steps, taken_up}
+use Rattle.tds_judge.specs.Framing.{Run, begins, due_by, frame_of, goes_on, headed, headed_by, opened, step, steps, taken_up}
+use Rattle.tds_judge.specs.PacketHeads.{event_of, head_of, inside_of, is_plausible, is_to_fill, shifted}
 use Rattle.tds_judge.specs.History.{Said, found_in, further}
 
 -- ---- A judge that goes on from a talk, behind what was said since
@@ -28,7 +29,7 @@ pub record Base : Type 0 where
 
 abbrev pub run_at : Base → Frame → Frame → Reading → List Said → Run
 run_at base c s r past = record {
-  judge = record { limits = base.limits; client = c; server = s; talk = further past base.talk; walker = Some r };
+  judge = record { limits = base.limits; client = c; server = s; talk = further past base.talk; parser = Some r };
   told = found_in base.limits past base.talk base.told;
 }
 

@@ -15,7 +15,8 @@ use Rattle.tds_judge.specs.declared.talk.Event.TheVariants as events
 use Rattle.tds_wire.specs.declared.told.Token.{Token}
 use Rattle.tds_wire.specs.Reading.{Reading, is_between, restarted}
 use Rattle.tds_listen.specs.Hearing.{Stands, Tokens, tokens_in}
-use Rattle.tds_judge.specs.Framing.{begins, head_of, headed, is_plausible, opened, opened_frame, over, shifted, steps}
+use Rattle.tds_judge.specs.Framing.{begins, headed, opened, opened_frame, over, steps}
+use Rattle.tds_judge.specs.PacketHeads.{head_of, is_plausible, shifted}
 use Rattle.tds_judge.specs.History.{Said, found_in, further}
 use Rattle.tds_judge.proofs.InRuns.{Cuts}
 use Rattle.laws_never_blamed.proofs.Heads.{Base, between_begins, first_begins, head_spot, next, run_at, says, server_begins, server_goes_on, server_head, server_spot, seven, spelled7, spelled_head, within_goes_on}

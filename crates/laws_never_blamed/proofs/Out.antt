@@ -23,7 +23,8 @@ use Rattle.tds_judge.specs.declared.frame.Part.TheVariants as parts
 use Rattle.tds_judge.specs.declared.talk.Event.{Event}
 use Rattle.tds_judge.specs.declared.talk.Event.TheVariants as events
 use Rattle.tds_wire.specs.Reading.{Reading}
-use Rattle.tds_judge.specs.Framing.{begins, event_of, head_of, headed, inside_of, is_plausible, opened, opened_frame, over, shifted, steps}
+use Rattle.tds_judge.specs.Framing.{begins, headed, opened, opened_frame, over, steps}
+use Rattle.tds_judge.specs.PacketHeads.{event_of, head_of, inside_of, is_plausible, shifted}
 use Rattle.tds_judge.specs.Headers.{new_heading}
 use Rattle.tds_judge.specs.History.{Said, found_in, further}
 use Rattle.laws_never_blamed.specs.Spelled.{headers_of}

@@ -50,7 +50,7 @@ OutAt Awaiting pen c = Rests c
 OutAt Cancelling pen c = Rests c
 OutAt (Broken fault) pen c = ⊥
 
--- by whether a message comes that has begun, and whether nothing came yet; the judge's walker, and the client's
+-- by whether a message comes that has begun, and whether nothing came yet; the judge's parser, and the client's
 abbrev pub InAt : Bool → Bool → Frame → Reading → Reading → Type 0
 InAt true first s j r = Comes s × (j ≡ r)
 InAt false first s j r = Quiet s × (first ≡ false → s.part ≡ parts.Between) × (restarted j ≡ r)
@@ -58,10 +58,10 @@ InAt false first s j r = Quiet s × (first ≡ false → s.part ≡ parts.Betwee
 pub record State (base : Base) (stage : Stage) (begun : Bool) (wire : Wire) (run : Run) (past : List Said) : Type 0 where
   pub client : Frame
   pub server : Frame
-  pub walker : Reading
-  pub run_is : run ≡ run_at base client server walker past
+  pub parser : Reading
+  pub run_is : run ≡ run_at base client server parser past
   pub out : OutAt stage wire.pen client
-  pub into : InAt begun wire.is_first server walker wire.reading
+  pub into : InAt begun wire.is_first server parser wire.reading
 
 -- what is seen by some eye, and where the judge is then
 pub record GoesOn (base : Base) (stage : Stage) (begun : Bool) (wire : Wire) (run : Run) (seen : Eye → List Said) : Type 0 where
@@ -123,7 +123,7 @@ sends_first base t n named reset last begun wire behind bytes run past state out
     let f = facts reset last in
     let size : ℕ = 8 + length (headers_of kind named ++ body) in
     let full : Bool = fills (packets_are kind) (end_bit last + reset_bit reset) in
-    let spoken = request_first base t last kind (end_bit last + reset_bit reset) named body state.client state.server state.walker past state.out f.small few f.ends f.plain ranged in
+    let spoken = request_first base t last kind (end_bit last + reset_bit reset) named body state.client state.server state.parser past state.out f.small few f.ends f.plain ranged in
     let eye : Eye = eye_at spoken.behind size (has_headers kind) full in
     let seen : spoken.behind ≡ sees_outs eye named past (OfRequest n true reset last ∷ []) =
     sym (seen_so spoken.behind size (has_headers kind) full (events.Packet size full ∷ events.Request (end_bit last + reset_bit reset) (bulk_of kind) ∷ names_of kind named) past spoken.follows)
@@ -133,13 +133,13 @@ sends_first base t n named reset last begun wire behind bytes run past state out
       state = record {
         client = spoken.frame;
         server = state.server;
-        walker = state.walker;
+        parser = state.parser;
         run_is =
             ap (λ (xs : List ℕ). steps ToServer t xs run) bytes_are
             ∙ (ap (steps ToServer t (packet_bytes (packets_are kind) (end_bit last + reset_bit reset) 0 (headers_of kind named ++ body))) state.run_is
-            ∙ (spoken.is ∙ ap (run_at base spoken.frame state.server state.walker) seen));
+            ∙ (spoken.is ∙ ap (run_at base spoken.frame state.server state.parser) seen));
         out = out_behind last kind behind.pen spoken.frame (ap (λ (p : Pen). p.kind) pen_is) spoken.so;
-        into = subst (λ (b : Bool). InAt begun b state.server state.walker behind.reading) (sym first) (subst (InAt begun wire.is_first state.server state.walker) (sym same) state.into);
+        into = subst (λ (b : Bool). InAt begun b state.server state.parser behind.reading) (sym first) (subst (InAt begun wire.is_first state.server state.parser) (sym same) state.into);
       };
     }
 
@@ -152,7 +152,7 @@ sends_later base t n named reset last begun wire behind bytes run past state out
     let f = facts reset last in
     let size : ℕ = 8 + length content in
     let full : Bool = fills (packets_are wire.pen.kind) (end_bit last + reset_bit reset) in
-    let spoken = request_later base t last wire.pen.kind (end_bit last + reset_bit reset) wire.pen.packets content state.client state.server state.walker past state.out f.small few f.ends f.plain in
+    let spoken = request_later base t last wire.pen.kind (end_bit last + reset_bit reset) wire.pen.packets content state.client state.server state.parser past state.out f.small few f.ends f.plain in
     let eye : Eye = eye_at spoken.behind size false full in
     let seen : spoken.behind ≡ sees_outs eye named past (OfRequest n false reset last ∷ []) =
     sym (seen_so spoken.behind size false full (events.Packet size full ∷ events.Later (end_bit last + reset_bit reset) ∷ []) past spoken.follows)
@@ -162,13 +162,13 @@ sends_later base t n named reset last begun wire behind bytes run past state out
       state = record {
         client = spoken.frame;
         server = state.server;
-        walker = state.walker;
+        parser = state.parser;
         run_is =
             ap (λ (xs : List ℕ). steps ToServer t xs run) bytes_are
             ∙ (ap (steps ToServer t (packet_bytes (packets_are wire.pen.kind) (end_bit last + reset_bit reset) wire.pen.packets content)) state.run_is
-            ∙ (spoken.is ∙ ap (run_at base spoken.frame state.server state.walker) seen));
+            ∙ (spoken.is ∙ ap (run_at base spoken.frame state.server state.parser) seen));
         out = out_behind last wire.pen.kind behind.pen spoken.frame (ap (λ (p : Pen). p.kind) pen_is) spoken.so;
-        into = subst (λ (b : Bool). InAt begun b state.server state.walker behind.reading) (sym first) (subst (InAt begun wire.is_first state.server state.walker) (sym same) state.into);
+        into = subst (λ (b : Bool). InAt begun b state.server state.parser behind.reading) (sym first) (subst (InAt begun wire.is_first state.server state.parser) (sym same) state.into);
       };
     }
 
@@ -179,19 +179,19 @@ pub stops_reading : (base : Base) (t named : ℕ) (begun : Bool) (wire behind : 
     → GoesOn base Cancelling begun behind (steps ToServer t bytes run) (λ eye. sees_outs eye named past (Attention ∷ []))
 stops_reading base t named begun wire behind bytes run past state out same first =
     let (bytes_are, pen_is) = alone named wire.pen Attention bytes behind.pen out in
-    let spoken = attention_out base t state.client state.server state.walker past state.out in
+    let spoken = attention_out base t state.client state.server state.parser past state.out in
     record {
       eye = eye_at spoken.behind 8 false false;
       state = record {
         client = spoken.frame;
         server = state.server;
-        walker = state.walker;
+        parser = state.parser;
         run_is =
             ap (λ (xs : List ℕ). steps ToServer t xs run) bytes_are
             ∙ (ap (steps ToServer t attention) state.run_is
-            ∙ (spoken.is ∙ ap (run_at base spoken.frame state.server state.walker) (sym (seen_so spoken.behind 8 false false (events.Packet 8 false ∷ events.Attention 8 1 ∷ []) past spoken.follows))));
+            ∙ (spoken.is ∙ ap (run_at base spoken.frame state.server state.parser) (sym (seen_so spoken.behind 8 false false (events.Packet 8 false ∷ events.Attention 8 1 ∷ []) past spoken.follows))));
         out = spoken.so;
-        into = subst (λ (b : Bool). InAt begun b state.server state.walker behind.reading) (sym first) (subst (InAt begun wire.is_first state.server state.walker) (sym same) state.into);
+        into = subst (λ (b : Bool). InAt begun b state.server state.parser behind.reading) (sym first) (subst (InAt begun wire.is_first state.server state.parser) (sym same) state.into);
       };
     }
 
@@ -201,8 +201,8 @@ pub stops_sending : (base : Base) (t n named : ℕ) (begun : Bool) (wire behind 
 stops_sending base t n named begun wire behind bytes run past state out same first =
     let (front, rest, middle, is, ignored, more) = out in
     let (rest_is, pen_is) = alone named middle Attention rest behind.pen more in
-    let one = request_ignored base t wire.pen.kind wire.pen.packets state.client state.server state.walker past state.out in
-    let two = attention_out base t one.frame state.server state.walker one.behind one.so in
+    let one = request_ignored base t wire.pen.kind wire.pen.packets state.client state.server state.parser past state.out in
+    let two = attention_out base t one.frame state.server state.parser one.behind one.so in
     let all : List Event = events.Packet 8 false ∷ events.Later 3 ∷ events.Ignored ∷ events.Packet 8 false ∷ events.Attention 8 1 ∷ [] in
     let follows : Follows all past two.behind =
     follows_more (events.Packet 8 false ∷ events.Later 3 ∷ events.Ignored ∷ []) (events.Packet 8 false ∷ events.Attention 8 1 ∷ []) past one.behind two.behind one.follows two.follows in
@@ -211,17 +211,17 @@ stops_sending base t n named begun wire behind bytes run past state out same fir
       state = record {
         client = two.frame;
         server = state.server;
-        walker = state.walker;
+        parser = state.parser;
         run_is =
             ap (λ (xs : List ℕ). steps ToServer t xs run) is
             ∙ (sym (steps-append ToServer t front rest run)
             ∙ (ap (λ (r : Run). steps ToServer t rest (steps ToServer t front r)) state.run_is
-            ∙ (ap (λ (xs : List ℕ). steps ToServer t rest (steps ToServer t xs (run_at base state.client state.server state.walker past))) ignored.0
+            ∙ (ap (λ (xs : List ℕ). steps ToServer t rest (steps ToServer t xs (run_at base state.client state.server state.parser past))) ignored.0
             ∙ (ap (steps ToServer t rest) one.is
-            ∙ (ap (λ (xs : List ℕ). steps ToServer t xs (run_at base one.frame state.server state.walker one.behind)) rest_is
-            ∙ (two.is ∙ ap (run_at base two.frame state.server state.walker) (sym (seen_so two.behind 8 false false all past follows))))))));
+            ∙ (ap (λ (xs : List ℕ). steps ToServer t xs (run_at base one.frame state.server state.parser one.behind)) rest_is
+            ∙ (two.is ∙ ap (run_at base two.frame state.server state.parser) (sym (seen_so two.behind 8 false false all past follows))))))));
         out = two.so;
-        into = subst (λ (b : Bool). InAt begun b state.server state.walker behind.reading) (sym first) (subst (InAt begun wire.is_first state.server state.walker) (sym same) state.into);
+        into = subst (λ (b : Bool). InAt begun b state.server state.parser behind.reading) (sym first) (subst (InAt begun wire.is_first state.server state.parser) (sym same) state.into);
       };
     }
 
@@ -345,7 +345,7 @@ comes cuts base t begun wire behind bytes run past stage after part answer state
     let (u, stop_is, reading_is) = i.reads well in
     let part_are : part ≡ record { items = items_from all.tokens; close = close_from ends (Stands u) } =
     i.part_is ∙ (let with_stop : Stop → Part Token = λ stop. record { items = items_from all.tokens; close = close_from ends stop } in ap with_stop stop_is) in
-    let told = told_by cuts base t st size h.spid h.packet_id h.window begun wire.is_first ends i.content state.client state.server state.walker wire.reading u past all
+    let told = told_by cuts base t st size h.spid h.packet_id h.window begun wire.is_first ends i.content state.client state.server state.parser wire.reading u past all
     state.into i.numbered rests.kind small bits.ends refl stop_is in
     let eye : Eye = eye_at told.behind size false false in
     let seen : told.behind ≡ sees_come eye begun past part =
@@ -358,7 +358,7 @@ comes cuts base t begun wire behind bytes run past stage after part answer state
       state = record {
         client = state.client;
         server = told.frame;
-        walker = u;
+        parser = u;
         run_is =
             ap (λ (xs : List ℕ). steps ToClient t xs run) bytes_are
             ∙ (ap (steps ToClient t (answer_bytes st size h.spid h.packet_id h.window i.content)) state.run_is

@@ -18,7 +18,7 @@ use Rattle.tds_judge.specs.Breaches.{agreed_last, final_by_token, size_by_token,
 use Rattle.tds_judge.specs.Conversation.{IsLawful, MayAnswer, MayEnd, MaySay, Place, Answering, Skipping, heard_at, left_by, place_of}
 use Rattle.tds_judge.specs.History.{Said, is_forgotten}
 use Rattle.tds_judge.specs.Talking.{acknowledges, says_more, told_acknowledges}
-use Rattle.tds_relay.specs.House.{news_in, news_of, owed_behind}
+use Rattle.tds_relay.specs.Machine.{news_in, news_of, owed_behind}
 use Rattle.laws_never_blamed.specs.Seen.{AreBehindLogin, Eye, NothingIf, acknowledge, sees, sees_items}
 use Rattle.laws_never_blamed.specs.Tokens.{TellsNoSize}
 use Rattle.laws_never_blamed.specs.Relayed.{AllSupposed, EndsFinally, IsNews, LeavesOut}

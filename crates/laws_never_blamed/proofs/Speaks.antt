@@ -46,7 +46,7 @@ keeps base t named stage after begun wire behind bytes run past state out sent r
       state = record {
         client = state.client;
         server = state.server;
-        walker = state.walker;
+        parser = state.parser;
         run_is = ap (λ (xs : List ℕ). steps ToServer t xs run) sent.0 ∙ state.run_is;
         out = out state.client state.out;
         into = state.into;
@@ -217,13 +217,13 @@ pub record Ends (base : Base) (run : Run) (all : List Said) : Type 0 where
   pub limits : run.judge.limits ≡ base.limits
   pub told : run.told ≡ found_in base.limits all base.talk base.told
 
-piece_stopped : (piece : Piece) (run : Run) → run.judge.walker ≡ None → piece_seen piece run ≡ run
+piece_stopped : (piece : Piece) (run : Run) → run.judge.parser ≡ None → piece_seen piece run ≡ run
 unfolding event_said closed
 piece_stopped (Bytes d t bytes) run none = stopped d t bytes run.judge run.told none
 piece_stopped (Lends t) run none = rw none refl
 piece_stopped (Closes t) run none = rw none refl
 
-all_stopped : (ps : List Piece) (run : Run) → run.judge.walker ≡ None → seen ps run ≡ run
+all_stopped : (ps : List Piece) (run : Run) → run.judge.parser ≡ None → seen ps run ≡ run
 unfolding seen
 all_stopped [] run none = refl
 all_stopped (p ∷ ps) run none = ap (seen ps) (piece_stopped p run none) ∙ all_stopped ps run none
@@ -295,7 +295,7 @@ unfolding seen
 loses_there base l w wire x xs run past ds is state =
     let d : Done Token = done_by line.Lose (turn l line.Lose) in
     let spot : Spot = record { direction = ToServer; offset = state.client.offset; time = x.time } in
-    let end = ends_at base x.time state.client state.server state.walker past (pieces xs) (out_closes l.stage wire.pen state.client state.out) in
+    let end = ends_at base x.time state.client state.server state.parser past (pieces xs) (out_closes l.stage wire.pen state.client state.out) in
     record {
       all = sees (place_eye spot) past events.Closed;
       seen = subst (λ (a : Answer). IsSeen a w past d (λ v before. AreSeen v before ds (sees (place_eye spot) past events.Closed)) (sees (place_eye spot) past events.Closed))

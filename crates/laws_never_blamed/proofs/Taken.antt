@@ -9,15 +9,15 @@ use Rattle.tds_packet.specs.declared.status.Reset.TheVariants.{Full, KeepTransac
 use Rattle.tds_packet.specs.Layout.{bits_of, has_bit, has_both_resets, kind_byte, reset_of}
 use Rattle.tds_front.specs.declared.fault.FrontFault.{FrontFault}
 use Rattle.tds_front.specs.declared.fault.FrontFault.TheVariants as faults
-use Rattle.tds_front.specs.declared.stage.Deed.{Deed}
-use Rattle.tds_front.specs.declared.stage.Deed.TheVariants as deeds
+use Rattle.tds_front.specs.declared.stage.Action.{Action}
+use Rattle.tds_front.specs.declared.stage.Action.TheVariants as actions
 use Rattle.tds_front.specs.declared.stage.Head.{Head}
 use Rattle.tds_front.specs.declared.stage.Move.{Move}
 use Rattle.tds_front.specs.declared.stage.Stage.{Stage}
 use Rattle.tds_front.specs.declared.stage.Stage.TheVariants as stages
 use Rattle.tds_front.specs.Rules as rules
 use Rattle.tds_front.specs.Rules.{taken}
-use Rattle.tds_relay.specs.Hall.{End, Open, Over}
+use Rattle.tds_relay.specs.Core.{End, Open, Over}
 use Rattle.tds_judge.specs.declared.talk.Event.TheVariants as events
 use Rattle.tds_judge.specs.declared.talk.Reset.{Reset as Asks}
 use Rattle.tds_judge.specs.declared.talk.Reset.TheVariants as resets
@@ -180,13 +180,13 @@ stopped_part s past asks now true e waits = absurd (let u : ⊥ = cc in u)
 
 -- ---- Behind a packet's header
 
-abbrev pub LedBy : Side → Stage → List Said → Head → Stage → Option Reset → Bool → Result Deed FrontFault → Type 0
-LedBy s stage past head next asks begun (Ok (deeds.Begin kind reset)) = Now next reset begun (sees_first s past head)
-LedBy s stage past head next asks begun (Ok deeds.Go) = Now next asks begun (sees_more s past head)
-LedBy s stage past head next asks begun (Ok (deeds.Forget gone)) = Now next None begun (sees_dropped s stage past head)
-LedBy s stage past head next asks begun (Ok deeds.Acknowledge) =
+abbrev pub LedBy : Side → Stage → List Said → Head → Stage → Option Reset → Bool → Result Action FrontFault → Type 0
+LedBy s stage past head next asks begun (Ok (actions.Begin kind reset)) = Now next reset begun (sees_first s past head)
+LedBy s stage past head next asks begun (Ok actions.Go) = Now next asks begun (sees_more s past head)
+LedBy s stage past head next asks begun (Ok (actions.Forget gone)) = Now next None begun (sees_dropped s stage past head)
+LedBy s stage past head next asks begun (Ok actions.Acknowledge) =
     Fine (sees_attention s past) × (place_of (sees_attention s past) ≡ Stopping) × (begun ≡ false) × (next ≡ stages.Quiet)
-LedBy s stage past head next asks begun (Ok deeds.HandOn) = Now next asks begun (sees_attention s past)
+LedBy s stage past head next asks begun (Ok actions.HandOn) = Now next asks begun (sees_attention s past)
 LedBy s stage past head next asks begun (Err fault) = Fine past
 
 module _ (s : Side) (past : List Said) (head : Head) (asks : Option Reset) (begun : Bool) where
@@ -199,14 +199,14 @@ module _ (s : Side) (past : List Said) (head : Head) (asks : Option Reset) (begu
   breaks : (stage : Stage) (fault : FrontFault) → Led stage (rules.breaks fault)
   breaks stage fault now = now.fine
 
-  drops_by : (b : Bool) → Led stages.Quiet (if b then rules.moves stages.Quiet (deeds.Forget false) else rules.breaks faults.IgnoredPart)
+  drops_by : (b : Bool) → Led stages.Quiet (if b then rules.moves stages.Quiet (actions.Forget false) else rules.breaks faults.IgnoredPart)
   drops_by true now = record {
     fine = fine_ignored s.eye (sees_first s past head) (first_fine s past head now.fine);
     at = (now.at.0, ignored_place s.eye (sees_first s past head) (talking.reset_of status) (first_place s past head));
   }
   drops_by false now = now.fine
 
-  forgets_by : (kind : Kind) (gone b : Bool) → Led (stages.Receiving kind gone) (if b then rules.moves stages.Quiet (deeds.Forget gone) else rules.breaks faults.IgnoredPart)
+  forgets_by : (kind : Kind) (gone b : Bool) → Led (stages.Receiving kind gone) (if b then rules.moves stages.Quiet (actions.Forget gone) else rules.breaks faults.IgnoredPart)
   forgets_by kind gone true now = record {
     fine = fine_ignored s.eye (sees_more s past head) (more_fine s past head now.fine);
     at = (now.at.0, ignored_place s.eye (sees_more s past head) (as_reset asks) (more_place s past head ∙ now.at.1));
@@ -217,7 +217,7 @@ module _ (s : Side) (past : List Said) (head : Head) (asks : Option Reset) (begu
       → Led stages.Quiet (if both then rules.breaks faults.BothResets
       else if ignore then rules.forgets false status
       else if empty then rules.breaks faults.EmptyPart
-      else rules.moves (rules.behind head.kind false status) (deeds.Begin head.kind (reset_of status)))
+      else rules.moves (rules.behind head.kind false status) (actions.Begin head.kind (reset_of status)))
   begins_by true ignore empty e now = now.fine
   begins_by false true empty e now = drops_by (has_bit status 1) now
   begins_by false false true e now = now.fine
@@ -228,7 +228,7 @@ module _ (s : Side) (past : List Said) (head : Head) (asks : Option Reset) (begu
 
   goes_by : (kind : Kind) (gone same ignore : Bool)
       → Led (stages.Receiving kind gone) (if same
-      then (if ignore then rules.forgets gone status else rules.moves (rules.behind kind gone status) deeds.Go)
+      then (if ignore then rules.forgets gone status else rules.moves (rules.behind kind gone status) actions.Go)
       else rules.breaks faults.TypeChanged)
   goes_by kind gone true true now = forgets_by kind gone (has_bit status 1) now
   goes_by kind gone true false now = record {

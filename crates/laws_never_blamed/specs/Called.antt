@@ -35,7 +35,7 @@ pub data Call : Type 0 where
   Lose : Call
   Come : (part : Part Token) → Call
 
--- A client's end between two of them: how many requests were asked, the client, the walker over what comes, and whether nothing came yet.
+-- A client's end between two of them: how many requests were asked, the client, the parser over what comes, and whether nothing came yet.
 pub record End : Type 0 where
   pub asked : ℕ
   pub client : ClientSession

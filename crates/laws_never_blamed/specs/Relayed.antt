@@ -10,18 +10,18 @@ use Rattle.tds_wire.specs.declared.told.Token.{Token}
 use Rattle.tds_service.specs.History.{acts_of}
 use Rattle.tds_service.specs.Parts.{Item, Part, is_end}
 use Rattle.tds_front.specs.declared.fault.FrontFault.{FrontFault}
-use Rattle.tds_front.specs.declared.stage.Deed.{Deed}
-use Rattle.tds_front.specs.declared.stage.Deed.TheVariants as deeds
+use Rattle.tds_front.specs.declared.stage.Action.{Action}
+use Rattle.tds_front.specs.declared.stage.Action.TheVariants as actions
 use Rattle.tds_front.specs.declared.stage.Head.{Head}
 use Rattle.tds_front.specs.declared.stage.Stage.{Stage}
 use Rattle.tds_front.specs.declared.stage.Stage.TheVariants as stages
 use Rattle.tds_front.specs.Passing.{judged}
 use Rattle.tds_front.specs.Rules.{taken}
-use Rattle.tds_relay.specs.Desk.{Event, Sharing, whose}
+use Rattle.tds_relay.specs.Pool.{Event, Sharing, whose}
 use Rattle.tds_relay.specs.Fronting.{done_on}
-use Rattle.tds_relay.specs.Giving.{Given, Visit, house_in}
-use Rattle.tds_relay.specs.Hall.{End, Open, end_at}
-use Rattle.tds_relay.specs.House.{House, Step, Takes, Hands, Manner, Whole, Without, Withheld, after, owed}
+use Rattle.tds_relay.specs.Giving.{Given, Visit, machine_in}
+use Rattle.tds_relay.specs.Core.{End, Open, end_at}
+use Rattle.tds_relay.specs.Machine.{Machine, Step, Takes, Hands, Manner, Whole, Without, Withheld, after, owed}
 use Rattle.tds_judge.specs.declared.talk.Event as talk
 use Rattle.tds_judge.specs.declared.talk.Event.TheVariants as events
 use Rattle.tds_judge.specs.Conversation.{May, Place, Answering, place_of}
@@ -68,12 +68,12 @@ abbrev pub sees_attention : Side → List Said → List Said
 sees_attention s past = sees s.eye (sees s.eye past (events.Packet 8 false)) (events.Attention 8 1)
 
 -- By what its end takes it for. By one that breaks the rules it is closed, and that isn't seen.
-abbrev pub sees_head : Side → Stage → List Said → Head → Result Deed FrontFault → List Said
-sees_head s stage past head (Ok (deeds.Begin kind reset)) = sees_first s past head
-sees_head s stage past head (Ok deeds.Go) = sees_more s past head
-sees_head s stage past head (Ok (deeds.Forget gone)) = sees_dropped s stage past head
-sees_head s stage past head (Ok deeds.Acknowledge) = sees_attention s past
-sees_head s stage past head (Ok deeds.HandOn) = sees_attention s past
+abbrev pub sees_head : Side → Stage → List Said → Head → Result Action FrontFault → List Said
+sees_head s stage past head (Ok (actions.Begin kind reset)) = sees_first s past head
+sees_head s stage past head (Ok actions.Go) = sees_more s past head
+sees_head s stage past head (Ok (actions.Forget gone)) = sees_dropped s stage past head
+sees_head s stage past head (Ok actions.Acknowledge) = sees_attention s past
+sees_head s stage past head (Ok actions.HandOn) = sees_attention s past
 sees_head s stage past head (Err fault) = past
 
 -- the packet whose header ends with these bytes
@@ -134,24 +134,24 @@ abbrev pub sees_its : ℕ → Option ℕ → Sight → Sight → Sight
 sees_its key None before behind = before
 sees_its key (Some other) before behind = if other == key then behind else before
 
-abbrev pub sees_step : Side → ℕ → House → Step → Sight → Sight
+abbrev pub sees_step : Side → ℕ → Machine → Step → Sight → Sight
 sees_step s key h (Hands number header content part way manner) x =
-    sees_its key (whose h.hall.desk number) x (record { begun = goes_on_behind x.begun manner part; past = sees_handed s x.begun x.past manner part })
+    sees_its key (whose h.core.pool number) x (record { begun = goes_on_behind x.begun manner part; past = sees_handed s x.begun x.past manner part })
 sees_step s key h (Takes other bytes) x =
-    sees_its key (Some other) x (record { begun = x.begun; past = sees_bytes s bytes (end_at h.hall.ends key) x.past })
+    sees_its key (Some other) x (record { begun = x.begun; past = sees_bytes s bytes (end_at h.core.ends key) x.past })
 sees_step s key h step x = x
 
-abbrev pub sees_steps : Side → ℕ → House → List Step → Sight → Sight
+abbrev pub sees_steps : Side → ℕ → Machine → List Step → Sight → Sight
 sees_steps s key h [] x = x
 sees_steps s key h (step ∷ steps) x = sees_steps s key (after h step) steps (sees_step s key h step x)
 
 -- From where an application has come: nothing was seen.
 abbrev pub relayed : {sharing : Sharing} {key : ℕ} → Side → Visit sharing key → List Said
-relayed {sharing} {key} s v = (sees_steps s key (house_in v) v.since (record { begun = false; past = [] })).past
+relayed {sharing} {key} s v = (sees_steps s key (machine_in v) v.since (record { begun = false; past = [] })).past
 
 -- ---- What is supposed
 
--- All that comes on each connection is as behind a login, whatever is done at the desk by these.
+-- All that comes on each connection is as behind a login, whatever is done at the pool by these.
 abbrev pub ComeBehindLogin : Sharing → List Event → Type 0
 ComeBehindLogin sharing done = (number : ℕ) → AllBehindLogin (acts_of (done_on sharing number done))
 

@@ -59,7 +59,7 @@ AreOut named pen (packet ∷ packets) bytes behind =
 
 -- ---- What comes
 
--- The part that is heard is a packet's, by a walker that goes on from packet to packet where nothing of it is a fault. A connection's
+-- The part that is heard is a packet's, by a parser that goes on from packet to packet where nothing of it is a fault. A connection's
 -- first packet has the number 0 or 1: at another one a judge takes it for the middle of a message.
 pub record IsIn (r : Reading) (is_first : Bool) (part : Part Token) (answer : Answer) (bytes : List ℕ) (behind : Reading) : Type 0 where
   pub header : Header
@@ -92,7 +92,7 @@ abbrev pub pieces : List Shown → List Piece
 pieces [] = []
 pieces (x ∷ xs) = piece_by x.done.act x.time x.bytes ∷ pieces xs
 
--- where both directions are between two of them: the pen, the walker over what comes, and whether nothing came yet
+-- where both directions are between two of them: the pen, the parser over what comes, and whether nothing came yet
 pub record Wire : Type 0 where
   pub pen : Pen
   pub reading : Reading
@@ -125,11 +125,11 @@ AreSeen w past (d ∷ ds) all = IsSeen d.answer w past d (λ v seen. AreSeen v s
 abbrev pub new_watch : Watch
 new_watch = record { named = 0; begun = false }
 
--- nothing went out, and nothing came; the walker is before an answer
+-- nothing went out, and nothing came; the parser is before an answer
 abbrev pub new_wire : Reading → Wire
 new_wire r = record { pen = record { kind = Batch; packets = 0 }; reading = restarted r; is_first = true }
 
--- This was done on a new connection, and these bytes are handed to a judge that reads answers by this walker too.
+-- This was done on a new connection, and these bytes are handed to a judge that reads answers by this parser too.
 pub record IsHanded (r : Reading) (ds : List (Done Token)) (shown : List Shown) : Type 0 where
   pub done : dones shown ≡ ds
   pub spelled : AreShown new_watch (new_wire r) shown

@@ -65,7 +65,7 @@ pub fn never_blamed_before_a_lawful_server<V>()
 pub fn bytes_spell_what_is_done()
     ensures { (limits : Limits) (judge : Judge) (reading : Reading) (acts : List (Act Token))
         (shown : List Shown)
-        → IsNew limits judge → judge.walker ≡ Some reading
+        → IsNew limits judge → judge.parser ≡ Some reading
         → IsHanded reading (history new_line acts) shown → NoFault (history new_line acts)
         → (tells : Tells (run_of judge []) (seen (pieces shown) (run_of judge [])))
         × AreSeen new_watch [] (history new_line acts) tells.events }
@@ -80,7 +80,7 @@ pub fn our_bytes_are_never_blamed<V>()
     ensures { (engine : Engine V Token) (moves : List (Move Token)) (limits : Limits)
         (judge : Judge) (reading : Reading) (acts : List (Act Token)) (shown : List Shown)
         → IsLawful engine → IsRun engine moves (history new_line acts) → AllBehindLogin acts
-        → IsNew limits judge → judge.walker ≡ Some reading
+        → IsNew limits judge → judge.parser ≡ Some reading
         → IsHanded reading (history new_line acts) shown
         → has_breach (seen (pieces shown) (run_of judge [])).told ≡ false }
 {
@@ -98,7 +98,7 @@ pub fn our_calls_are_never_blamed<V>()
         → IsLawful engine
         → IsRun engine moves (history new_line (acts_of (new_end size reading) calls))
         → AllBehindLogin (acts_of (new_end size reading) calls)
-        → IsNew limits judge → judge.walker ≡ Some reading
+        → IsNew limits judge → judge.parser ≡ Some reading
         → has_breach (seen (handed calls) (run_of judge [])).told ≡ false }
 {
     our_bytes_are_never_blamed::<V>();

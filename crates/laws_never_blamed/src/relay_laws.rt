@@ -4,7 +4,7 @@ ghost use Rattle.std.specs.Prelude.{◌≡◌, ℕ, List, [], Some, false};
 ghost use Rattle.tds_wire.specs.Reading.{Reading};
 ghost use Rattle.tds_wire.specs.declared.told.Token.{Token};
 ghost use Rattle.tds_service.specs.History.{acts_of};
-ghost use Rattle.tds_relay.specs.Desk.{Event, Sharing};
+ghost use Rattle.tds_relay.specs.Pool.{Event, Sharing};
 ghost use Rattle.tds_relay.specs.Fronting.{done_on};
 ghost use Rattle.tds_relay.specs.Giving.{Visit, done_in};
 ghost use Rattle.tds_judge.specs.Conversation as judging;
@@ -29,7 +29,7 @@ use tds_wire::Token;
 
 /// Towards servers: what is seen on each connection of a relay, whoever shares it, whatever the applications
 /// say and whatever comes, is a lawful conversation until something that comes is a fault. It holds behind a
-/// login, and of any events of its desk, where each call of a relay leads (`any_bytes` of `tds_relay`).
+/// login, and of any events of its pool, where each call of a relay leads (`any_bytes` of `tds_relay`).
 pub fn relay_to_servers<V>()
     ensures lawful { (sharing : Sharing) (number : ℕ) (events : List Event) (eye : Eye)
         → AllBehindLogin (acts_of (done_on sharing number events))
@@ -47,7 +47,7 @@ pub fn relay_to_servers<V>()
         (shown : List Shown)
         → IsLawful engine → IsRun engine moves (done_on sharing number events)
         → AllBehindLogin (acts_of (done_on sharing number events))
-        → IsNew limits judge → judge.walker ≡ Some reading
+        → IsNew limits judge → judge.parser ≡ Some reading
         → IsHanded reading (done_on sharing number events) shown
         → has_breach (seen (pieces shown) (run_of judge [])).told ≡ false }
 {

@@ -1,7 +1,7 @@
 //! What the server of a group's first connection is asked, before anybody shares by transactions.
 
-use crate::members::Members;
 use crate::saying::put_group;
+use crate::state::RelayState;
 use relay_logins::FEATURES;
 use relay_questions::{Asking, Found, Question};
 use std::alloc::{AllocError, Global};
@@ -18,7 +18,7 @@ pub struct Asked {
     answer: Vec<u8>,
 }
 
-impl Members {
+impl RelayState {
     /// The server of a group's first connection is asked from now on, which has answered this to the login. False where
     /// there is none.
     pub fn begin_asking(
@@ -30,7 +30,7 @@ impl Members {
         answer: Vec<u8>,
     ) -> io::Result<bool> {
         let alloc = self.alloc;
-        let Members {
+        let RelayState {
             sockets,
             groups,
             ..
@@ -51,7 +51,7 @@ impl Members {
     /// What these bytes have shown.
     pub fn find_by(&mut self, key: usize, group: usize, piece: &[u8]) -> io::Result<Found> {
         let alloc = self.alloc;
-        let Members {
+        let RelayState {
             sockets,
             groups,
             ..

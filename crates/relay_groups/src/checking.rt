@@ -1,7 +1,7 @@
 //! Free connections of a group are checked: each is reset anew, which a server must answer in time.
 
-use crate::members::{Members, relay_of};
-use relay_sockets::{Sockets, Whose};
+use crate::state::{RelayState, relay_of};
+use relay_sockets::{RoleKind, Sockets};
 use std::alloc::{AllocError, Global};
 use std::io;
 use tds_relay::{PlaceOn, Relay};
@@ -12,7 +12,7 @@ const NOBODY: usize = usize::MAX - 3;
 /// The header of a batch's first packet, which isn't the last one (MS-TDS 2.2.3.1). It goes nowhere.
 const BEGUN: [u8; 8] = [1, 0, 0, 16, 0, 0, 1, 0];
 
-impl Members {
+impl RelayState {
     /// Whether a group wasn't checked for so many milliseconds. Then it is from now on.
     pub fn is_due(&mut self, key: usize, limit: u64) -> bool {
         let now = self.now();
@@ -44,7 +44,7 @@ impl Members {
     /// How many connections of a group are free. Each is noted to be checked.
     fn free_in(&mut self, group: usize) -> Result<usize, AllocError> {
         let alloc = self.alloc;
-        let Members {
+        let RelayState {
             sockets,
             groups,
             ..
@@ -82,7 +82,7 @@ fn free_keys(
 ) -> Result<Vec<usize>, AllocError> {
     let mut keys = Vec::new(alloc);
     for (_, entry) in sockets.iter() {
-        if let Whose::Connection(of, number) = entry.value.whose() {
+        if let RoleKind::Connection(of, number) = entry.value.role_kind() {
             if of == group && relay.place_on(number) == Some(PlaceOn::Free) {
                 keys.push(entry.key)?;
             }

@@ -1,12 +1,12 @@
 //! How many connections there are, and which one is free for longest.
 
 use crate::group::Group;
-use crate::members::{Members, relay_of};
+use crate::state::{RelayState, relay_of};
 use relay_logins::Groups;
-use relay_sockets::{Sockets, Whose};
+use relay_sockets::{RoleKind, Sockets};
 use tds_relay::PlaceOn;
 
-impl Members {
+impl RelayState {
     /// How many connections all groups have together, those too that are being opened.
     pub fn count_all(&self) -> usize {
         count_all(&self.groups)
@@ -19,7 +19,7 @@ impl Members {
 
     /// The free connection that has been one for longest.
     pub fn longest_free(&mut self) -> Option<usize> {
-        let Members {
+        let RelayState {
             sockets,
             groups,
             ..
@@ -33,7 +33,7 @@ fn count_all(groups: &Groups<Group>) -> usize {
     let mut count: usize = 0;
     for (_, entry) in groups.iter() {
         let group = &entry.value.inner;
-        let more = if group.is_judged() {
+        let more = if group.is_authenticating() {
             1
         } else {
             group.connections()
@@ -59,7 +59,7 @@ fn longest_free(sockets: &Sockets, groups: &mut Groups<Group>) -> Option<usize> 
     let (mut found, mut since) = (None, u64::MAX);
     for (_, entry) in sockets.iter() {
         let socket = &entry.value;
-        if let Whose::Connection(group, number) = socket.whose() {
+        if let RoleKind::Connection(group, number) = socket.role_kind() {
             if socket.seen.since < since && is_free(groups, group, number) {
                 found = Some(entry.key);
                 since = socket.seen.since;

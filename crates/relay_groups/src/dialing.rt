@@ -1,8 +1,8 @@
 //! Logins of connections: how each begins, and what the server answers.
 
-use crate::members::{Members, relay_of};
+use crate::state::{RelayState, relay_of};
 use relay_logins::{Dialed, Unfit, Way};
-use relay_sockets::{Role, Whose};
+use relay_sockets::{Role, RoleKind};
 use relay_status::raise;
 use socket_places::Link;
 use std::io;
@@ -13,38 +13,45 @@ use tds_relay::Mode;
 /// How often a login goes to the server that another one has named.
 const MOST_HOPS: u8 = 4;
 
-impl Members {
+impl RelayState {
     /// Begins the login of a connection on this link. None where it has no group, or no room.
-    pub fn begin_login(&mut self, whose: Whose, way: Way, link: Link) -> io::Result<Option<usize>> {
+    pub fn begin_login(
+        &mut self,
+        role_kind: RoleKind,
+        way: Way,
+        link: Link,
+    ) -> io::Result<Option<usize>> {
         let (alloc, now) = (self.alloc, self.now());
-        let group = match whose {
-            Whose::First(group) | Whose::Opening(group, _) | Whose::Again(group) => group,
+        let group = match role_kind {
+            RoleKind::First(group)
+            | RoleKind::Opening(group, _)
+            | RoleKind::Reauthentication(group) => group,
             _ => return Ok(None),
         };
         let mut out = Vec::new(alloc);
         let Some(dial) = self.groups.dial(alloc, group, way, &mut out)? else {
             return Ok(None);
         };
-        let role = match whose {
-            Whose::Opening(group, number) => Role::Opening(group, number, dial),
-            Whose::Again(group) => Role::Again(group, dial),
+        let role = match role_kind {
+            RoleKind::Opening(group, number) => Role::Opening(group, number, dial),
+            RoleKind::Reauthentication(group) => Role::Reauthentication(group, dial),
             _ => Role::First(group, dial),
         };
         self.sockets.take_in(link, role, out, now)
     }
 
     /// This socket is a login's connection from now on, at this address.
-    pub fn is_dialed(&mut self, whose: Whose, key: usize, address: SocketAddr) {
+    pub fn is_dialed(&mut self, role_kind: RoleKind, key: usize, address: SocketAddr) {
         if let Some(socket) = self.sockets.get_mut(key) {
             socket.dialed = Some(address);
         }
-        match whose {
-            Whose::Opening(group, number) => {
+        match role_kind {
+            RoleKind::Opening(group, number) => {
                 if let Some(relay) = relay_of(&mut self.groups, group) {
                     relay.opening(number, key);
                 }
             }
-            Whose::First(group) => {
+            RoleKind::First(group) => {
                 if let Some(group) = self.groups.get_mut(group) {
                     group.asked = None;
                     if let Some(pair) = &mut group.pair {
@@ -60,7 +67,7 @@ impl Members {
     pub fn way_on(&self, key: usize) -> Option<Way> {
         let dial = self.sockets.get(key)?.dial()?;
         let way = dial.way;
-        if dial.has_legs || way.hops >= MOST_HOPS {
+        if dial.has_continuations || way.hops >= MOST_HOPS {
             return None;
         }
         Some(Way {
@@ -82,7 +89,7 @@ impl Members {
             let (count, dialed) = match &mut socket.role {
                 Role::First(_, dial) => dial.take(rest, &mut socket.out)?,
                 Role::Opening(_, _, dial) => dial.take(rest, &mut socket.out)?,
-                Role::Again(_, dial) => dial.take(rest, &mut socket.out)?,
+                Role::Reauthentication(_, dial) => dial.take(rest, &mut socket.out)?,
                 _ => return Ok((&[], Dialed::Wrong(Unfit::NoPackets))),
             };
             rest = match rest.get(count..) {
@@ -101,7 +108,7 @@ impl Members {
     pub fn is_in(&mut self, key: usize, group: usize, number: u64) -> Option<usize> {
         let now = self.now();
         if let Some(group) = self.groups.get_mut(group) {
-            group.judged = now;
+            group.authenticated = now;
         }
         let mut server = None;
         if let Some(socket) = self.sockets.get_mut(key) {
@@ -116,14 +123,14 @@ impl Members {
 
     /// A connection's login was answered so: where its group's applications are parted from theirs, it is watched.
     pub fn watch_in(&mut self, key: usize, group: usize, answer: &[u8]) -> io::Result<()> {
-        let Members {
+        let RelayState {
             sockets,
             groups,
             ..
         } = self;
         match groups.get_mut(group) {
             Some(group) if group.mode == Mode::Transactions => {
-                group.keeping.add(sockets, key)?;
+                group.watched.add(sockets, key)?;
                 Ok(sockets.begin_watching(key, answer)?)
             }
             _ => Ok(()),

@@ -1,8 +1,8 @@
 //! Applications whose logins are equal, or one that is alone, and their relay.
 
 use crate::asking::Asked;
-use crate::keeping::{Keeping, is_held};
 use crate::resting::Resting;
+use crate::watched::{Watched, is_held};
 use relay_logins::{FEATURES, Who};
 use relay_questions::Question;
 use relay_status::{Done, NOTHING};
@@ -17,9 +17,9 @@ const MOST: usize = 1_024;
 /// How far the first login of a group is.
 #[derive(Drop)]
 pub enum Stage {
-    /// The server judges it. Those who wait for that.
-    Judged(Vec<usize>),
-    /// The server let it in: what it answered, for whoever comes later.
+    /// The server authenticates it. Those who wait for that.
+    Authenticating(Vec<usize>),
+    /// The server has authenticated it: what it answered, for whoever comes later.
     Open(Relay, Vec<u8>),
 }
 
@@ -51,12 +51,12 @@ pub struct Group {
     /// count were none of an application's but such a check.
     pub checked: u64,
     pub checks: u64,
-    /// Whether no server could be reached for its first login: who waits for its judgement waits for that.
+    /// Whether no server could be reached for its first login: who waits until it is authenticated waits for that.
     pub is_unreached: bool,
     /// The number of its first connection, until that was cleaned.
     pub first: Option<u64>,
-    /// The millisecond in which a server let its login in last, and whether one doesn't any more.
-    pub judged: u64,
+    /// The millisecond in which a server authenticated its login last, and whether one refuses it now.
+    pub authenticated: u64,
     pub is_over: bool,
     /// For how long its applications keep what they are lent.
     pub mode: Mode,
@@ -69,7 +69,7 @@ pub struct Group {
     pub parted: Vec<u64>,
     pub partings: u64,
     /// Its connections that are watched.
-    pub keeping: Keeping,
+    pub watched: Watched,
 }
 
 impl Pair {
@@ -83,7 +83,7 @@ impl Pair {
 }
 
 impl Group {
-    /// A group whose first login the server judges, which these wait for, the first one of them there.
+    /// A group whose first login the server authenticates, which these wait for, the first one of them there.
     pub fn new(
         alloc: Global,
         who: Who,
@@ -94,7 +94,7 @@ impl Group {
         from: Option<IpAddr>,
     ) -> Group {
         Group {
-            stage: Stage::Judged(waiting),
+            stage: Stage::Authenticating(waiting),
             size,
             who,
             most: 1,
@@ -106,7 +106,7 @@ impl Group {
             checks: 0,
             is_unreached: false,
             first: None,
-            judged: 0,
+            authenticated: 0,
             is_over: false,
             mode,
             asked: None,
@@ -114,13 +114,13 @@ impl Group {
             resting: Resting::new(alloc),
             parted: Vec::new(alloc),
             partings: 0,
-            keeping: Keeping::new(alloc),
+            watched: Watched::new(alloc),
         }
     }
 
-    /// Whether the server still judges its first login.
-    pub fn is_judged(&self) -> bool {
-        matches!(self.stage, Stage::Judged(_))
+    /// Whether the server still authenticates its first login.
+    pub fn is_authenticating(&self) -> bool {
+        matches!(self.stage, Stage::Authenticating(_))
     }
 
     /// The question because of which it shares by sessions.
@@ -131,7 +131,7 @@ impl Group {
         }
     }
 
-    /// How often a login's time passes at most before who waits for the judgement of its first one hears of it: once
+    /// How often a login's time passes at most before who waits for its first one hears of it: once
     /// for that; while its server is asked, once more; and once more where it is begun anew behind that.
     pub fn login_times(&self) -> u64 {
         match (&self.asked, self.question) {
@@ -164,7 +164,7 @@ impl Group {
     /// Its relay, once there is one.
     pub fn relay(&mut self) -> Option<&mut Relay> {
         match &mut self.stage {
-            Stage::Judged(_) => None,
+            Stage::Authenticating(_) => None,
             Stage::Open(relay, _) => Some(relay),
         }
     }
@@ -172,7 +172,7 @@ impl Group {
     /// What it has done.
     pub fn done(&self) -> Done {
         match &self.stage {
-            Stage::Judged(_) => NOTHING,
+            Stage::Authenticating(_) => NOTHING,
             Stage::Open(relay, _) => {
                 let counts = relay.counts();
                 Done {
@@ -193,10 +193,10 @@ impl Group {
         }
     }
 
-    /// The keys of its applications that wait for a connection, the first one first.
-    pub fn line(&self) -> &[usize] {
+    /// Its wait queue: the keys of its applications that wait for a connection, the first one first.
+    pub fn waiting(&self) -> &[usize] {
         match &self.stage {
-            Stage::Judged(_) => &[],
+            Stage::Authenticating(_) => &[],
             Stage::Open(relay, _) => relay.line(),
         }
     }
@@ -204,7 +204,7 @@ impl Group {
     /// How many applications of it are logged in.
     pub fn applications(&self) -> usize {
         match &self.stage {
-            Stage::Judged(_) => 0,
+            Stage::Authenticating(_) => 0,
             Stage::Open(relay, _) => relay.applications(),
         }
     }
@@ -212,7 +212,7 @@ impl Group {
     /// How many connections it has.
     pub fn connections(&self) -> usize {
         match &self.stage {
-            Stage::Judged(_) => 0,
+            Stage::Authenticating(_) => 0,
             Stage::Open(relay, _) => relay.connections(),
         }
     }
@@ -243,7 +243,7 @@ impl Group {
     /// first connection has begun, and somebody is left.
     pub fn is_settled(&self) -> bool {
         match &self.stage {
-            Stage::Judged(_) => false,
+            Stage::Authenticating(_) => false,
             Stage::Open(relay, _) => {
                 self.first.is_none()
                     && relay.applications() > 0
@@ -255,14 +255,14 @@ impl Group {
     /// Whether nobody is left of it.
     pub fn is_deserted(&self) -> bool {
         match &self.stage {
-            Stage::Judged(_) => false,
+            Stage::Authenticating(_) => false,
             Stage::Open(relay, _) => {
                 relay.applications() == 0 && relay.connections() == 0 && !self.is_paused()
             }
         }
     }
 
-    /// The server let its first login in.
+    /// The server has authenticated its first login.
     pub fn open(
         &mut self,
         alloc: Global,

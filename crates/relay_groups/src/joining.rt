@@ -1,7 +1,7 @@
 //! Applications that log in, and what they say then.
 
 use crate::group::{Group, Pair, Stage};
-use crate::members::{Members, relay_of};
+use crate::state::{RelayState, relay_of};
 use relay_logins::{Passed, put_saved, who_of};
 use relay_sockets::{Application, Role};
 use relay_status::raise;
@@ -22,7 +22,7 @@ pub enum Said {
     Notifies,
 }
 
-impl Members {
+impl RelayState {
     /// These bytes came of an application that is logged in: its group's relay hears them, but for where it asks for a
     /// query notification.
     pub fn take_said(
@@ -32,7 +32,7 @@ impl Members {
         application: usize,
         piece: &[u8],
     ) -> io::Result<Said> {
-        let Members {
+        let RelayState {
             sockets,
             groups,
             journal,
@@ -71,11 +71,11 @@ impl Members {
         let Some(socket) = self.sockets.get_mut(key) else {
             return Ok(None);
         };
-        let Role::Gate(coming) = &mut socket.role else {
+        let Role::Handshake(coming) = &mut socket.role else {
             return Ok(None);
         };
-        let passed = coming.gate.take(piece, &mut socket.out)?;
-        if let Some(source) = coming.gate.source.take() {
+        let passed = coming.handshake.take(piece, &mut socket.out)?;
+        if let Some(source) = coming.handshake.source.take() {
             socket.peer = Some(source);
         }
         Ok(Some(passed))
@@ -84,7 +84,7 @@ impl Members {
     /// Whether an application is one too many.
     pub fn is_too_many(&self, key: usize) -> bool {
         match self.sockets.get(key) {
-            Some(socket) => matches!(&socket.role, Role::Gate(coming) if coming.is_over),
+            Some(socket) => matches!(&socket.role, Role::Handshake(coming) if coming.is_over),
             None => false,
         }
     }
@@ -98,10 +98,10 @@ impl Members {
         Ok(())
     }
 
-    /// It joins a group: it waits for the judgement, or gets what the server answered the first one. Whether that is to
-    /// be sent.
+    /// It joins a group: it waits until that is authenticated, or gets what the server answered the first one. Whether
+    /// that is to be sent.
     pub fn join(&mut self, key: usize, group: usize) -> io::Result<bool> {
-        let Members {
+        let RelayState {
             sockets,
             groups,
             ..
@@ -110,16 +110,16 @@ impl Members {
             return Ok(false);
         };
         match &mut joined.stage {
-            Stage::Judged(waiting) => {
+            Stage::Authenticating(waiting) => {
                 waiting.push(key)?;
-                socket.role = Role::Judged(group);
+                socket.role = Role::Authenticating(group);
                 Ok(false)
             }
             Stage::Open(relay, answer) => {
                 put_saved(&mut socket.out, answer)?;
                 socket.role = Role::Application(Application::new(group, relay.enter(key)?));
-                raise(&mut self.journal.counts.let_in);
-                self.say_let_in(key, group);
+                raise(&mut self.journal.counts.authenticated);
+                self.say_authenticated(key, group);
                 Ok(true)
             }
         }
@@ -131,7 +131,7 @@ impl Members {
         Some(peer.ip())
     }
 
-    /// A group whose first application waits for the server's judgement of its login.
+    /// A group whose first application waits until the server has authenticated its login.
     pub fn group_with(
         &self,
         key: usize,

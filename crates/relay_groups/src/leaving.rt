@@ -1,11 +1,11 @@
 //! Sockets that are taken out, and who hears of that.
 
-use crate::members::{Members, relay_of};
+use crate::state::{RelayState, relay_of};
 use crate::telling::{is_quiet, may_be_told};
 use crate::upstream::Failure;
 use relay_logins::put_error;
 use relay_settings::is_beyond;
-use relay_sockets::{Cause, Gone, Role, Whose};
+use relay_sockets::{Cause, Gone, Role, RoleKind};
 use relay_status::raise;
 use std::io;
 use tds_relay::Place;
@@ -13,36 +13,36 @@ use tds_relay::Place;
 /// The number of the error of who asks on a connection that has ended.
 const LOST: u32 = 50_109;
 
-impl Members {
+impl RelayState {
     /// Takes a socket out, behind what the system still takes of what waits for it. Answers what it was.
-    pub fn take_out(&mut self, key: usize) -> io::Result<Option<Whose>> {
+    pub fn take_out(&mut self, key: usize) -> io::Result<Option<RoleKind>> {
         let _ = self.send(key)?;
-        if let Some(whose) = self.begin_owing(key) {
+        if let Some(role_kind) = self.begin_owing(key) {
             self.say(
                 "socket",
                 key,
                 "is told at its next request that its connection has ended",
             );
-            if let Whose::Application(group, application) = whose {
+            if let RoleKind::Application(group, application) = role_kind {
                 self.leave(group, application)?;
             }
-            return Ok(Some(whose));
+            return Ok(Some(role_kind));
         }
         self.say("socket", key, "is closed");
         let Some(gone) = self.remove(key)? else {
             return Ok(None);
         };
-        if let Whose::Application(group, application) = gone.whose {
+        if let RoleKind::Application(group, application) = gone.role_kind {
             self.leave(group, application)?;
         }
-        Ok(Some(gone.whose))
+        Ok(Some(gone.role_kind))
     }
 
     /// Removes a socket, and counts its end. Answers what it was.
     pub fn remove(&mut self, key: usize) -> io::Result<Option<Gone>> {
         let gone = self.sockets.remove(key, &mut self.journal)?;
         if let Some(gone) = &gone {
-            if let Whose::Connection(..) = gone.whose {
+            if let RoleKind::Connection(..) = gone.role_kind {
                 raise(&mut self.journal.counts.ended);
             }
         }
@@ -52,7 +52,7 @@ impl Members {
     /// Whether an application that sends no more waits for an answer, and not for longer than it may.
     pub fn may_wait(&mut self, key: usize, limit: u64) -> bool {
         let now = self.now();
-        let Members {
+        let RelayState {
             sockets,
             groups,
             ..
@@ -92,7 +92,8 @@ impl Members {
     /// Who asks on a connection that has ended is told so, where nothing of its answer has come; who has it and
     /// asks nothing, at its next request.
     pub fn tell_lost(&mut self, gone: &Gone, cause: Cause) -> io::Result<()> {
-        let (Some(address), Whose::Connection(group, number)) = (gone.dialed, gone.whose) else {
+        let (Some(address), RoleKind::Connection(group, number)) = (gone.dialed, gone.role_kind)
+        else {
             return Ok(());
         };
         if !cause.is_failure() {
@@ -117,7 +118,7 @@ impl Members {
     /// underway there: then nothing of its answer has come.
     fn who_has(&mut self, group: usize, number: u64) -> Option<(usize, bool)> {
         let pair = self.pair_of(group);
-        let Members {
+        let RelayState {
             sockets,
             groups,
             ..

@@ -3,32 +3,32 @@
 #![tactic(auto)]
 
 mod asking;
+mod authenticating;
+mod capacity;
 mod checking;
 mod counting;
-mod crowd;
 mod dialing;
 mod group;
 mod joining;
-mod judging;
-mod keeping;
 mod leaving;
-mod members;
 mod pairs;
 mod parting;
 mod resting;
 mod saying;
 mod sending;
 mod settling;
+mod state;
 mod telling;
 mod upstream;
+mod watched;
 
 pub use asking::{Asked, watch_behind};
-pub use crowd::Seat;
+pub use capacity::Slot;
 pub use group::{Group, Pair, Stage};
 pub use joining::Said;
-pub use keeping::Keeping;
-pub use members::{Members, relay_of};
 pub use parting::Parting;
 pub use resting::{Rest, Resting};
 pub use saying::{put_away, put_name};
+pub use state::{RelayState, relay_of};
 pub use upstream::{Failure, Upstream};
+pub use watched::Watched;

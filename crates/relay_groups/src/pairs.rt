@@ -1,12 +1,12 @@
 //! Logins that can't be shared: the two ends, which end together.
 
 use crate::group::Pair;
-use crate::members::Members;
+use crate::state::RelayState;
 use relay_logins::Taken;
-use relay_sockets::{Role, Whose};
+use relay_sockets::{Role, RoleKind};
 use std::io;
 
-impl Members {
+impl RelayState {
     /// The two ends of a group, where it isn't shared.
     pub fn pair_of(&self, group: usize) -> Option<Pair> {
         match self.groups.get(group) {
@@ -22,25 +22,26 @@ impl Members {
         }
     }
 
-    /// Bytes of a leg came. Whether it is whole now: then it is judged. None where the application is gone.
-    pub fn take_leg(&mut self, key: usize, group: usize, piece: &[u8]) -> Option<Taken> {
+    /// Bytes of a continuation came. Whether it is whole now: then the server goes on authenticating. None where the
+    /// application is gone.
+    pub fn take_continuation(&mut self, key: usize, group: usize, piece: &[u8]) -> Option<Taken> {
         let socket = self.sockets.get_mut(key)?;
         let taken = match &mut socket.role {
-            Role::Leg(_, leg) => leg.take(piece),
+            Role::Continuation(_, continuation) => continuation.take(piece),
             _ => Taken::Wrong,
         };
         if matches!(taken, Taken::Whole) {
-            socket.role = Role::Judged(group);
+            socket.role = Role::Authenticating(group);
         }
         Some(taken)
     }
 
     /// A socket of this key has ended, which was this: the other end of a group that isn't shared ends with
     /// it. True where there was one.
-    pub fn part(&mut self, whose: Whose, key: usize) -> io::Result<bool> {
-        let group = match whose {
-            Whose::Judged(group) | Whose::Leg(group) => group,
-            Whose::Application(group, _) | Whose::Connection(group, _) => group,
+    pub fn part(&mut self, role_kind: RoleKind, key: usize) -> io::Result<bool> {
+        let group = match role_kind {
+            RoleKind::Authenticating(group) | RoleKind::Continuation(group) => group,
+            RoleKind::Application(group, _) | RoleKind::Connection(group, _) => group,
             _ => return Ok(false),
         };
         let Some(pair) = self.pair_of(group) else {
@@ -59,9 +60,11 @@ impl Members {
 
     /// An application that was this gets a last answer, and then it is closed: where it isn't in a group
     /// that is shared, its connection is closed now.
-    pub fn let_go(&mut self, whose: Whose) -> io::Result<()> {
-        let group = match whose {
-            Whose::Judged(group) | Whose::Leg(group) | Whose::Application(group, _) => group,
+    pub fn let_go(&mut self, role_kind: RoleKind) -> io::Result<()> {
+        let group = match role_kind {
+            RoleKind::Authenticating(group)
+            | RoleKind::Continuation(group)
+            | RoleKind::Application(group, _) => group,
             _ => return Ok(()),
         };
         let Some(pair) = self.pair_of(group) else {

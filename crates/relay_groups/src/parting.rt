@@ -1,11 +1,11 @@
 //! Which applications rest, so that they may be parted from their connections.
 
 use crate::group::Group;
-use crate::keeping::is_held;
-use crate::members::{Members, relay_of};
 use crate::resting::Rest;
+use crate::state::{RelayState, relay_of};
+use crate::watched::is_held;
 use relay_logins::Groups;
-use relay_sockets::{Sockets, Whose};
+use relay_sockets::{RoleKind, Sockets};
 use relay_status::Done;
 use std::alloc::AllocError;
 use std::io;
@@ -22,11 +22,11 @@ pub enum Parting {
     Done,
 }
 
-impl Members {
+impl RelayState {
     /// An answer came on a connection of a group: it may rest by now, which is noted. Whether it does is looked at
     /// where somebody waits: that takes longer.
     pub fn note_rest(&mut self, key: usize, group: usize, number: u64) -> io::Result<()> {
-        let Members {
+        let RelayState {
             sockets,
             groups,
             ..
@@ -49,7 +49,7 @@ impl Members {
 
     /// Parts an application from its connection where it rests, though nobody waits. Of which group it is, then.
     pub fn park_one(&mut self, key: usize) -> io::Result<Option<usize>> {
-        let Members {
+        let RelayState {
             sockets,
             groups,
             ..
@@ -57,7 +57,7 @@ impl Members {
         let Some(socket) = sockets.get(key) else {
             return Ok(None);
         };
-        let Whose::Application(group, application) = socket.whose() else {
+        let RoleKind::Application(group, application) = socket.role_kind() else {
             return Ok(None);
         };
         let Some(relay) = relay_of(groups, group) else {
@@ -91,16 +91,16 @@ impl Members {
         let Some(group) = self.groups.get_mut(group) else {
             return false;
         };
-        if group.mode == Mode::Sessions || group.line().is_empty() || group.is_paused() {
+        if group.mode == Mode::Sessions || group.waiting().is_empty() || group.is_paused() {
             return false;
         }
-        let waiting = group.line().len();
+        let waiting = group.waiting().len();
         waiting > group.count_parted()
     }
 
     /// Tries the one of a group that has rested longest.
     pub fn park_next(&mut self, group: usize) -> io::Result<Parting> {
-        let Members {
+        let RelayState {
             sockets,
             groups,
             ..
@@ -134,7 +134,7 @@ impl Members {
 
     /// A connection that couldn't be had is tried again behind the others.
     fn rest_again(&mut self, key: usize, group: usize) -> Result<(), AllocError> {
-        let Members {
+        let RelayState {
             sockets,
             groups,
             ..

@@ -1,18 +1,18 @@
 //! Lines of the log about sockets, written where they wait.
 
 use crate::group::Group;
-use crate::members::{Members, relay_of};
+use crate::state::{RelayState, relay_of};
 use relay_logins::{Groups, number_of};
-use relay_sockets::{Cause, Socket, Whose};
+use relay_sockets::{Cause, RoleKind, Socket};
 use relay_status::{Journal, NOBODY};
 use std::io::Write;
 use std::net::SocketAddr;
 use tds_relay::Relay;
 
-impl Members {
+impl RelayState {
     /// A line about a socket.
     pub fn say(&mut self, what: &str, key: usize, words: &str) {
-        let Members {
+        let RelayState {
             sockets,
             journal,
             ..
@@ -27,7 +27,7 @@ impl Members {
 
     /// The same, with something behind a blank.
     pub fn say_of(&mut self, what: &str, key: usize, words: &str, more: &str) {
-        let Members {
+        let RelayState {
             sockets,
             journal,
             ..
@@ -42,7 +42,7 @@ impl Members {
 
     /// A line about an order to the group of this number, and where who gave it is: the socket of this key.
     pub fn say_order(&mut self, group: u64, words: &str, by: usize) {
-        let Members {
+        let RelayState {
             sockets,
             journal,
             ..
@@ -54,7 +54,7 @@ impl Members {
 
     /// A line about an order to the relay as a whole, and where who gave it is: the socket of this key.
     pub fn note_order(&mut self, words: &str, by: usize) {
-        let Members {
+        let RelayState {
             sockets,
             journal,
             ..
@@ -66,7 +66,7 @@ impl Members {
 
     /// A line about a socket's end: where the other end is a server, its address, and what it did.
     pub fn say_end(&mut self, key: usize, cause: Cause) {
-        let Members {
+        let RelayState {
             sockets,
             journal,
             ..
@@ -76,9 +76,9 @@ impl Members {
         }
     }
 
-    /// A line about a connection that isn't let in: by which server, and why.
+    /// A line about a connection whose login is refused: by which server, and why.
     pub fn say_refused(&mut self, key: usize, cause: Cause) {
-        let Members {
+        let RelayState {
             sockets,
             journal,
             ..
@@ -89,8 +89,8 @@ impl Members {
     }
 
     /// A line about an application whose login the server refuses.
-    pub fn say_not_let_in(&mut self, key: usize, cause: Cause) {
-        let Members {
+    pub fn say_application_refused(&mut self, key: usize, cause: Cause) {
+        let RelayState {
             sockets,
             journal,
             ..
@@ -100,21 +100,21 @@ impl Members {
         }
     }
 
-    /// A line about an application that is let in.
-    pub(crate) fn say_let_in(&mut self, key: usize, group: usize) {
-        let Members {
+    /// A line about an application that is authenticated.
+    pub(crate) fn say_authenticated(&mut self, key: usize, group: usize) {
+        let RelayState {
             sockets,
             journal,
             ..
         } = self;
         if let Some(socket) = sockets.get(key) {
-            put_let_in(journal, socket, group);
+            put_authenticated(journal, socket, group);
         }
     }
 
     /// A line about a connection that is dialed.
     pub fn say_dialed(&mut self, key: usize, address: SocketAddr) {
-        let Members {
+        let RelayState {
             sockets,
             journal,
             ..
@@ -126,7 +126,7 @@ impl Members {
 
     /// A line about what an application or a server did that it may not, where its socket is closed for that.
     pub(crate) fn say_fault(&mut self, key: usize) {
-        let Members {
+        let RelayState {
             sockets,
             groups,
             journal,
@@ -192,10 +192,10 @@ fn put_other_end(out: &mut Vec<u8>, socket: &Socket, cause: Cause) {
     };
 }
 
-fn put_let_in(journal: &mut Journal, socket: &Socket, group: usize) {
+fn put_authenticated(journal: &mut Journal, socket: &Socket, group: usize) {
     if let Some(out) = journal.line() {
         let (number, group) = (socket.number, number_of(group));
-        let _ = write!(out, "application {number} is let in, group {group}");
+        let _ = write!(out, "application {number} is authenticated, group {group}");
         journal.lines.end(&socket.whom());
     }
 }
@@ -209,13 +209,13 @@ fn put_dialed(journal: &mut Journal, socket: &Socket, address: SocketAddr) {
 
 fn put_fault(journal: &mut Journal, socket: &Socket, groups: &mut Groups<Group>) {
     let number = socket.number;
-    match socket.whose() {
-        Whose::Application(group, application) => {
+    match socket.role_kind() {
+        RoleKind::Application(group, application) => {
             if let Some(relay) = relay_of(groups, group) {
                 put_fault_of(journal, socket, relay, application);
             }
         }
-        Whose::Connection(group, on) => {
+        RoleKind::Connection(group, on) => {
             if let Some(relay) = relay_of(groups, group) {
                 put_fault_on(journal, number, relay, on);
             }

@@ -1,9 +1,9 @@
 //! What waits for a socket is sent.
 
 use crate::group::Group;
-use crate::members::{Members, relay_of};
+use crate::state::{RelayState, relay_of};
 use relay_logins::Groups;
-use relay_sockets::{Cause, Failed, Socket, Whose};
+use relay_sockets::{Cause, Failed, RoleKind, Socket};
 use relay_status::Done;
 use std::alloc::AllocError;
 use tds_judge::Finding;
@@ -20,11 +20,11 @@ enum Sent {
     All,
 }
 
-impl Members {
+impl RelayState {
     /// Sends what the system takes of what waits for a socket. False where it failed, or is to be closed
     /// and has nothing to be sent any more: then it says why it ends.
     pub fn send(&mut self, key: usize) -> Result<bool, AllocError> {
-        let Members {
+        let RelayState {
             sockets,
             groups,
             journal,
@@ -62,19 +62,21 @@ fn send_to(
     if !socket.send_out(time, findings)? {
         return Ok(Sent::Done);
     }
-    match socket.whose() {
-        Whose::Application(group, key) => match relay_of(groups, group) {
+    match socket.role_kind() {
+        RoleKind::Application(group, key) => match relay_of(groups, group) {
             Some(relay) => send_application(socket, relay, key, time, findings),
             None => Ok(Sent::Done),
         },
-        Whose::Connection(group, number) => match relay_of(groups, group) {
+        RoleKind::Connection(group, number) => match relay_of(groups, group) {
             Some(relay) => send_on(socket, relay, number, time, findings),
             None => Ok(Sent::Done),
         },
-        Whose::Closing => Ok(Sent::All),
-        Whose::Gate | Whose::Judged(_) | Whose::Leg(_) => Ok(Sent::Done),
-        Whose::First(_) | Whose::Opening(..) | Whose::Asker => Ok(Sent::Done),
-        Whose::Again(_) | Whose::Owed | Whose::Names => Ok(Sent::Done),
+        RoleKind::Closing => Ok(Sent::All),
+        RoleKind::Handshake | RoleKind::Authenticating(_) | RoleKind::Continuation(_) => Ok(
+            Sent::Done,
+        ),
+        RoleKind::First(_) | RoleKind::Opening(..) | RoleKind::StatusClient => Ok(Sent::Done),
+        RoleKind::Reauthentication(_) | RoleKind::Owed | RoleKind::Names => Ok(Sent::Done),
     }
 }
 

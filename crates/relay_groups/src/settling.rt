@@ -1,13 +1,13 @@
 //! What a group's relay says is to be done, as far as it opens no connection; and groups that end.
 
-use crate::members::{Members, relay_of};
-use relay_sockets::{News, Whose};
+use crate::state::{RelayState, relay_of};
+use relay_sockets::{News, RoleKind};
 use relay_status::sum;
 use std::alloc::AllocError;
 use std::io;
 use tds_relay::Place;
 
-impl Members {
+impl RelayState {
     /// Sends what waits for a socket. One that fails has its end reported.
     pub fn write(&mut self, key: usize) -> Result<(), AllocError> {
         self.note_answer(key);
@@ -38,7 +38,7 @@ impl Members {
     fn orders_of(&self, group: usize) -> Result<Vec<(u64, usize)>, AllocError> {
         let mut kept = Vec::new(self.alloc);
         for (_, entry) in self.sockets.iter() {
-            if let Whose::Application(of, _) = entry.value.whose() {
+            if let RoleKind::Application(of, _) = entry.value.role_kind() {
                 if of == group {
                     kept.push((entry.value.order, entry.key))?;
                 }
@@ -56,7 +56,7 @@ impl Members {
 
     /// How long an application's request took, where it has its answer now.
     fn note_answer(&mut self, key: usize) {
-        let Members {
+        let RelayState {
             sockets,
             groups,
             journal,
@@ -108,8 +108,8 @@ impl Members {
     pub fn close(&mut self, key: usize) -> io::Result<()> {
         self.say_fault(key);
         match self.take_out(key)? {
-            Some(whose) => {
-                let _ = self.part(whose, key)?;
+            Some(role_kind) => {
+                let _ = self.part(role_kind, key)?;
                 Ok(())
             }
             None => Ok(()),

@@ -1,19 +1,19 @@
 //! What applications that the relay closes are told, where nothing else waits for them.
 
 use crate::group::Group;
-use crate::members::{Members, relay_of};
+use crate::state::{RelayState, relay_of};
 use relay_logins::{Groups, NOT_OPENED, REFUSED, put_error};
-use relay_sockets::{Application, News, Role, Socket, Whose};
+use relay_sockets::{Application, News, Role, RoleKind, Socket};
 use relay_status::raise;
 use std::alloc::{AllocError, Global};
 use std::io;
 use tds_relay::{Place, Relay};
 
-impl Members {
+impl RelayState {
     /// An application of a group that asks something is told this error, where nothing else waits for it.
     pub fn tell_last(&mut self, key: usize, number: u32, sentence: &str) -> Result<(), AllocError> {
         let alloc = self.alloc;
-        let Members {
+        let RelayState {
             sockets,
             groups,
             ..
@@ -26,7 +26,7 @@ impl Members {
 
     /// Whether an application asks nothing, and all is sent that it was answered: nothing may be said then.
     pub fn asks_nothing(&mut self, key: usize) -> bool {
-        let Members {
+        let RelayState {
             sockets,
             groups,
             ..
@@ -34,7 +34,7 @@ impl Members {
         let Some(socket) = sockets.get(key) else {
             return false;
         };
-        let Whose::Application(group, application) = socket.whose() else {
+        let RoleKind::Application(group, application) = socket.role_kind() else {
             return false;
         };
         match relay_of(groups, group) {
@@ -44,11 +44,11 @@ impl Members {
     }
 
     /// An application that is owed an error is in no group from now on. What it was, where there is such a one.
-    pub fn begin_owing(&mut self, key: usize) -> Option<Whose> {
+    pub fn begin_owing(&mut self, key: usize) -> Option<RoleKind> {
         let socket = self.sockets.get_mut(key)?;
-        let whose = socket.whose();
+        let role_kind = socket.role_kind();
         if socket.begin_owing() {
-            Some(whose)
+            Some(role_kind)
         } else {
             None
         }
@@ -71,14 +71,14 @@ impl Members {
     }
 
     /// A socket is to be closed behind what waits for it. What it was.
-    pub fn begin_closing(&mut self, key: usize) -> Option<Whose> {
+    pub fn begin_closing(&mut self, key: usize) -> Option<RoleKind> {
         let socket = self.sockets.get_mut(key)?;
-        let whose = socket.whose();
+        let role_kind = socket.role_kind();
         socket.role = Role::Closing;
-        Some(whose)
+        Some(role_kind)
     }
 
-    /// It is told why it isn't let in, and is to be closed then.
+    /// It is told why its login is refused, and is to be closed then.
     pub fn put_refusal(&mut self, key: usize, why: &str) -> io::Result<()> {
         self.put_refusal_of(key, REFUSED, why)
     }
@@ -91,10 +91,10 @@ impl Members {
         let Some(socket) = self.sockets.get_mut(key) else {
             return Ok(());
         };
-        let whose = socket.whose();
+        let role_kind = socket.role_kind();
         put_error(alloc, &mut socket.out, number, why)?;
         socket.role = Role::Closing;
-        self.let_go(whose)?;
+        self.let_go(role_kind)?;
         Ok(self.sockets.report(key, News::Turn)?)
     }
 
@@ -118,7 +118,7 @@ impl Members {
         let what = "waits for a connection that can't be opened:";
         self.say_of("socket", key, what, why);
         let alloc = self.alloc;
-        let Members {
+        let RelayState {
             sockets,
             groups,
             ..
@@ -126,7 +126,7 @@ impl Members {
         let Some(socket) = sockets.get_mut(key) else {
             return Ok(());
         };
-        if let Whose::Application(group, application) = socket.whose() {
+        if let RoleKind::Application(group, application) = socket.role_kind() {
             if is_all_sent(groups, group, application) {
                 let told = format!(in alloc; "The relay could not open a connection. {why}")?;
                 put_error(alloc, &mut socket.out, NOT_OPENED, told.as_str())?;

@@ -55,7 +55,7 @@ impl Upstream {
         self.away = [0; MOST_SERVERS];
     }
 
-    /// A server has let a login in.
+    /// A server has authenticated a login.
     pub fn is_back(&mut self, server: usize) {
         if let Some(until) = self.away.get_mut(server) {
             *until = 0;

@@ -3,7 +3,7 @@ ghost use Rattle.std.specs.Prelude.{◌≡◌, IfOk, IfSome};
 
 use std::alloc::{AllocError, Global};
 use tds_packet::{Direction, PacketReader, PacketSize};
-use tds_wire::{Change, ChangeValue, Features, Place, Told, Walker};
+use tds_wire::{Change, ChangeValue, Features, Place, TokenParser, Told};
 
 /// PRELOGIN in one packet (MS-TDS 2.2.6.5): version 11.0, encryption isn't supported, no MARS.
 const PREPARE: [u8; 32] = [
@@ -20,7 +20,7 @@ const ROOM: usize = 4_088;
 /// The most bytes of a login's answer.
 const MOST: usize = 65_536;
 
-/// LOGINACK (MS-TDS 2.2.7.14), SSPI (2.2.7.22) and FEDAUTHINFO (2.2.7.12), which ask for another leg.
+/// LOGINACK (MS-TDS 2.2.7.14), SSPI (2.2.7.22) and FEDAUTHINFO (2.2.7.12), which ask for a continuation.
 const LOGIN_ACK: u8 = 0xad;
 
 const SSPI: u8 = 0xed;
@@ -46,13 +46,13 @@ pub const FEATURES: Features = Features {
 #[derive(Drop)]
 pub enum Dialed {
     More,
-    /// It is let in: the packet size, and the data of the answer.
-    In(PacketSize, Vec<u8>),
-    /// The server asks for another leg: the data of that.
-    Leg(Vec<u8>),
+    /// It is authenticated: the packet size, and the data of the answer.
+    Authenticated(PacketSize, Vec<u8>),
+    /// The server asks for a continuation: the data of that.
+    Continuation(Vec<u8>),
     /// It is to go to another server.
     Routed(Target),
-    /// It isn't: the data of the answer, and the number of its first error, 0 where there is none.
+    /// It is refused: the data of the answer, and the number of its first error, 0 where there is none.
     Refused(Vec<u8>, i32),
     /// The login can't go on with this server.
     Wrong(Unfit),
@@ -106,8 +106,8 @@ pub struct Target {
 /// What the answer has said so far.
 #[derive(Clone, Copy)]
 struct Heard {
-    is_in: bool,
-    asks_for_leg: bool,
+    is_authenticated: bool,
+    asks_for_continuation: bool,
     size: PacketSize,
     /// Where another server's name stands.
     routed: Option<Place>,
@@ -120,13 +120,13 @@ struct Heard {
 pub struct Dial {
     alloc: Global,
     reader: PacketReader,
-    walker: Walker,
+    parser: TokenParser,
     message: Vec<u8>,
     answer: Vec<u8>,
     is_prepared: bool,
     heard: Heard,
-    /// Whether the application was asked for another leg: the login can't be begun anew then.
-    pub has_legs: bool,
+    /// Whether the application was asked for a continuation: the login can't be begun anew then.
+    pub has_continuations: bool,
     pub way: Way,
     /// The server's process for it, as the newest packet says.
     pub spid: u16,
@@ -150,18 +150,18 @@ impl Dial {
         Ok(Some(Dial {
             alloc,
             reader: PacketReader::new(alloc, most, Direction::ToClient)?,
-            walker: Walker::new(alloc, 4_096, FEATURES)?,
+            parser: TokenParser::new(alloc, 4_096, FEATURES)?,
             message: message.to_vec(alloc)?,
             answer: Vec::new(alloc),
             is_prepared: false,
             heard: Heard {
-                is_in: false,
-                asks_for_leg: false,
+                is_authenticated: false,
+                asks_for_continuation: false,
                 size,
                 routed: None,
                 error: 0,
             },
-            has_legs: false,
+            has_continuations: false,
             way,
             spid: 0,
         }))
@@ -183,7 +183,7 @@ impl Dial {
             self.answer.extend_from_slice(packet.data)?;
         }
         if self.is_prepared {
-            look(&mut self.walker, packet.data, &mut self.heard);
+            look(&mut self.parser, packet.data, &mut self.heard);
         }
         self.reader.done();
         if !ends {
@@ -198,7 +198,7 @@ impl Dial {
     {
         let answer = std::mem::replace(&mut self.answer, Vec::new(self.alloc));
         if self.is_prepared {
-            return self.judged(answer);
+            return self.answered(answer);
         }
         if demands_encryption(&answer) {
             return Ok(Dialed::Wrong(Unfit::Encryption));
@@ -209,7 +209,7 @@ impl Dial {
     }
 
     /// What the server has answered.
-    fn judged(&mut self, answer: Vec<u8>) -> Result<Dialed, AllocError>
+    fn answered(&mut self, answer: Vec<u8>) -> Result<Dialed, AllocError>
         ensures by { self.new.message ≡ self.old.message }
     {
         if answer.len() > MOST {
@@ -221,34 +221,34 @@ impl Dial {
                 None => Ok(Dialed::Wrong(Unfit::NamesNone)),
             };
         }
-        if self.heard.is_in {
-            return Ok(Dialed::In(self.heard.size, answer));
+        if self.heard.is_authenticated {
+            return Ok(Dialed::Authenticated(self.heard.size, answer));
         }
-        if self.heard.asks_for_leg {
-            self.heard.asks_for_leg = false;
-            self.has_legs = true;
-            self.walker.restart();
-            return Ok(Dialed::Leg(answer));
+        if self.heard.asks_for_continuation {
+            self.heard.asks_for_continuation = false;
+            self.has_continuations = true;
+            self.parser.restart();
+            return Ok(Dialed::Continuation(answer));
         }
         Ok(Dialed::Refused(answer, self.heard.error))
     }
 }
 
-/// Looks for the login's acknowledgement and for the packet size, for another leg, and for another server.
-fn look(walker: &mut Walker, data: &[u8], heard: &mut Heard) {
+/// Looks for the login's acknowledgement and for the packet size, for a continuation, and for another server.
+fn look(parser: &mut TokenParser, data: &[u8], heard: &mut Heard) {
     let mut rest = data;
     for _ in 0..data.len() {
         if rest.is_empty() {
             break;
         }
-        let Ok(fed) = walker.feed(rest) else {
+        let Ok(fed) = parser.feed(rest) else {
             break;
         };
         let (_, others) = rest.split_at(fed.count);
         rest = others;
         if let Some(token) = fed.token {
-            heard.is_in = heard.is_in || token.kind == LOGIN_ACK;
-            heard.asks_for_leg = heard.asks_for_leg
+            heard.is_authenticated = heard.is_authenticated || token.kind == LOGIN_ACK;
+            heard.asks_for_continuation = heard.asks_for_continuation
                 || token.kind == SSPI
                 || token.kind == FEDERATED;
             if let Some(told) = size_told(token.told) {

@@ -24,7 +24,7 @@ const RECOVERY_ALONE: [u8; 6] = [RECOVERY, 0, 0, 0, 0, END];
 
 /// What of the features is kept.
 #[derive(Clone, Copy, PartialEq, Eq)]
-pub enum Keeping {
+pub enum KeptFeatures {
     /// A federated login alone.
     Federated,
     /// That, and else session recovery that brings nothing to be recovered.
@@ -42,9 +42,9 @@ struct Feature {
 pub fn leave_out_features(
     alloc: Global,
     message: &mut Vec<u8>,
-    keeping: Keeping,
+    kept: KeptFeatures,
 ) -> Result<(), AllocError> {
-    let found = find_kept(message, keeping);
+    let found = find_kept(message, kept);
     let start = start_of(message);
     let kept = match (found, start) {
         (Some(feature), Some(start)) if start <= feature.start => {
@@ -96,11 +96,11 @@ fn start_of(message: &[u8]) -> Option<usize> {
 }
 
 /// The feature that is kept.
-fn find_kept(message: &[u8], keeping: Keeping) -> Option<Feature> {
-    match (find(message, FEDERATED), keeping) {
+fn find_kept(message: &[u8], kept: KeptFeatures) -> Option<Feature> {
+    match (find(message, FEDERATED), kept) {
         (Some(federated), _) => Some(federated),
-        (None, Keeping::Federated) => None,
-        (None, Keeping::Recovery) => find_empty(message),
+        (None, KeptFeatures::Federated) => None,
+        (None, KeptFeatures::Recovery) => find_empty(message),
     }
 }
 

@@ -2,23 +2,23 @@
 //! come, of connections at the server, and which of them are equal.
 #![tactic(auto)]
 
+mod continuation;
 mod dial;
 mod features;
-mod gate;
 mod groups;
+mod handshake;
 mod keys;
-mod leg;
 mod login7;
 mod notice;
 mod notices;
 mod table;
 
+pub use continuation::{Continuation, Taken};
 pub use dial::{Dial, Dialed, FEATURES, Target, Unfit, Way};
-pub use features::{Keeping, leave_out_features};
-pub use gate::{Gate, Passed};
+pub use features::{KeptFeatures, leave_out_features};
 pub use groups::{Group, Groups};
+pub use handshake::{Handshake, Passed};
 pub use keys::Keys;
-pub use leg::{Leg, Taken};
 pub use login7::{Kind, SharedLogin, Who, kind_of, who_of};
 pub use notice::{
     FULL, NO_NOTICES, NOT_OPENED, NOTIFIES, REFUSED, TOO_MANY, UNANSWERED, put_error, put_saved,

@@ -10,7 +10,7 @@ use std::alloc::{AllocError, Global};
 const FIXED: usize = 94;
 
 /// The second byte of flags, and its bit for a login by the operating system's user (SSPI). Where the
-/// first leg of that stands.
+/// first message of that stands.
 const FLAGS_2: usize = 25;
 
 const INTEGRATED: u8 = 0x80;

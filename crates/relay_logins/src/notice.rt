@@ -6,7 +6,7 @@ use std::alloc::{AllocError, Global};
 use tds_login::Refusal;
 use tds_packet::{Kind, Status, put_sent};
 
-/// The number of an error that refuses a login, and its sentence where the application gives no further leg.
+/// The number of an error that refuses a login, and its sentence where the application gives no further continuation.
 pub const REFUSED: u32 = 50_100;
 
 pub const UNANSWERED: &str = "The application gave no answer in time.";

@@ -1,11 +1,11 @@
-//! The words that are counts.
+//! The arguments that are counts.
 
-/// The connections of a group, where no word says it, and the most of them.
+/// The connections of a group, where no argument says it, and the most of them.
 const USUAL: usize = 16;
 
 const MOST: usize = 1024;
 
-/// The connections that aren't shared, and the kinds of logins, where no word says it, and the most of them; and the
+/// The connections that aren't shared, and the kinds of logins, where no argument says it, and the most of them; and the
 /// most connections of all together.
 const USUAL_ALONE: usize = 256;
 
@@ -13,7 +13,7 @@ const MOST_ALONE: usize = 4096;
 
 const MOST_TOTAL: usize = 10_000;
 
-/// A word that is a count.
+/// An argument that is a count.
 #[derive(Clone, Copy)]
 pub struct Count {
     pub name: &'static str,

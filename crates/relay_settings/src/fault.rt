@@ -11,19 +11,19 @@ use std::net::SocketAddr;
 /// What keeps it from serving.
 #[derive(Debug, Drop, thiserror::Error)]
 pub enum RelayFault {
-    /// The words are no lawful words, or ask for help or the version.
+    /// The arguments are no lawful arguments, or ask for help or the version.
     #[error("{0}")]
     Usage(Error),
-    #[error("error: a word isn't UTF-8")]
+    #[error("error: an argument isn't UTF-8")]
     NoText,
-    /// Which word stands for an address, and as what it is given.
+    /// Which argument stands for an address, and as what it is given.
     #[error("error: {0} {1:?} isn't an IP address, a colon and a port, as 127.0.0.1:1433 \
          (`getent ahosts NAME` says an address)")]
     Address(&'static str, String),
     /// As what a server is given.
     #[error("error: SERVER {0:?} isn't an IP address or a name, a colon and a port, as sql.example:1433")]
     Server(String),
-    /// A server is named, and no word says where names are asked.
+    /// A server is named, and no argument says where names are asked.
     #[error("error: SERVER {0:?} is a name: --names unix:PATH says where `tdstls names` answers (docs/RELAY.md)")]
     Unnamed(String),
     /// As what the place is given where names are asked.
@@ -32,7 +32,7 @@ pub enum RelayFault {
     /// A server is the relay itself.
     #[error("error: SERVER {0} is where this relay itself listens: give the address of the server behind it")]
     Itself(SocketAddr),
-    /// The word whose count can't be, what may be, and of what; and as what it is given.
+    /// The argument whose count can't be, what may be, and of what; and as what it is given.
     #[error("error: --{0} takes {1} to {2} {3}, and not {4:?}")]
     Count(&'static str, usize, usize, &'static str, String),
     /// As what is given for how long a connection is kept.
@@ -49,7 +49,7 @@ pub enum RelayFault {
     /// What is wrong with the configuration file.
     #[error("error: {0}")]
     Config(String),
-    /// The word whose seconds can't be, and as what they are given.
+    /// The argument whose seconds can't be, and as what they are given.
     #[error("error: --{0} takes seconds, 0 to 604800, and not {1:?}")]
     Seconds(&'static str, String),
     #[error("error: --until-input-ends wants a pipe as standard input: {0}")]
@@ -95,8 +95,8 @@ impl Bar {
 }
 
 impl RelayFault {
-    /// The fault where words can't be had from the system.
-    pub fn of_words(error: io::Error) -> RelayFault {
+    /// The fault where arguments can't be had from the system.
+    pub fn of_arguments(error: io::Error) -> RelayFault {
         match error.kind() {
             ErrorKind::OutOfMemory => RelayFault::Memory,
             _ => RelayFault::NoText,
@@ -130,7 +130,7 @@ impl RelayFault {
         }
     }
 
-    /// The exit status: 2 where a word is wrong, 1 where the system refuses.
+    /// The exit status: 2 where an argument is wrong, 1 where the system refuses.
     pub fn status(&self) -> u8 {
         match self {
             RelayFault::Listen(..) | RelayFault::Refused(_) | RelayFault::Memory => 1,

@@ -32,7 +32,7 @@ const ALL: Keys = Keys {
     zone: true,
 };
 
-/// The keys, where these words or this file say them.
+/// The keys, where these arguments or this file say them.
 pub(crate) fn keys_of(
     alloc: Global,
     matches: &ArgMatches,

@@ -1,6 +1,7 @@
-//! What a relay is set to: the words of its command line, its configuration file, and what is wrong with them.
+//! What a relay is set to: the arguments of its command line, its configuration file, and what is wrong with them.
 #![tactic(auto)]
 
+mod arguments;
 mod config;
 mod counts;
 mod fault;
@@ -13,8 +14,8 @@ mod servers;
 mod share;
 mod system;
 mod table;
-mod words;
 
+pub use arguments::{Asked, Settings, is_reached_at, read_arguments};
 pub use fault::{Bar, RelayFault};
 pub use limits::{Limits, is_beyond, lesser};
 pub use named::{Named, named_by};
@@ -22,4 +23,3 @@ pub use proxies::Proxies;
 pub use servers::{MOST as MOST_SERVERS, Servers, bit, server_of};
 pub use share::Share;
 pub use system::SystemError;
-pub use words::{Asked, Settings, is_reached_at, read_words};

@@ -25,13 +25,13 @@ pub struct Limits {
     pub check: u64,
     /// For how long others are preferred to a server that has failed.
     pub away: u64,
-    /// From one judgement of a kind of login to the next.
-    pub judge: u64,
+    /// From one authentication of a kind of login to the next.
+    pub authentication: u64,
     /// For how long who has shut its sending side may wait for its answer, 0 for not at all.
     pub half: u64,
 }
 
-/// The limits where no word says them.
+/// The limits where no argument says them.
 pub const USUAL: Limits = Limits {
     login: 10,
     wait: 120,
@@ -44,11 +44,11 @@ pub const USUAL: Limits = Limits {
     drain: 30,
     check: 30,
     away: 10,
-    judge: 600,
+    authentication: 600,
     half: 0,
 };
 
-/// The most seconds that a word may say: a week.
+/// The most seconds that an argument may say: a week.
 pub const MOST: u64 = 604_800;
 
 /// Whether so many milliseconds are beyond a limit.

@@ -14,10 +14,10 @@ pub struct Named {
     pub port: u16,
 }
 
-/// The name and the port that a word gives to a server: letters, digits, dots, dashes and lines, then a colon and a
+/// The name and the port that an argument gives to a server: letters, digits, dots, dashes and lines, then a colon and a
 /// port. None where it isn't so.
-pub fn named_by(alloc: Global, server: usize, word: &str) -> Result<Option<Named>, AllocError> {
-    let Some((host, port)) = word.rsplit_once(':') else {
+pub fn named_by(alloc: Global, server: usize, argument: &str) -> Result<Option<Named>, AllocError> {
+    let Some((host, port)) = argument.rsplit_once(':') else {
         return Ok(None);
     };
     let Ok(port) = port.parse::<u16>() else {

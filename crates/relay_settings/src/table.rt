@@ -1,6 +1,6 @@
-//! The settings: each word and what it is.
+//! The settings: each argument and what it is.
 
-/// The words that take a value: the name, and what it is.
+/// The arguments that take a value: the name, and what it is.
 pub const SETTINGS: [(&str, &str); 27] = [
     (
         "most",
@@ -33,7 +33,7 @@ pub const SETTINGS: [(&str, &str); 27] = [
     ),
     (
         "login",
-        "SECONDS that a login may take, on either side [10]; of these words 0 is no limit",
+        "SECONDS that a login may take, on either side [10]; of these arguments 0 is no limit",
     ),
     (
         "wait",
@@ -74,7 +74,7 @@ pub const SETTINGS: [(&str, &str); 27] = [
     ),
     (
         "judge-again",
-        "SECONDS after which a server judges each kind of login once more, 0 for never [600]",
+        "SECONDS after which a server authenticates each kind of login once more, 0 for never [600]",
     ),
     (
         "half-closed",
@@ -102,7 +102,7 @@ pub const SETTINGS: [(&str, &str); 27] = [
     ),
     (
         "config",
-        "FILE in TOML that has these settings; a word stands over it",
+        "FILE in TOML that has these settings; an argument stands over it",
     ),
     (
         "stats",
@@ -110,7 +110,7 @@ pub const SETTINGS: [(&str, &str); 27] = [
     ),
 ];
 
-/// The words that take none.
+/// The arguments that take none.
 pub const FLAGS: [(&str, &str); 4] = [
     (
         "until-input-ends",

@@ -19,8 +19,8 @@ impl Sockets {
         let alloc = self.alloc;
         if let Some(socket) = self.table.get_mut(key) {
             socket.judged = match &socket.role {
-                Role::Gate(_) => Some(Judged::new(alloc, FEATURES, true)?),
-                Role::First(..) | Role::Opening(..) | Role::Again(..) => {
+                Role::Handshake(_) => Some(Judged::new(alloc, FEATURES, true)?),
+                Role::First(..) | Role::Opening(..) | Role::Reauthentication(..) => {
                     Some(Judged::new(alloc, FEATURES, false)?)
                 }
                 _ => None,

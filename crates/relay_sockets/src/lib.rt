@@ -15,7 +15,7 @@ mod watching;
 
 pub use ending::Cause;
 pub use link::{Came, Failed, Link, News};
-pub use role::{Application, Coming, Connection, Owed, Role, Whose};
+pub use role::{Application, Coming, Connection, Owed, Role, RoleKind};
 pub use room::{Admission, Room};
 pub use socket::{Gone, Seen, Socket, names_of};
 pub use sockets::{ROUND, Sockets};

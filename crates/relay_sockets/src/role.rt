@@ -1,16 +1,16 @@
 //! What a socket is, with what is kept of one that is that.
 
-use relay_logins::{Dial, Gate, Leg, Notices};
-use relay_status::Asker;
+use relay_logins::{Continuation, Dial, Handshake, Notices};
+use relay_status::StatusClient;
 
 /// What a socket is.
 #[derive(Drop)]
 pub enum Role {
     /// An application that logs in.
-    Gate(Coming),
-    /// An application whose login the server judges, and one that is asked for another leg of it.
-    Judged(usize),
-    Leg(usize, Leg),
+    Handshake(Coming),
+    /// An application whose login the server authenticates, and one that is asked for a continuation of it.
+    Authenticating(usize),
+    Continuation(usize, Continuation),
     /// An application of a group.
     Application(Application),
     /// The first connection of a group, which logs in.
@@ -18,39 +18,39 @@ pub enum Role {
     /// The connection of this number in a group, which logs in; and one which does.
     Opening(usize, u64, Dial),
     Connection(Connection),
-    /// A login of the relay's own, by which a server judges that of a group again.
-    Again(usize, Dial),
+    /// A login of the relay's own, by which a server authenticates that of a group again.
+    Reauthentication(usize, Dial),
     /// An application that is in no group any more, and is told this at its next request.
     Owed(Notices, Owed),
     /// Where names are asked.
     Names,
     /// Somebody who asks what the relay does.
-    Asker(Asker),
+    StatusClient(StatusClient),
     /// It is to be closed once what waits for it is sent.
     Closing,
 }
 
-/// Whose a socket is, without what it keeps.
+/// What a socket is, without what it keeps.
 #[derive(Clone, Copy)]
-pub enum Whose {
-    Gate,
-    Judged(usize),
-    Leg(usize),
+pub enum RoleKind {
+    Handshake,
+    Authenticating(usize),
+    Continuation(usize),
     Application(usize, usize),
     First(usize),
     Opening(usize, u64),
     Connection(usize, u64),
-    Again(usize),
+    Reauthentication(usize),
     Owed,
     Names,
-    Asker,
+    StatusClient,
     Closing,
 }
 
 /// An application that logs in.
 #[derive(Drop)]
 pub struct Coming {
-    pub gate: Gate,
+    pub handshake: Handshake,
     /// Whether it is one too many, which is told so at its login.
     pub is_over: bool,
 }
@@ -134,7 +134,7 @@ impl Role {
         match self {
             Role::First(_, dial) => Some(dial),
             Role::Opening(_, _, dial) => Some(dial),
-            Role::Again(_, dial) => Some(dial),
+            Role::Reauthentication(_, dial) => Some(dial),
             _ => None,
         }
     }
@@ -142,36 +142,39 @@ impl Role {
     /// The group that it belongs to.
     pub(crate) fn group(&self) -> Option<usize> {
         match self {
-            Role::Gate(_) | Role::Owed(..) | Role::Names => None,
-            Role::Asker(_) | Role::Closing => None,
-            Role::Judged(group) => Some(*group),
+            Role::Handshake(_) | Role::Owed(..) | Role::Names => None,
+            Role::StatusClient(_) | Role::Closing => None,
+            Role::Authenticating(group) => Some(*group),
             Role::Application(application) => Some(application.group),
-            Role::Leg(group, _) => Some(*group),
+            Role::Continuation(group, _) => Some(*group),
             Role::First(group, _) => Some(*group),
             Role::Opening(group, _, _) => Some(*group),
             Role::Connection(connection) => Some(connection.group),
-            Role::Again(group, _) => Some(*group),
+            Role::Reauthentication(group, _) => Some(*group),
         }
     }
 
-    /// Whose a socket is that is this.
-    pub(crate) fn whose(&self) -> Whose {
+    /// The kind of this.
+    pub(crate) fn role_kind(&self) -> RoleKind {
         match self {
-            Role::Gate(_) => Whose::Gate,
-            Role::Judged(group) => Whose::Judged(*group),
-            Role::Leg(group, _) => Whose::Leg(*group),
-            Role::Application(application) => Whose::Application(
+            Role::Handshake(_) => RoleKind::Handshake,
+            Role::Authenticating(group) => RoleKind::Authenticating(*group),
+            Role::Continuation(group, _) => RoleKind::Continuation(*group),
+            Role::Application(application) => RoleKind::Application(
                 application.group,
                 application.key,
             ),
-            Role::First(group, _) => Whose::First(*group),
-            Role::Opening(group, number, _) => Whose::Opening(*group, *number),
-            Role::Connection(connection) => Whose::Connection(connection.group, connection.number),
-            Role::Again(group, _) => Whose::Again(*group),
-            Role::Owed(..) => Whose::Owed,
-            Role::Names => Whose::Names,
-            Role::Asker(_) => Whose::Asker,
-            Role::Closing => Whose::Closing,
+            Role::First(group, _) => RoleKind::First(*group),
+            Role::Opening(group, number, _) => RoleKind::Opening(*group, *number),
+            Role::Connection(connection) => RoleKind::Connection(
+                connection.group,
+                connection.number,
+            ),
+            Role::Reauthentication(group, _) => RoleKind::Reauthentication(*group),
+            Role::Owed(..) => RoleKind::Owed,
+            Role::Names => RoleKind::Names,
+            Role::StatusClient(_) => RoleKind::StatusClient,
+            Role::Closing => RoleKind::Closing,
         }
     }
 }

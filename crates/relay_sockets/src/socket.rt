@@ -2,7 +2,7 @@
 
 use crate::ending::Cause;
 use crate::link::Link;
-use crate::role::{Application, Connection, Owed, Role, Whose};
+use crate::role::{Application, Connection, Owed, Role, RoleKind};
 use relay_logins::{Dial, Way, Who};
 use relay_status::{At, Judged, Names, Role as Told, Whom};
 use std::net::SocketAddr;
@@ -11,11 +11,11 @@ use tds_state::Watch;
 /// What is known of a socket behind its end: what it was, where it was dialed, and how far its login had come.
 #[derive(Clone, Copy)]
 pub struct Gone {
-    pub whose: Whose,
+    pub role_kind: RoleKind,
     pub dialed: Option<SocketAddr>,
     pub way: Option<Way>,
     /// Whether that login can't be begun anew.
-    pub has_legs: bool,
+    pub has_continuations: bool,
 }
 
 /// What a socket was seen to be at, and since when.
@@ -66,7 +66,7 @@ impl Socket {
     pub fn new(number: u64, link: Link, role: Role, out: Vec<u8>, now: u64) -> Socket {
         Socket {
             number,
-            is_told: !matches!(role, Role::Asker(_) | Role::Names),
+            is_told: !matches!(role, Role::StatusClient(_) | Role::Names),
             link,
             role,
             out,
@@ -198,26 +198,26 @@ impl Socket {
 
     /// What is known of it behind its end.
     pub fn gone(&self) -> Gone {
-        let (way, has_legs) = match self.dial() {
-            Some(dial) => (Some(dial.way), dial.has_legs),
+        let (way, has_continuations) = match self.dial() {
+            Some(dial) => (Some(dial.way), dial.has_continuations),
             None => (None, false),
         };
         Gone {
-            whose: self.whose(),
+            role_kind: self.role_kind(),
             dialed: self.dialed,
             way,
-            has_legs,
+            has_continuations,
         }
     }
 
     /// What is told that it is.
     pub fn told(&self) -> Told {
         match &self.role {
-            Role::Gate(_) | Role::Judged(_) | Role::Leg(..) => Told::Coming,
+            Role::Handshake(_) | Role::Authenticating(_) | Role::Continuation(..) => Told::Coming,
             Role::Application(_) | Role::Owed(..) => Told::Application,
-            Role::First(..) | Role::Opening(..) | Role::Again(..) => Told::Dialed,
+            Role::First(..) | Role::Opening(..) | Role::Reauthentication(..) => Told::Dialed,
             Role::Connection(_) => Told::Connection,
-            Role::Names | Role::Asker(_) | Role::Closing => Told::Other,
+            Role::Names | Role::StatusClient(_) | Role::Closing => Told::Other,
         }
     }
 
@@ -236,9 +236,9 @@ impl Socket {
         whom_of(&self.who, self.peer)
     }
 
-    /// Whose it is.
-    pub fn whose(&self) -> Whose {
-        self.role.whose()
+    /// The kind of its role.
+    pub fn role_kind(&self) -> RoleKind {
+        self.role.role_kind()
     }
 }
 

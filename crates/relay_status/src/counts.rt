@@ -28,12 +28,12 @@ pub const NOTHING: Done = Done {
 /// What it has done. Each of them only grows.
 #[derive(Clone, Copy)]
 pub struct Counts {
-    /// Applications that were let in, and those that were refused.
-    pub let_in: u64,
+    /// Applications that were authenticated, and those that were refused.
+    pub authenticated: u64,
     pub refused: u64,
     /// Applications that waited for a connection which couldn't be opened.
     pub not_served: u64,
-    /// Attempts to log in at a server, those that were let in, and those of these that ended.
+    /// Attempts to log in at a server, those that were authenticated, and those of these that ended.
     pub dialed: u64,
     pub opened: u64,
     pub ended: u64,
@@ -63,7 +63,7 @@ pub struct Counts {
 impl Counts {
     pub fn none() -> Counts {
         Counts {
-            let_in: 0,
+            authenticated: 0,
             refused: 0,
             not_served: 0,
             dialed: 0,

@@ -126,7 +126,7 @@ impl Figures {
     /// What was done since the relay began.
     fn counted(&self) -> [Figure; 25] {
         [
-            ("applications", "let_in", self.counts.let_in),
+            ("applications", "authenticated", self.counts.authenticated),
             ("applications", "refused", self.counts.refused),
             ("applications", "not_served", self.counts.not_served),
             ("connections", "dialed", self.counts.dialed),

@@ -26,6 +26,6 @@ pub use latency::Latency;
 pub use lines::{GroupLine, Names, SocketLine, put_group, put_server, put_socket};
 pub use objects::{put_json_group, put_json_socket};
 pub use outbox::Outbox;
-pub use page::{Asker, Door, FAR, NO_HTTP, PAGES, Page, STRANGE, UNMEANT, put_answer};
+pub use page::{Door, FAR, NO_HTTP, PAGES, Page, STRANGE, StatusClient, UNMEANT, put_answer};
 pub use reasons::Kept;
 pub use whom::{NOBODY, Whom};

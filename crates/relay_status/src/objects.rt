@@ -89,14 +89,14 @@ fn put_name(body: &mut Vec<u8>, what: &str, name: &str) -> io::Result<()> {
     write!(body, ",\"{what}\":\"{name}\"")
 }
 
-/// A group's object, up to the numbers of those who wait in it.
+/// A group's object, up to the numbers of its wait queue.
 pub fn put_json_group(body: &mut Vec<u8>, group: &GroupLine<'_>) -> io::Result<()> {
     write!(body, "{{\"group\":{}", group.number)?;
     put_name(body, "user", group.names.user)?;
     put_name(body, "database", group.names.database)?;
     put_name(body, "program", group.names.program)?;
     put_sharing(body, group)?;
-    write!(body, ",\"line\":[")
+    write!(body, ",\"waiting\":[")
 }
 
 fn put_sharing(body: &mut Vec<u8>, group: &GroupLine<'_>) -> io::Result<()> {

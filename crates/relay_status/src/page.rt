@@ -64,14 +64,14 @@ pub enum Door {
 
 /// Somebody who asks, until his request's head has come.
 #[derive(Drop)]
-pub struct Asker {
+pub struct StatusClient {
     head: Vec<u8>,
     door: Door,
 }
 
-impl Asker {
-    pub fn new(alloc: Global, door: Door) -> Asker {
-        Asker {
+impl StatusClient {
+    pub fn new(alloc: Global, door: Door) -> StatusClient {
+        StatusClient {
             head: Vec::new(alloc),
             door,
         }

@@ -1,6 +1,6 @@
 //! A server of the batch language for TDS drivers, over TCP or a Unix socket: one thread, many connections.
 //!
-//! A [`House`] serves whoever comes, until it is to end or a round at a time.
+//! A [`EventLoop`] serves whoever comes, until it is to end or a round at a time.
 #![tactic(auto)]
 
 mod connection;
@@ -8,4 +8,4 @@ mod log;
 mod serving;
 
 pub use log::{Log, Style};
-pub use serving::{House, Manner};
+pub use serving::{EventLoop, Manner};

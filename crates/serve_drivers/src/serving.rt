@@ -48,7 +48,7 @@ pub struct Manner {
 
 /// A server with all its connections.
 #[derive(Drop)]
-pub struct House<W: Write + Drop> {
+pub struct EventLoop<W: Write + Drop> {
     alloc: Global,
     manner: Manner,
     script: Script,
@@ -71,7 +71,7 @@ pub struct House<W: Write + Drop> {
     log: Log<W>,
 }
 
-impl<W: Write + Drop> House<W> {
+impl<W: Write + Drop> EventLoop<W> {
     /// A server that listens and has no connection yet.
     pub fn new<R: Net + Files + Clock>(
         rt: &R,
@@ -80,11 +80,11 @@ impl<W: Write + Drop> House<W> {
         manner: Manner,
         script: Script,
         log: Log<W>,
-    ) -> io::Result<House<W>> {
+    ) -> io::Result<EventLoop<W>> {
         let start = Instant::now(rt)?;
         let began = milliseconds(rt.since_1970()?);
         let (poll, listener) = listen(rt, place)?;
-        Ok(House {
+        Ok(EventLoop {
             alloc,
             manner,
             script,

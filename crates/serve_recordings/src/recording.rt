@@ -25,7 +25,7 @@ pub struct Exchange {
 }
 
 /// A connection: its first request's place among those of all connections, and the data of the message that
-/// let it in, if one did.
+/// authenticated it, if one did.
 #[derive(Debug, Drop)]
 pub struct Recorded {
     pub first: usize,
@@ -78,7 +78,7 @@ impl Recording {
         }
     }
 
-    /// What let the recorded connection of this number in; where nothing did, what let the first one in.
+    /// What authenticated the recorded connection of this number; where nothing did, what authenticated the first one.
     pub fn login(&self, number: u64) -> Option<&[u8]> {
         if let Some(connection) = self.connection(number) {
             if let Some(login) = &connection.login {

@@ -18,6 +18,6 @@ mod transactions;
 pub use call::{Call, CallFault, Procedure, read_call};
 pub use headers::behind_headers;
 pub use message::{KEPT_OF_CALL, MessageKind, MessageReader, Stop, Whole};
-pub use plan::{Deed, End, LONGEST, Plan};
+pub use plan::{Action, End, LONGEST, Plan};
 pub use session::Habits;
 pub use transactions::transaction_name;

@@ -18,7 +18,7 @@ const SILENT: &[u8] = b"get a";
 
 /// What is told of a statement.
 #[derive(Debug, Drop)]
-pub enum Deed {
+pub enum Action {
     /// What the batch language tells of it.
     Same,
     /// These tokens.
@@ -39,11 +39,11 @@ pub enum End {
 }
 
 /// What is run for a request: a text of the batch language, and what is told of each of its statements; of
-/// those behind the last deed, the same as the language tells.
+/// those behind the last action, the same as the language tells.
 #[derive(Debug, Drop)]
 pub struct Plan {
     pub text: Vec<u16>,
-    pub deeds: Vec<Deed>,
+    pub actions: Vec<Action>,
     /// How many transactions are begun within one another behind each statement, where that is known.
     pub levels: Vec<u32>,
     /// How many milliseconds go by before its answer begins.
@@ -58,7 +58,7 @@ impl Plan {
     {
         Plan {
             text: Vec::new(alloc),
-            deeds: Vec::new(alloc),
+            actions: Vec::new(alloc),
             levels: Vec::new(alloc),
             wait: 0,
             end,
@@ -77,7 +77,7 @@ impl Plan {
         ensures fits { IfOk result (λ plan. vec_len plan.text ≤ LONGEST) }
     {
         let mut plan = Plan::new(alloc, End::Batch);
-        plan.add_silent(alloc, Deed::Whole(tokens))?;
+        plan.add_silent(alloc, Action::Whole(tokens))?;
         Ok(plan)
     }
 
@@ -97,28 +97,28 @@ impl Plan {
         let mut plan = Plan::new(alloc, End::Batch);
         let mut tokens = Vec::new(alloc);
         put_done(&mut tokens, Done::Statement, 0x11, rows)?;
-        plan.add_silent(alloc, Deed::Tokens(tokens))?;
+        plan.add_silent(alloc, Action::Tokens(tokens))?;
         Ok(plan)
     }
 
     /// Adds a statement of the language, with what is told of it.
-    pub(crate) fn add(&mut self, statement: &[u16], deed: Deed) -> Result<(), AllocError>
+    pub(crate) fn add(&mut self, statement: &[u16], action: Action) -> Result<(), AllocError>
         ensures { vec_len self.new.text ≤ vec_len self.old.text + (1 + length statement.now) }
     {
-        if !self.deeds.is_empty() {
+        if !self.actions.is_empty() {
             self.text.push(59)?;
         }
         self.text.extend_from_slice(statement)?;
-        self.deeds.push(deed)?;
+        self.actions.push(action)?;
         Ok(())
     }
 
     /// Adds a statement that changes nothing.
-    pub(crate) fn add_silent(&mut self, alloc: Global, deed: Deed) -> Result<(), AllocError>
+    pub(crate) fn add_silent(&mut self, alloc: Global, action: Action) -> Result<(), AllocError>
         ensures { vec_len self.new.text ≤ vec_len self.old.text + 6 }
     {
         let statement = units_in(alloc, SILENT)?;
-        self.add(statement.as_slice(), deed)
+        self.add(statement.as_slice(), action)
     }
 
     /// Adds a statement that fails.
@@ -133,6 +133,6 @@ impl Plan {
         let statement = format!(in alloc; "fail {number}")?;
         let statement = units_in(alloc, statement.as_bytes())?;
         let statement = front(statement.as_slice(), FAILING);
-        self.add(statement, Deed::Failed { number, text })
+        self.add(statement, Action::Failed { number, text })
     }
 }

@@ -1,7 +1,7 @@
 //! The rows of a bulk load (MS-TDS 2.2.6.1), read past and counted.
 
 use std::alloc::{AllocError, Global};
-use tds_wire::{Features, Walker};
+use tds_wire::{Features, TokenParser};
 
 /// The most columns of a bulk load.
 const COLUMNS: u16 = 1024;
@@ -14,7 +14,7 @@ const NULL_ROW: u8 = 0xd2;
 /// Counts the rows of a bulk load, whose bytes are tokens as an answer's are.
 #[derive(Drop)]
 pub(crate) struct RowCount {
-    walker: Walker,
+    parser: TokenParser,
     rows: u64,
     is_wrong: bool,
 }
@@ -26,7 +26,7 @@ impl RowCount {
             ranks: false,
         };
         Ok(RowCount {
-            walker: Walker::new(alloc, COLUMNS, features)?,
+            parser: TokenParser::new(alloc, COLUMNS, features)?,
             rows: 0,
             is_wrong: false,
         })
@@ -39,7 +39,7 @@ impl RowCount {
             if rest.is_empty() || self.is_wrong {
                 return;
             }
-            let Ok(fed) = self.walker.feed(rest) else {
+            let Ok(fed) = self.parser.feed(rest) else {
                 self.is_wrong = true;
                 return;
             };
@@ -54,7 +54,7 @@ impl RowCount {
 
     /// How many rows came, or none where what came is no bulk load.
     pub(crate) fn count(&self) -> Option<u64> {
-        if self.is_wrong || !self.walker.is_between() {
+        if self.is_wrong || !self.parser.is_between() {
             None
         } else {
             Some(self.rows)

@@ -7,7 +7,7 @@ mod things;
 ghost use Rattle.std.specs.Prelude.{◌≤◌, length, vec_len, IfOk};
 ghost use Rattle.serve_requests.specs.declared.plan.TheConstants.{LONGEST};
 
-use crate::plan::{Deed, End, LONGEST, Plan};
+use crate::plan::{Action, End, LONGEST, Plan};
 use crate::statements::{Known, statements_of, what_is};
 use serve_answers::{
     Column, Done, put_collation_change, put_columns, put_done, put_info, put_row, put_text_change,
@@ -93,7 +93,7 @@ impl Habits {
         self.reset_things()
     }
 
-    /// What a SQL Server tells of the session that it lets in: its database, the collation, its language
+    /// What a SQL Server tells of a session that it begins: its database, the collation, its language
     /// (MS-TDS 2.2.7.9, types 1, 7 and 2), each with its INFO (2.2.7.13).
     pub fn login_tokens(&self, alloc: Global) -> Result<Vec<u8>, AllocError> {
         let mut tokens = Vec::new(alloc);
@@ -145,7 +145,7 @@ impl Habits {
             let is_of_drivers = self.add(&mut plan, statement, parameters, &mut level)?;
             plan.levels.push(level)?;
             is_known = is_known || is_of_drivers;
-            told = told.saturating_add(last_told(plan.deeds.as_slice()));
+            told = told.saturating_add(last_told(plan.actions.as_slice()));
             if told > MOST_TOLD {
                 return self.too_much(end);
             }
@@ -167,7 +167,7 @@ impl Habits {
         ensures fits { IfOk result (λ plan. vec_len plan.text ≤ LONGEST) }
     {
         let mut plan = Plan::new(self.alloc, end);
-        plan.add_silent(self.alloc, Deed::Tokens(Vec::new(self.alloc)))?;
+        plan.add_silent(self.alloc, Action::Tokens(Vec::new(self.alloc)))?;
         Ok(plan)
     }
 
@@ -270,7 +270,7 @@ impl Habits {
     fn add_done(&self, plan: &mut Plan) -> Result<(), AllocError> {
         let mut tokens = Vec::new(self.alloc);
         put_done(&mut tokens, Done::Statement, 1, 0)?;
-        plan.add_silent(self.alloc, Deed::Tokens(tokens))
+        plan.add_silent(self.alloc, Action::Tokens(tokens))
     }
 
     /// Adds the choice of a language: ENVCHANGE 2 and INFO 5703.
@@ -283,7 +283,7 @@ impl Habits {
         put_done(&mut tokens, Done::Statement, 1, 0)?;
         self.language = own(alloc, name)?;
         self.set_state(b"language", name)?;
-        plan.add_silent(alloc, Deed::Tokens(tokens))
+        plan.add_silent(alloc, Action::Tokens(tokens))
     }
 
     /// Adds the choice of a database: ENVCHANGE 1 and INFO 5701.
@@ -295,7 +295,7 @@ impl Habits {
         put_done(&mut tokens, Done::Statement, 1, 0)?;
         self.database = own(alloc, name)?;
         self.set_state(b"database", name)?;
-        plan.add_silent(alloc, Deed::Tokens(tokens))
+        plan.add_silent(alloc, Action::Tokens(tokens))
     }
 
     /// Adds a query, whose items may be known.
@@ -338,7 +338,7 @@ impl Habits {
         match found {
             Found::Columns(columns) => {
                 let tokens = tokens_of(alloc, columns.as_slice())?;
-                plan.add_silent(alloc, Deed::Tokens(tokens))?;
+                plan.add_silent(alloc, Action::Tokens(tokens))?;
             }
             Found::Refused(refusal) => {
                 let text = units_in(alloc, refusal.text())?;
@@ -349,7 +349,7 @@ impl Habits {
                 plan.add_failed(alloc, 50_005, text)?;
             }
             Found::Unknown => {
-                plan.add(statement, Deed::Same)?;
+                plan.add(statement, Action::Same)?;
                 return Ok(false);
             }
         }
@@ -357,10 +357,10 @@ impl Habits {
     }
 }
 
-/// How many bytes the last deed tells in the place of what the language tells.
-fn last_told(deeds: &[Deed]) -> usize {
-    match deeds.last() {
-        Some(Deed::Tokens(tokens)) => tokens.len(),
+/// How many bytes the last action tells in the place of what the language tells.
+fn last_told(actions: &[Action]) -> usize {
+    match actions.last() {
+        Some(Action::Tokens(tokens)) => tokens.len(),
         _ => 0,
     }
 }

@@ -7,7 +7,7 @@ mod breaking;
 
 use crate::shaping::{are_rows, put_shaped};
 use serve_answers::{DONE_LENGTH, Done, put_done, put_error, put_return_status, put_return_value};
-use serve_requests::{Deed, End, Habits, Plan};
+use serve_requests::{Action, End, Habits, Plan};
 use serve_scripts::Breach;
 use serve_values::text::units_in;
 use std::alloc::{AllocError, Global};
@@ -136,8 +136,8 @@ impl Answering {
 
     /// Whether the statement told of last is the whole answer.
     fn is_whole(&self) -> bool {
-        let told = self.plan.deeds.get(self.place.saturating_sub(1));
-        self.place > 0 && matches!(told, Some(Deed::Whole(_)))
+        let told = self.plan.actions.get(self.place.saturating_sub(1));
+        self.place > 0 && matches!(told, Some(Action::Whole(_)))
     }
 
     /// Does a step of the server's.
@@ -190,8 +190,8 @@ impl Answering {
 
     /// Appends an ERROR: the one of the statement at this place, if it is that.
     fn tell_error(&mut self, place: usize, data: &[u8]) -> Result<(), AllocError> {
-        match self.plan.deeds.get(place) {
-            Some(Deed::Failed { number, text }) if number_of(data) == *number => {
+        match self.plan.actions.get(place) {
+            Some(Action::Failed { number, text }) if number_of(data) == *number => {
                 put_error(self.alloc, &mut self.tokens, *number, text.as_slice())
             }
             _ if is_unknown(data) => {
@@ -209,15 +209,15 @@ impl Answering {
 
     /// Appends what is told of the statement at this place.
     fn tell_statement(&mut self, place: usize, data: &[u8]) -> Result<(), AllocError> {
-        match self.plan.deeds.get(place) {
-            Some(Deed::Tokens(tokens)) => {
-                let is_last = place.saturating_add(1) == self.plan.deeds.len();
+        match self.plan.actions.get(place) {
+            Some(Action::Tokens(tokens)) => {
+                let is_last = place.saturating_add(1) == self.plan.actions.len();
                 let is_last = is_last && matches!(self.plan.end, End::Batch);
                 let (front, done) = split_done(tokens.as_slice(), is_last);
                 self.tokens.extend_from_slice(front)?;
                 self.last_done.extend_from_slice(done)
             }
-            Some(Deed::Whole(tokens)) => self.tokens.extend_from_slice(tokens.as_slice()),
+            Some(Action::Whole(tokens)) => self.tokens.extend_from_slice(tokens.as_slice()),
             _ if self.is_real && are_rows(data) => put_shaped(&mut self.tokens, data),
             _ => self.tokens.extend_from_slice(data),
         }

@@ -226,7 +226,7 @@ impl Peer {
                     return Ok(Next::Close);
                 }
                 notes.push(Note::LoggedIn(terms.size.get()))?;
-                self.let_in(script, *terms, out)
+                self.authenticate(script, *terms, out)
             }
             LoginAnswer::Refuse(refusal) => {
                 put_answer(self.alloc, out, *answer)?;

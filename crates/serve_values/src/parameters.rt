@@ -6,7 +6,7 @@ use crate::encoding::put_chunked;
 use crate::text::units_of;
 use serve_answers::Value;
 use std::alloc::{AllocError, Global};
-use tds_wire::{Features, Walker};
+use tds_wire::{Features, TokenParser};
 
 /// The most bytes of a parameter's value.
 pub const MOST_VALUE: usize = 1_048_576;
@@ -39,7 +39,7 @@ const FRONT: [u8; 11] = [0xac, 0, 0, 0, 0, 0, 0, 0, 0, 0, 0];
 /// Reads types and values.
 #[derive(Drop)]
 pub struct Reading {
-    walker: Walker,
+    parser: TokenParser,
 }
 
 impl Reading {
@@ -49,7 +49,7 @@ impl Reading {
             ranks: false,
         };
         Ok(Reading {
-            walker: Walker::new(alloc, 1, features)?,
+            parser: TokenParser::new(alloc, 1, features)?,
         })
     }
 
@@ -68,12 +68,12 @@ impl Reading {
 
     /// How many bytes a type and a value have at the front of these.
     fn passed(&mut self, bytes: &[u8]) -> Option<usize> {
-        self.walker.restart();
-        let front = self.walker.feed(&FRONT).ok()?;
+        self.parser.restart();
+        let front = self.parser.feed(&FRONT).ok()?;
         if front.token.is_some() {
             return None;
         }
-        let fed = self.walker.feed(bytes).ok()?;
+        let fed = self.parser.feed(bytes).ok()?;
         match fed.token {
             Some(_) => Some(fed.count),
             None => None,

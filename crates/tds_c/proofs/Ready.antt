@@ -37,7 +37,7 @@ pub in_some : {A : Type 0} (o : Option A) → IsSome o → (x : A) × (o ≡ Som
 in_some (Some x) is = (x, refl)
 in_some None is = absurd cc
 
--- the walker that it is
+-- the parser that it is
 abbrev pub reading_in : TdsWire → Memory → Inside → Reading
 reading_in w m inside = record {
   walk = record {

@@ -50,7 +50,7 @@ came_number (came.BrokenAtEnd fault) = fault_number fault
 
 -- ---- Tokens, one after the other
 
--- the client and the walker, before bytes that are left
+-- the client and the parser, before bytes that are left
 pub record Place : Type 0 where
   pub session : ClientSession
   pub reading : Reading
@@ -59,7 +59,7 @@ pub record Place : Type 0 where
 abbrev pub behind : Move → Place
 behind move = record { session = move.session; reading = move.reading; rest = move.rest }
 
--- `next_heard` makes these moves, one after the other, and then the client and the walker stand at `last`.
+-- `next_heard` makes these moves, one after the other, and then the client and the parser stand at `last`.
 unfoldable pub HearsInTurn : Place → List Move → Place → Type 0
 HearsInTurn first [] last = first ≡ last
 HearsInTurn first (move ∷ others) last =
@@ -150,7 +150,7 @@ HearsAll h is = HearsBy (client_of h.before.client []) (reading_from h.before.wa
 
 -- ---- Where the walk is read out
 
--- Why no more was heard: the client and the walker stand there now, or are broken by what comes next.
+-- Why no more was heard: the client and the parser stand there now, or are broken by what comes next.
 abbrev pub HaltsAt : Place → Both → Room TdsWireToken → Result Halt ListenFault → Type 0
 HaltsAt last now room (Ok halts.Full) = StopsAt last now false room came.Full
 HaltsAt last now room (Ok halts.Through) = (last.rest ≡ []) × (now ≡ record { session = last.session; reading = last.reading })

@@ -8,3 +8,4 @@ pub mod Streams
 pub mod Asking
 pub mod Hearing
 pub mod Places
+pub mod service

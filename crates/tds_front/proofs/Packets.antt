@@ -13,12 +13,12 @@ use Rattle.tds_front.specs.declared.front.Fed.{Fed}
 use Rattle.tds_front.specs.declared.front.Front.{Front}
 use Rattle.tds_front.specs.declared.front.Part.{Part}
 use Rattle.tds_front.specs.declared.front.Said.TheVariants as said
-use Rattle.tds_front.specs.declared.stage.Deed.{Deed}
-use Rattle.tds_front.specs.declared.stage.Deed.TheVariants as deeds
+use Rattle.tds_front.specs.declared.stage.Action.{Action}
+use Rattle.tds_front.specs.declared.stage.Action.TheVariants as actions
 use Rattle.tds_front.specs.declared.stage.Head.{Head}
 use Rattle.tds_front.specs.declared.stage.Stage.{Stage}
 use Rattle.tds_front.specs.declared.stage.Stage.TheVariants.{Quiet, Receiving, Underway, Stopping, Broken}
-use Rattle.tds_front.specs.Bytes.{Step, body_of, deed_done, due_for, ended_in, fails, fed, fed_by, fed_unless, kind_from, packet_done, part_behind, run_of, says, told, with_due, with_kind, with_part}
+use Rattle.tds_front.specs.Bytes.{Step, body_of, action_done, due_for, ended_in, fails, fed, fed_by, fed_unless, kind_from, packet_done, part_behind, run_of, says, told, with_due, with_kind, with_part}
 use Rattle.tds_front.specs.Rules.{attention, begins, breaks, goes_on, of_request, refuses, taken, taken_as}
 use Rattle.tds_front.specs.Passing.{EndsOf, EndsWhere, IsData, IsSaid, SaysOf, judged, stage_fed}
 
@@ -97,7 +97,7 @@ part_leads most stage due part u left run body (Some next) = passed_leads most s
 
 -- ---- The last byte of a header
 
-abbrev SaidOf : Result Deed FrontFault → Result Fed FrontFault → Type 0
+abbrev SaidOf : Result Action FrontFault → Result Fed FrontFault → Type 0
 SaidOf does (Ok fed) = IsSaid does fed.said
 SaidOf does (Err fault) = Unit {0}
 
@@ -105,11 +105,11 @@ abbrev StageOf : Stage → Result Fed FrontFault → Stage
 StageOf stage (Ok fed) = stage
 StageOf stage (Err fault) = (refuses stage fault).stage
 
-abbrev Does : Stage → Result Deed FrontFault → Step → Type 0
+abbrev Does : Stage → Result Action FrontFault → Step → Type 0
 Does stage does step = (step.front.stage ≡ StageOf stage step.brings) × SaidOf does step.brings × EndsWhere step.front.stage step.brings
 
-abbrev IsFault : Stage → Result Deed FrontFault → Type 0
-IsFault stage (Ok deed) = Unit {0}
+abbrev IsFault : Stage → Result Action FrontFault → Type 0
+IsFault stage (Ok action) = Unit {0}
 IsFault stage (Err fault) = stage ≡ Broken fault
 
 begin_faults : (head : Head) → IsFault (begins head).stage (begins head).does
@@ -144,10 +144,10 @@ faults_in kinds.Transaction stage head = request_faults stage head
 faults_in kinds.Attention stage head = attended_faults stage ((bits_of head.status == 1) && (head.count == 0))
 faults_in kinds.Answer stage head = refusal_faults stage faults.UnknownType
 
-ended_does : (most : ℕ) (gone : Bool) (due : Due) (count : ℕ) (part other : Part) → Does (Underway gone) (Ok deeds.Go) (ended_in (front most (Underway gone) due other) count 0 part)
+ended_does : (most : ℕ) (gone : Bool) (due : Due) (count : ℕ) (part other : Part) → Does (Underway gone) (Ok actions.Go) (ended_in (front most (Underway gone) due other) count 0 part)
 ended_does most gone due count part other = search rules
 
-done_does : (most : ℕ) (stage : Stage) (due : Due) (part : Part) (count : ℕ) → Does stage (Ok deeds.Go) (packet_done (front most stage due part) stage count 0)
+done_does : (most : ℕ) (stage : Stage) (due : Due) (part : Part) (count : ℕ) → Does stage (Ok actions.Go) (packet_done (front most stage due part) stage count 0)
 done_does most Quiet due part count = (refl, tt, tt)
 done_does most (Receiving kind gone) due part count = (refl, tt, tt)
 done_does most (Underway gone) due part count = ended_does most gone due count part part
@@ -155,20 +155,20 @@ done_does most Stopping due part count = (refl, tt, tt)
 done_does most (Broken fault) due part count = (refl, tt, tt)
 
 went_does : (most : ℕ) (stage : Stage) (due : Due) (part : Part) (empty : Bool)
-    → Does stage (Ok deeds.Go) (if empty then packet_done (front most stage due part) stage 1 0 else says (front most stage due part) 1 said.Nothing)
+    → Does stage (Ok actions.Go) (if empty then packet_done (front most stage due part) stage 1 0 else says (front most stage due part) 1 said.Nothing)
 went_does most stage due part true = done_does most stage due part 1
 went_does most stage due part false = (refl, tt, tt)
 
 breaks_to : (stage : Stage) (fault : FrontFault) → stage ≡ Broken fault → Broken fault ≡ (refuses stage fault).stage
 breaks_to stage fault e = subst (λ (s : Stage). Broken fault ≡ (refuses s fault).stage) (sym e) refl
 
-deed_does : (f : Front) (stage : Stage) (count : ℕ) (does : Result Deed FrontFault) → IsFault stage does → Does stage does (deed_done f stage count does)
-deed_does f stage count (Err fault) e = (breaks_to stage fault e, tt, tt)
-deed_does f stage count (Ok (deeds.Begin kind reset)) e = (refl, refl, tt)
-deed_does f stage count (Ok deeds.Go) e = went_does f.most stage (due_for count) f.part (count == 0)
-deed_does f stage count (Ok (deeds.Forget gone)) e = (refl, refl, tt)
-deed_does f stage count (Ok deeds.Acknowledge) e = (refl, refl, tt)
-deed_does f stage count (Ok deeds.HandOn) e = (refl, refl, tt)
+action_does : (f : Front) (stage : Stage) (count : ℕ) (does : Result Action FrontFault) → IsFault stage does → Does stage does (action_done f stage count does)
+action_does f stage count (Err fault) e = (breaks_to stage fault e, tt, tt)
+action_does f stage count (Ok (actions.Begin kind reset)) e = (refl, refl, tt)
+action_does f stage count (Ok actions.Go) e = went_does f.most stage (due_for count) f.part (count == 0)
+action_does f stage count (Ok (actions.Forget gone)) e = (refl, refl, tt)
+action_does f stage count (Ok actions.Acknowledge) e = (refl, refl, tt)
+action_does f stage count (Ok actions.HandOn) e = (refl, refl, tt)
 
 -- ---- Any bytes
 
@@ -184,15 +184,15 @@ judged_said : (stage : Stage) (head : Head) (brings : Result Fed FrontFault) →
 judged_said stage head (Ok fed) s = s
 judged_said stage head (Err fault) s = s
 
-header_fits : (f : Front) (head : Head) → Fits f.stage (Some head) (deed_done f (taken f.stage head).stage head.count (taken f.stage head).does)
+header_fits : (f : Front) (head : Head) → Fits f.stage (Some head) (action_done f (taken f.stage head).stage head.count (taken f.stage head).does)
 header_fits f head =
-    let step : Step = deed_done f (taken f.stage head).stage head.count (taken f.stage head).does in
+    let step : Step = action_done f (taken f.stage head).stage head.count (taken f.stage head).does in
     let d : Does (taken f.stage head).stage (taken f.stage head).does step =
-    deed_does f (taken f.stage head).stage head.count (taken f.stage head).does (faults_in head.kind f.stage head) in
+    action_does f (taken f.stage head).stage head.count (taken f.stage head).does (faults_in head.kind f.stage head) in
     (judged_stage f.stage head step.front.stage step.brings d.0, judged_said f.stage head step.brings d.1, d.2)
 
 rest_fits : (f : Front) (head : Head) (left : ℕ) (more : Bool) → Fits f.stage (if more then None else Some head)
-    (if more then says (with_due f (dues.Rest head (left - 1))) 1 said.Nothing else deed_done f (taken f.stage head).stage head.count (taken f.stage head).does)
+    (if more then says (with_due f (dues.Rest head (left - 1))) 1 said.Nothing else action_done f (taken f.stage head).stage head.count (taken f.stage head).does)
 rest_fits f head left true = (refl, tt, tt)
 rest_fits f head left false = header_fits f head
 

@@ -7,7 +7,7 @@ use Rattle.tds_packet.specs.declared.status.Reset.{Reset}
 use Rattle.tds_packet.specs.Layout.{bits_of, has_bit, has_both_resets, kind_byte, reset_of}
 use Rattle.tds_front.specs.declared.fault.FrontFault.{FrontFault}
 use Rattle.tds_front.specs.declared.fault.FrontFault.TheVariants as faults
-use Rattle.tds_front.specs.declared.stage.Deed.TheVariants as deeds
+use Rattle.tds_front.specs.declared.stage.Action.TheVariants as actions
 use Rattle.tds_front.specs.declared.stage.Head.{Head}
 use Rattle.tds_front.specs.declared.stage.Move.{Move}
 use Rattle.tds_front.specs.declared.stage.Stage.{Stage}
@@ -110,8 +110,8 @@ refused events here place begun kind brought fault e w l =
 begins_step : (events : List Event) → Passes events → (place : Place) → IsIdle place → (kind : Kind) (reset : Option Reset) (both empty ignored ends : Bool)
     → Steps events Ready place None kind
     (if both then Wrong else if empty && not ignored then Wrong else if ignored then (if ends then Ignored else Wrong) else (if ends then Whole else More))
-    (if both then breaks faults.BothResets else if ignored then (if ends then moves Quiet (deeds.Forget false) else breaks faults.IgnoredPart)
-    else if empty then breaks faults.EmptyPart else moves (if ends then Underway false else Receiving kind false) (deeds.Begin kind reset))
+    (if both then breaks faults.BothResets else if ignored then (if ends then moves Quiet (actions.Forget false) else breaks faults.IgnoredPart)
+    else if empty then breaks faults.EmptyPart else moves (if ends then Underway false else Receiving kind false) (actions.Begin kind reset))
 begins_step events later place idle kind reset true empty ignored ends = refused events Ready place None kind Wrong faults.BothResets refl
 begins_step events later place idle kind reset false true true true = later Quiet false place idle
 begins_step events later place idle kind reset false false true true = later Quiet false place idle
@@ -128,7 +128,7 @@ asked_idle (serving.Stopping answering) idle = absurd idle
 asked_idle serving.Broken idle = tt
 
 forgets_step : (events : List Event) → Passes events → (gone : Bool) (place : Place) → IsIdle place → (begun : Option Kind) (kind : Kind)
-    → Steps events Ready place begun kind Ignored (moves Quiet (deeds.Forget gone))
+    → Steps events Ready place begun kind Ignored (moves Quiet (actions.Forget gone))
 forgets_step events later false place idle begun kind = later Quiet false place idle
 forgets_step events later true Ready idle begun kind = later Quiet false Ready tt
 forgets_step events later true Executing idle begun kind = absurd idle
@@ -136,7 +136,7 @@ forgets_step events later true (serving.Stopping answering) idle begun kind = ab
 forgets_step events later true serving.Broken idle begun kind = later Quiet false serving.Broken tt
 
 whole_step : (events : List Event) → Passes events → (gone : Bool) (place : Place) → IsIdle place → (begun : Option Kind) (kind : Kind)
-    → Steps events Ready place begun kind Whole (moves (Underway gone) deeds.Go)
+    → Steps events Ready place begun kind Whole (moves (Underway gone) actions.Go)
 whole_step events later false place idle begun kind = later (Underway false) false place idle
 whole_step events later true place idle begun kind = later (Underway true) false place (asked_idle place idle)
 
@@ -144,8 +144,8 @@ whole_step events later true place idle begun kind = later (Underway true) false
 goes_on_step : (events : List Event) → Passes events → (place : Place) → IsIdle place → (first : Kind) (gone : Bool) (kind : Kind) (same ignored ends : Bool)
     → Steps events Ready place (Some first) kind
     (if same then (if ignored then (if ends then Ignored else Wrong) else (if ends then Whole else More)) else Wrong)
-    (if same then (if ignored then (if ends then moves Quiet (deeds.Forget gone) else breaks faults.IgnoredPart)
-    else moves (if ends then Underway gone else Receiving first gone) deeds.Go) else breaks faults.TypeChanged)
+    (if same then (if ignored then (if ends then moves Quiet (actions.Forget gone) else breaks faults.IgnoredPart)
+    else moves (if ends then Underway gone else Receiving first gone) actions.Go) else breaks faults.TypeChanged)
 goes_on_step events later place idle first gone kind false ignored ends = refused events Ready place (Some first) kind Wrong faults.TypeChanged refl
 goes_on_step events later place idle first gone kind true true true = forgets_step events later gone place idle (Some first) kind
 goes_on_step events later place idle first gone kind true true false = refused events Ready place (Some first) kind Wrong faults.IgnoredPart refl

@@ -15,12 +15,12 @@ use Rattle.tds_front.specs.declared.front.Front.{Front}
 use Rattle.tds_front.specs.declared.front.Part.{Part}
 use Rattle.tds_front.specs.declared.front.Part.TheVariants.{Low, High, Third, Fourth, Headers, Body, Dropped}
 use Rattle.tds_front.specs.declared.front.Said.TheVariants as said
-use Rattle.tds_front.specs.declared.stage.Deed.{Deed}
-use Rattle.tds_front.specs.declared.stage.Deed.TheVariants as deeds
+use Rattle.tds_front.specs.declared.stage.Action.{Action}
+use Rattle.tds_front.specs.declared.stage.Action.TheVariants as actions
 use Rattle.tds_front.specs.declared.stage.Head.{Head}
 use Rattle.tds_front.specs.declared.stage.Stage.{Stage}
 use Rattle.tds_front.specs.declared.stage.Stage.TheVariants.{Quiet, Receiving, Underway, Stopping, Broken}
-use Rattle.tds_front.specs.Bytes.{Step, TakesSome, is_due_some, is_part_some, behind_length, body_of, deed_done, due_for, ended_in, fails, fed, fed_by, fed_unless, kind_from, packet_done, part_behind, part_of, run_of, says, told, with_due, with_kind, with_part}
+use Rattle.tds_front.specs.Bytes.{Step, TakesSome, is_due_some, is_part_some, behind_length, body_of, action_done, due_for, ended_in, fails, fed, fed_by, fed_unless, kind_from, packet_done, part_behind, part_of, run_of, says, told, with_due, with_kind, with_part}
 use Rattle.tds_front.specs.Rules.{taken}
 use Rattle.tds_front.proofs.Packets.{front}
 
@@ -104,18 +104,18 @@ went_some : (f : Front) (empty : Bool) → Lively f → Does (if empty then pack
 went_some f true t = done_some f f.stage 1 0 t one
 went_some f false t = (t, one)
 
-deed_some : (f : Front) (stage : Stage) (count : ℕ) (does : Result Deed FrontFault) → Lively f → Does (deed_done f stage count does)
-deed_some f stage count (Err fault) t = (t, tt)
-deed_some f stage count (Ok (deeds.Begin kind reset)) t = ((headed_some f stage count (part_of kind) (kind_part kind), kind_part kind), one)
-deed_some f stage count (Ok deeds.Go) t = went_some (front f.most stage (due_for count) f.part) (count == 0) (headed_some f stage count f.part t.1, t.1)
-deed_some f stage count (Ok (deeds.Forget gone)) t = ((headed_some f stage count Dropped tt, tt), one)
-deed_some f stage count (Ok deeds.Acknowledge) t = ((headed_some f stage count Dropped tt, tt), one)
-deed_some f stage count (Ok deeds.HandOn) t = ((headed_some f stage count Dropped tt, tt), one)
+action_some : (f : Front) (stage : Stage) (count : ℕ) (does : Result Action FrontFault) → Lively f → Does (action_done f stage count does)
+action_some f stage count (Err fault) t = (t, tt)
+action_some f stage count (Ok (actions.Begin kind reset)) t = ((headed_some f stage count (part_of kind) (kind_part kind), kind_part kind), one)
+action_some f stage count (Ok actions.Go) t = went_some (front f.most stage (due_for count) f.part) (count == 0) (headed_some f stage count f.part t.1, t.1)
+action_some f stage count (Ok (actions.Forget gone)) t = ((headed_some f stage count Dropped tt, tt), one)
+action_some f stage count (Ok actions.Acknowledge) t = ((headed_some f stage count Dropped tt, tt), one)
+action_some f stage count (Ok actions.HandOn) t = ((headed_some f stage count Dropped tt, tt), one)
 
 rest_some : (f : Front) (head : Head) (left : ℕ) (more : Bool) → Lively f
-    → Does (if more then says (with_due f (dues.Rest head (left - 1))) 1 said.Nothing else deed_done f (taken f.stage head).stage head.count (taken f.stage head).does)
+    → Does (if more then says (with_due f (dues.Rest head (left - 1))) 1 said.Nothing else action_done f (taken f.stage head).stage head.count (taken f.stage head).does)
 rest_some f head left true t = ((tt, t.1), one)
-rest_some f head left false t = deed_some f (taken f.stage head).stage head.count (taken f.stage head).does t
+rest_some f head left false t = action_some f (taken f.stage head).stage head.count (taken f.stage head).does t
 
 -- ---- Data
 

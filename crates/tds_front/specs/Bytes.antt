@@ -15,8 +15,8 @@ use Rattle.tds_front.specs.declared.front.Part.{Part}
 use Rattle.tds_front.specs.declared.front.Part.TheVariants.{Low, High, Third, Fourth, Headers, Body, Dropped}
 use Rattle.tds_front.specs.declared.front.Said.{Said}
 use Rattle.tds_front.specs.declared.front.Said.TheVariants as said
-use Rattle.tds_front.specs.declared.stage.Deed.{Deed}
-use Rattle.tds_front.specs.declared.stage.Deed.TheVariants as deeds
+use Rattle.tds_front.specs.declared.stage.Action.{Action}
+use Rattle.tds_front.specs.declared.stage.Action.TheVariants as actions
 use Rattle.tds_front.specs.declared.stage.Head.{Head}
 use Rattle.tds_front.specs.declared.stage.Stage.{Stage}
 use Rattle.tds_front.specs.declared.stage.Stage.TheVariants as stages
@@ -154,18 +154,18 @@ abbrev pub gone_on : Front → ℕ → Step
 gone_on f count = if count == 0 then packet_done f f.stage 1 0 else says f 1 said.Nothing
 
 -- what the whole header says
-abbrev pub deed_done : Front → Stage → ℕ → Result Deed FrontFault → Step
-deed_done f stage count (Err fault) = fails f fault
-deed_done f stage count (Ok (deeds.Begin kind reset)) = says (headed f stage count (part_of kind)) 1 (said.Begin kind reset)
-deed_done f stage count (Ok deeds.Go) = gone_on (headed f stage count f.part) count
-deed_done f stage count (Ok (deeds.Forget gone)) = says (headed f stage count Dropped) 1 (said.Forget gone)
-deed_done f stage count (Ok deeds.Acknowledge) = says (headed f stage count Dropped) 1 said.Acknowledge
-deed_done f stage count (Ok deeds.HandOn) = says (headed f stage count Dropped) 1 said.HandOn
+abbrev pub action_done : Front → Stage → ℕ → Result Action FrontFault → Step
+action_done f stage count (Err fault) = fails f fault
+action_done f stage count (Ok (actions.Begin kind reset)) = says (headed f stage count (part_of kind)) 1 (said.Begin kind reset)
+action_done f stage count (Ok actions.Go) = gone_on (headed f stage count f.part) count
+action_done f stage count (Ok (actions.Forget gone)) = says (headed f stage count Dropped) 1 (said.Forget gone)
+action_done f stage count (Ok actions.Acknowledge) = says (headed f stage count Dropped) 1 said.Acknowledge
+action_done f stage count (Ok actions.HandOn) = says (headed f stage count Dropped) 1 said.HandOn
 
 abbrev pub with_rest : Front → Head → ℕ → Step
 with_rest f head left =
     if nat_lt 1 left then says (with_due f (due.Rest head (left - 1))) 1 said.Nothing
-    else deed_done f (taken f.stage head).stage head.count (taken f.stage head).does
+    else action_done f (taken f.stage head).stage head.count (taken f.stage head).does
 
 -- ---- A call
 

@@ -7,8 +7,8 @@ use Rattle.tds_front.specs.declared.front.Due.TheVariants as due
 use Rattle.tds_front.specs.declared.front.Fed.{Fed}
 use Rattle.tds_front.specs.declared.front.Said.{Said}
 use Rattle.tds_front.specs.declared.front.Said.TheVariants as said
-use Rattle.tds_front.specs.declared.stage.Deed.{Deed}
-use Rattle.tds_front.specs.declared.stage.Deed.TheVariants as deeds
+use Rattle.tds_front.specs.declared.stage.Action.{Action}
+use Rattle.tds_front.specs.declared.stage.Action.TheVariants as actions
 use Rattle.tds_front.specs.declared.stage.Head.{Head}
 use Rattle.tds_front.specs.declared.stage.Stage.{Stage}
 use Rattle.tds_front.specs.declared.stage.Stage.TheVariants as stages
@@ -34,9 +34,9 @@ stage_behind stage Acknowledges = rules.acknowledged stage
 -- ---- Towards the application
 
 -- what the end does by itself: it acknowledges an attention, or closes
-abbrev pub with_own : Result Deed FrontFault → List Happening → List Happening
-with_own (Ok deeds.Acknowledge) later = Goes Acknowledges ∷ later
-with_own (Ok deed) later = later
+abbrev pub with_own : Result Action FrontFault → List Happening → List Happening
+with_own (Ok actions.Acknowledge) later = Goes Acknowledges ∷ later
+with_own (Ok action) later = later
 with_own (Err fault) later = Closes ∷ later
 
 -- once it is closed, nothing goes to it
@@ -57,9 +57,9 @@ towards begun stage (Says reply ∷ events) = with_reply stage reply (towards be
 -- ---- Behind it
 
 -- Of a request that has gone on in part, it is told that it is to be ignored; and it is handed attentions.
-abbrev pub with_told : Result Deed FrontFault → List Happening → List Happening
-with_told (Ok (deeds.Forget true)) later = Comes Ignored ∷ later
-with_told (Ok deeds.HandOn) later = Comes Attention ∷ later
+abbrev pub with_told : Result Action FrontFault → List Happening → List Happening
+with_told (Ok (actions.Forget true)) later = Comes Ignored ∷ later
+with_told (Ok actions.HandOn) later = Comes Attention ∷ later
 with_told does later = later
 
 -- what goes on, and what is said there
@@ -102,13 +102,13 @@ stage_fed stage packet (Ok fed) = stage_judged stage packet
 stage_fed stage packet (Err fault) = (rules.refuses (stage_judged stage packet) fault).stage
 
 -- and what is answered of a packet
-abbrev pub IsSaid : Result Deed FrontFault → Said → Type 0
-IsSaid (Ok (deeds.Begin kind reset)) answer = answer ≡ said.Begin kind reset
-IsSaid (Ok deeds.Go) said.Nothing = Unit {0}
-IsSaid (Ok deeds.Go) (said.End count) = count ≡ 0
-IsSaid (Ok (deeds.Forget gone)) answer = answer ≡ said.Forget gone
-IsSaid (Ok deeds.Acknowledge) answer = answer ≡ said.Acknowledge
-IsSaid (Ok deeds.HandOn) answer = answer ≡ said.HandOn
+abbrev pub IsSaid : Result Action FrontFault → Said → Type 0
+IsSaid (Ok (actions.Begin kind reset)) answer = answer ≡ said.Begin kind reset
+IsSaid (Ok actions.Go) said.Nothing = Unit {0}
+IsSaid (Ok actions.Go) (said.End count) = count ≡ 0
+IsSaid (Ok (actions.Forget gone)) answer = answer ≡ said.Forget gone
+IsSaid (Ok actions.Acknowledge) answer = answer ≡ said.Acknowledge
+IsSaid (Ok actions.HandOn) answer = answer ≡ said.HandOn
 IsSaid does answer = ⊥
 
 -- of other bytes

@@ -3,8 +3,8 @@ use Rattle.std.specs.Prelude.{ℕ, ◌+◌, ◌&&◌, Bool, true, false, List, [
 use Rattle.tds_packet.specs.declared.kind.Kind.{Kind}
 use Rattle.tds_packet.specs.declared.kind.Kind.TheVariants as kinds
 use Rattle.tds_front.specs.declared.fault.FrontFault.{FrontFault}
-use Rattle.tds_front.specs.declared.stage.Deed.{Deed}
-use Rattle.tds_front.specs.declared.stage.Deed.TheVariants.{Begin, Go, Forget, Acknowledge, HandOn}
+use Rattle.tds_front.specs.declared.stage.Action.{Action}
+use Rattle.tds_front.specs.declared.stage.Action.TheVariants.{Begin, Go, Forget, Acknowledge, HandOn}
 use Rattle.tds_front.specs.declared.stage.Head.{Head}
 use Rattle.tds_front.specs.declared.stage.Stage.{Stage}
 use Rattle.tds_front.specs.declared.stage.Stage.TheVariants.{Quiet, Receiving, Underway, Stopping, Broken}
@@ -32,16 +32,16 @@ abbrev pub one_if : Bool → ℕ
 one_if true = 1
 one_if false = 0
 
-abbrev pub is_here : Result Deed FrontFault → Bool
+abbrev pub is_here : Result Action FrontFault → Bool
 is_here (Ok Acknowledge) = true
 is_here _ = false
 
-abbrev pub is_handed_on : Result Deed FrontFault → Bool
+abbrev pub is_handed_on : Result Action FrontFault → Bool
 is_handed_on (Ok HandOn) = true
 is_handed_on _ = false
 
-abbrev pub is_taken : Result Deed FrontFault → Bool
-is_taken (Ok deed) = true
+abbrev pub is_taken : Result Action FrontFault → Bool
+is_taken (Ok action) = true
 is_taken (Err fault) = false
 
 abbrev pub is_attention : Kind → Bool
@@ -86,7 +86,7 @@ count of stage (event ∷ events) = of stage event + count of (stage_by stage ev
 -- ---- What of requests is handed on
 
 -- whether a packet's data are
-abbrev pub is_passed : Result Deed FrontFault → Bool
+abbrev pub is_passed : Result Action FrontFault → Bool
 is_passed (Ok (Begin kind reset)) = true
 is_passed (Ok Go) = true
 is_passed _ = false

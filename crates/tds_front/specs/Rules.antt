@@ -9,12 +9,12 @@ use Rattle.tds_front.specs.declared.fault.FrontFault.TheVariants as faults
 use Rattle.tds_front.specs.declared.stage.Head.{Head}
 use Rattle.tds_front.specs.declared.stage.Stage.{Stage}
 use Rattle.tds_front.specs.declared.stage.Stage.TheVariants.{Quiet, Receiving, Underway, Stopping, Broken}
-use Rattle.tds_front.specs.declared.stage.Deed.{Deed}
-use Rattle.tds_front.specs.declared.stage.Deed.TheVariants.{Begin, Go, Forget, Acknowledge, HandOn}
+use Rattle.tds_front.specs.declared.stage.Action.{Action}
+use Rattle.tds_front.specs.declared.stage.Action.TheVariants.{Begin, Go, Forget, Acknowledge, HandOn}
 use Rattle.tds_front.specs.declared.stage.Move.{Move}
 
-abbrev pub moves : Stage → Deed → Move
-moves stage deed = record { stage = stage; does = Ok deed }
+abbrev pub moves : Stage → Action → Move
+moves stage action = record { stage = stage; does = Ok action }
 
 abbrev pub breaks : FrontFault → Move
 breaks fault = record { stage = Broken fault; does = Err fault }

@@ -1,6 +1,6 @@
 //! An application's end, over bytes.
 ghost use Rattle.std.specs.Prelude.{◌≡◌, ◌≤◌, ℕ, length, max, Ok, Err, IfOk};
-ghost use Rattle.tds_front.specs.Bytes.{IsWithin, body_in, behind_length, body_of, data_taken, deed_done, due_for, fed, fed_by};
+ghost use Rattle.tds_front.specs.Bytes.{IsWithin, body_in, behind_length, body_of, data_taken, action_done, due_for, fed, fed_by};
 ghost use Rattle.tds_front.specs.Bytes.{behind_data, ended_in, gone_on, headed, kind_from, new_front, part_behind};
 ghost use Rattle.tds_front.specs.Bytes.{packet_done, part_of, run_of, told, with_due, with_kind, with_length};
 ghost use Rattle.tds_front.specs.Bytes.{with_rest, with_status};
@@ -8,7 +8,7 @@ ghost use Rattle.tds_front.specs.Rules as rules;
 
 use crate::fault::FrontFault;
 use crate::parts::{body_of, due_for, kind_from, part_behind, part_of, run_of, told};
-use crate::stage::{Deed, Head, Stage};
+use crate::stage::{Action, Head, Stage};
 use tds_packet::{Direction, Kind, PacketSize, Reset, Status};
 
 /// Which bytes of a packet are due (MS-TDS 2.2.3.1).
@@ -247,34 +247,34 @@ impl Front {
             return says(1, Said::Nothing);
         }
         let next = self.stage.taken(head);
-        self.do_deed(next.stage, head.count, next.does)
+        self.do_action(next.stage, head.count, next.does)
     }
 
     /// Does with a packet what its header says.
-    fn do_deed(&mut self, stage: Stage, count: u16, does: Result<Deed, FrontFault>) -> Brought
-        ensures front { self.new ≡ (deed_done self.old stage count does).front }
-        ensures brings { result ≡ (deed_done self.old stage count does).brings }
+    fn do_action(&mut self, stage: Stage, count: u16, does: Result<Action, FrontFault>) -> Brought
+        ensures front { self.new ≡ (action_done self.old stage count does).front }
+        ensures brings { result ≡ (action_done self.old stage count does).brings }
         ensures within { IsWithin 1 result }
     {
         match does {
             Err(fault) => self.fails(fault),
-            Ok(Deed::Begin { kind, reset }) => {
+            Ok(Action::Begin { kind, reset }) => {
                 self.begin_data(stage, count, part_of(kind));
                 says(1, Said::Begin { kind, reset })
             }
-            Ok(Deed::Go) => {
+            Ok(Action::Go) => {
                 self.begin_data(stage, count, self.part);
                 self.go_on(count)
             }
-            Ok(Deed::Forget { gone }) => {
+            Ok(Action::Forget { gone }) => {
                 self.begin_data(stage, count, Part::Dropped);
                 says(1, Said::Forget { gone })
             }
-            Ok(Deed::Acknowledge) => {
+            Ok(Action::Acknowledge) => {
                 self.begin_data(stage, count, Part::Dropped);
                 says(1, Said::Acknowledge)
             }
-            Ok(Deed::HandOn) => {
+            Ok(Action::HandOn) => {
                 self.begin_data(stage, count, Part::Dropped);
                 says(1, Said::HandOn)
             }

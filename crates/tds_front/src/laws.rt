@@ -6,7 +6,7 @@ ghost use Rattle.tds_front.specs.declared.fault.FrontFault.{FrontFault};
 ghost use Rattle.tds_front.specs.declared.stage.Head.{Head};
 ghost use Rattle.tds_front.specs.declared.stage.Stage.{Stage};
 ghost use Rattle.tds_front.specs.declared.stage.Stage.TheVariants as stages;
-ghost use Rattle.tds_front.specs.declared.stage.Deed.TheVariants as deeds;
+ghost use Rattle.tds_front.specs.declared.stage.Action.TheVariants as actions;
 ghost use Rattle.tds_front.specs.Promises.{Event, count, handed_in, here_in, is_gone, is_passed, is_whole};
 ghost use Rattle.tds_front.specs.Promises.{settled_in, taken_in};
 ghost use Rattle.tds_front.specs.declared.front.Front.{Front};
@@ -74,9 +74,9 @@ pub fn one_acknowledgement()
 /// has gone on, and only then.
 pub fn whose_acknowledgement()
     ensures here { (stage : Stage) (head : Head)
-        → (taken stage head).does ≡ Ok deeds.Acknowledge → is_gone stage ≡ false }
+        → (taken stage head).does ≡ Ok actions.Acknowledge → is_gone stage ≡ false }
     ensures handed_on { (stage : Stage) (head : Head)
-        → (taken stage head).does ≡ Ok deeds.HandOn → is_gone stage ≡ true }
+        → (taken stage head).does ≡ Ok actions.HandOn → is_gone stage ≡ true }
 {}
 
 /// Behind a request's end nothing goes on until it is answered, or its attention acknowledged.

@@ -14,4 +14,4 @@ mod stage;
 
 pub use fault::FrontFault;
 pub use front::{Due, Fed, Front, Part, Said};
-pub use stage::{Deed, Head, Stage};
+pub use stage::{Action, Head, Stage};

@@ -35,7 +35,7 @@ pub enum Stage {
 
 /// What is to be done with a packet.
 #[derive(Clone, Copy, Debug)]
-pub enum Deed {
+pub enum Action {
     /// Its data begin a request of this kind, which asks for this reset.
     Begin { kind: Kind, reset: Option<Reset> },
     /// Its data go on behind those before.
@@ -53,15 +53,15 @@ pub enum Deed {
 #[derive(Clone, Copy, Debug)]
 pub struct Move {
     pub stage: Stage,
-    pub does: Result<Deed, FrontFault>,
+    pub does: Result<Action, FrontFault>,
 }
 
-fn moves(stage: Stage, deed: Deed) -> Move
-    ensures { result ≡ moves stage deed }
+fn moves(stage: Stage, action: Action) -> Move
+    ensures { result ≡ moves stage action }
 {
     Move {
         stage,
-        does: Ok(deed),
+        does: Ok(action),
     }
 }
 
@@ -91,7 +91,7 @@ fn forgets(gone: bool, status: Status) -> Move
     ensures { result ≡ forgets gone (bits_of status) }
 {
     if status.ends() {
-        moves(Stage::Quiet, Deed::Forget { gone })
+        moves(Stage::Quiet, Action::Forget { gone })
     } else {
         breaks(FrontFault::IgnoredPart)
     }
@@ -110,7 +110,7 @@ fn begins(head: Head) -> Move
     if head.count == 0 {
         return breaks(FrontFault::EmptyPart);
     }
-    let begin = Deed::Begin {
+    let begin = Action::Begin {
         kind: head.kind,
         reset: head.status.reset(),
     };
@@ -127,7 +127,7 @@ fn goes_on(kind: Kind, gone: bool, head: Head) -> Move
     if head.status.is_ignored() {
         return forgets(gone, head.status);
     }
-    moves(behind(kind, gone, head.status), Deed::Go)
+    moves(behind(kind, gone, head.status), Action::Go)
 }
 
 /// An attention while something is underway.
@@ -135,9 +135,9 @@ fn stops(gone: bool) -> Move
     ensures { result ≡ stops gone }
 {
     if gone {
-        moves(Stage::Stopping, Deed::HandOn)
+        moves(Stage::Stopping, Action::HandOn)
     } else {
-        moves(Stage::Quiet, Deed::Acknowledge)
+        moves(Stage::Quiet, Action::Acknowledge)
     }
 }
 
@@ -198,7 +198,7 @@ impl Stage {
         ensures { result ≡ attention self }
     {
         match self {
-            Stage::Quiet => moves(Stage::Quiet, Deed::Acknowledge),
+            Stage::Quiet => moves(Stage::Quiet, Action::Acknowledge),
             Stage::Receiving { gone, .. } => stops(gone),
             Stage::Underway { gone } => stops(gone),
             Stage::Stopping => breaks(FrontFault::SecondAttention),

@@ -26,8 +26,8 @@ closed_so_by (Some r) spot a = stopped_so spot (closing a.judge) a
 piece_so : (piece : Piece) (a : Run) → Tells a (piece_seen piece a)
 unfolding event_said closed
 piece_so (Bytes direction time bytes) a = steps_so direction time bytes a
-piece_so (Lends time) a = event_so_by a.judge.walker (spot_of ToServer time a) events.Borrowed a
-piece_so (Closes time) a = closed_so_by a.judge.walker (spot_of ToServer time a) a
+piece_so (Lends time) a = event_so_by a.judge.parser (spot_of ToServer time a) events.Borrowed a
+piece_so (Closes time) a = closed_so_by a.judge.parser (spot_of ToServer time a) a
 
 pub seen_so : (pieces : List Piece) (a : Run) → Tells a (seen pieces a)
 unfolding seen

@@ -25,7 +25,7 @@ use Rattle.tds_judge.proofs.Walks.{AtMost, Fails, FailsLater, StaysOn, cut, fail
 
 -- ---- The judging has ended
 
-pub stopped : (d : Direction) (t : ℕ) (bytes : List ℕ) (j : Judge) (told : List Finding) → j.walker ≡ None → steps d t bytes (run_of j told) ≡ run_of j told
+pub stopped : (d : Direction) (t : ℕ) (bytes : List ℕ) (j : Judge) (told : List Finding) → j.parser ≡ None → steps d t bytes (run_of j told) ≡ run_of j told
 unfolding steps step
 stopped d t [] j told e = refl
 stopped d t (b ∷ bytes) j told e = ap (steps d t bytes) (rw e refl) ∙ stopped d t bytes j told e
@@ -33,8 +33,8 @@ stopped d t (b ∷ bytes) j told e = ap (steps d t bytes) (rw e refl) ∙ stoppe
 -- ---- Data that nobody reads
 
 abbrev skipping : Direction → Judge → Reading → ℕ → ℕ → Judge
-skipping ToServer j r left offset = record j { client = record j.client { due = due.Data left; inside = inside.Skipped; offset = offset }; walker = Some r }
-skipping ToClient j r left offset = record j { server = record j.server { due = due.Data left; inside = inside.Skipped; offset = offset }; walker = Some r }
+skipping ToServer j r left offset = record j { client = record j.client { due = due.Data left; inside = inside.Skipped; offset = offset }; parser = Some r }
+skipping ToClient j r left offset = record j { server = record j.server { due = due.Data left; inside = inside.Skipped; offset = offset }; parser = Some r }
 
 skip_one : (d : Direction) (t b : ℕ) (j : Judge) (told : List Finding) (r : Reading) (left offset : ℕ) → nat_lt 1 left ≡ true
     → step d t b (run_of (skipping d j r left offset) told) ≡ run_of (skipping d j r (left - 1) (min 18446744073709551615 (offset + 1))) told
@@ -56,16 +56,16 @@ skip_run d t b (c ∷ bytes) j told r left offset few =
     ∙ ap (λ (n : ℕ). run_of (skipping d j r (left - length (b ∷ c ∷ bytes)) n) told) f))
 
 -- a judge that is there is one of these
-is_skipping : (d : Direction) (j : Judge) (r : Reading) (left : ℕ) → (frame_by d j).due ≡ due.Data left → (frame_by d j).inside ≡ inside.Skipped → j.walker ≡ Some r
+is_skipping : (d : Direction) (j : Judge) (r : Reading) (left : ℕ) → (frame_by d j).due ≡ due.Data left → (frame_by d j).inside ≡ inside.Skipped → j.parser ≡ Some r
     → skipping d j r left (frame_by d j).offset ≡ j
 is_skipping ToServer j r left d i w =
-    ap (λ (x : Due). record j { client = record j.client { due = x; inside = inside.Skipped }; walker = Some r }) (sym d)
-    ∙ (ap (λ (x : Inside). record j { client = record j.client { inside = x }; walker = Some r }) (sym i)
-    ∙ ap (λ (x : Option Reading). record j { walker = x }) (sym w))
+    ap (λ (x : Due). record j { client = record j.client { due = x; inside = inside.Skipped }; parser = Some r }) (sym d)
+    ∙ (ap (λ (x : Inside). record j { client = record j.client { inside = x }; parser = Some r }) (sym i)
+    ∙ ap (λ (x : Option Reading). record j { parser = x }) (sym w))
 is_skipping ToClient j r left d i w =
-    ap (λ (x : Due). record j { server = record j.server { due = x; inside = inside.Skipped }; walker = Some r }) (sym d)
-    ∙ (ap (λ (x : Inside). record j { server = record j.server { inside = x }; walker = Some r }) (sym i)
-    ∙ ap (λ (x : Option Reading). record j { walker = x }) (sym w))
+    ap (λ (x : Due). record j { server = record j.server { due = x; inside = inside.Skipped }; parser = Some r }) (sym d)
+    ∙ (ap (λ (x : Inside). record j { server = record j.server { inside = x }; parser = Some r }) (sym i)
+    ∙ ap (λ (x : Option Reading). record j { parser = x }) (sym w))
 
 skips_by : (d : Direction) (t b : ℕ) (bytes : List ℕ) (j : Judge) (told : List Finding) (r : Reading) (left : ℕ) → length (b ∷ bytes) < left
     → steps d t (b ∷ bytes) (run_of (skipping d j r left (frame_by d j).offset) told)
@@ -74,7 +74,7 @@ skips_by ToServer t b bytes j told r left few = skip_run ToServer t b bytes j to
 skips_by ToClient t b bytes j told r left few = skip_run ToClient t b bytes j told r left j.server.offset few
 
 pub skips : (d : Direction) (t b : ℕ) (bytes : List ℕ) (j : Judge) (told : List Finding) (r : Reading) (left : ℕ)
-    → (frame_by d j).due ≡ due.Data left → (frame_by d j).inside ≡ inside.Skipped → j.walker ≡ Some r → length (b ∷ bytes) < left
+    → (frame_by d j).due ≡ due.Data left → (frame_by d j).inside ≡ inside.Skipped → j.parser ≡ Some r → length (b ∷ bytes) < left
     → run_of (passed d left (length (b ∷ bytes)) j) told ≡ steps d t (b ∷ bytes) (run_of j told)
 skips d t b bytes j told r left e i w few =
     let so : skipping d j r left (frame_by d j).offset ≡ j = is_skipping d j r left e i w in
@@ -82,14 +82,14 @@ skips d t b bytes j told r left e i w few =
     ∙ (skips_by d t b bytes j told r left few
     ∙ ap (λ (x : Judge). run_of (passed d left (length (b ∷ bytes)) x) told) so))
 
--- ---- Data that the walker reads
+-- ---- Data that the parser reads
 
 -- the law of `tds_wire`: two pieces do what both do as one
 abbrev pub Cuts : Type 0
 Cuts = (r : Reading) (first second : List ℕ) → then_found (next_token r first) second ≡ next_token r (first ++ second)
 
 abbrev reading : Judge → Reading → ℕ → ℕ → Judge
-reading j r left offset = record j { server = record j.server { due = due.Data left; inside = inside.Walked; offset = offset }; walker = Some r }
+reading j r left offset = record j { server = record j.server { due = due.Data left; inside = inside.Walked; offset = offset }; parser = Some r }
 
 walk_one : (t b : ℕ) (j : Judge) (told : List Finding) (r s : Reading) (left offset : ℕ) → next_token r (b ∷ []) ≡ Amid s → nat_lt 1 left ≡ true
     → step ToClient t b (run_of (reading j r left offset) told) ≡ run_of (reading j s (left - 1) (min 18446744073709551615 (offset + 1))) told
@@ -126,20 +126,20 @@ within_run cuts t b (c ∷ bytes) j told r s left offset e few =
     ∙ (ap (λ (k : ℕ). run_of (reading j s k (min 18446744073709551615 (min 18446744073709551615 (offset + 1) + length (c ∷ bytes)))) told) n
     ∙ ap (λ (k : ℕ). run_of (reading j s (left - length (b ∷ c ∷ bytes)) k) told) m))
 
-is_reading : (j : Judge) (r : Reading) (left : ℕ) → j.server.due ≡ due.Data left → j.server.inside ≡ inside.Walked → j.walker ≡ Some r → reading j r left j.server.offset ≡ j
+is_reading : (j : Judge) (r : Reading) (left : ℕ) → j.server.due ≡ due.Data left → j.server.inside ≡ inside.Walked → j.parser ≡ Some r → reading j r left j.server.offset ≡ j
 is_reading j r left d i w =
-    ap (λ (x : Due). record j { server = record j.server { due = x; inside = inside.Walked }; walker = Some r }) (sym d)
-    ∙ (ap (λ (x : Inside). record j { server = record j.server { inside = x }; walker = Some r }) (sym i)
-    ∙ ap (λ (x : Option Reading). record j { walker = x }) (sym w))
+    ap (λ (x : Due). record j { server = record j.server { due = x; inside = inside.Walked }; parser = Some r }) (sym d)
+    ∙ (ap (λ (x : Inside). record j { server = record j.server { inside = x }; parser = Some r }) (sym i)
+    ∙ ap (λ (x : Option Reading). record j { parser = x }) (sym w))
 
 pub walks_within : (cuts : Cuts) (t b : ℕ) (bytes : List ℕ) (j : Judge) (told : List Finding) (r s : Reading) (left : ℕ)
-    → j.server.due ≡ due.Data left → j.server.inside ≡ inside.Walked → j.walker ≡ Some r → next_token r (b ∷ bytes) ≡ Amid s → length (b ∷ bytes) < left
-    → run_of (passed ToClient left (length (b ∷ bytes)) (record j { walker = Some s })) told ≡ steps ToClient t (b ∷ bytes) (run_of j told)
+    → j.server.due ≡ due.Data left → j.server.inside ≡ inside.Walked → j.parser ≡ Some r → next_token r (b ∷ bytes) ≡ Amid s → length (b ∷ bytes) < left
+    → run_of (passed ToClient left (length (b ∷ bytes)) (record j { parser = Some s })) told ≡ steps ToClient t (b ∷ bytes) (run_of j told)
 walks_within cuts t b bytes j told r s left d i w e few =
     let so : reading j r left j.server.offset ≡ j = is_reading j r left d i w in
     sym (ap (λ (x : Judge). steps ToClient t (b ∷ bytes) (run_of x told)) (sym so)
     ∙ (within_run cuts t b bytes j told r s left j.server.offset e few
-    ∙ ap (λ (x : Inside). run_of (record j { server = record j.server { due = due.Data (left - length (b ∷ bytes)); inside = x; offset = min 18446744073709551615 (j.server.offset + length (b ∷ bytes)) }; walker = Some s }) told) (sym i)))
+    ∙ ap (λ (x : Inside). run_of (record j { server = record j.server { due = due.Data (left - length (b ∷ bytes)); inside = x; offset = min 18446744073709551615 (j.server.offset + length (b ∷ bytes)) }; parser = Some s }) told) (sym i)))
 
 -- a token ends with the last of these bytes
 abbrev over_run : ℕ → Judge → List Finding → Reading → ℕ → ℕ → ℕ → Token → Run
@@ -192,13 +192,13 @@ over_steps cuts t b (suc k) (c ∷ bytes) j told r s left offset token e few les
     ∙ ap (λ (x : ℕ). said (spot_at (place offset (suc (suc k))) t) (events.Says token) (run_of (reading j s (left - suc (suc k)) x) told)) m)))
 
 pub walks_over : (cuts : Cuts) (t b k : ℕ) (bytes : List ℕ) (j : Judge) (told : List Finding) (r s : Reading) (left : ℕ) (token : Token)
-    → j.server.due ≡ due.Data left → j.server.inside ≡ inside.Walked → j.walker ≡ Some r → next_token r (b ∷ bytes) ≡ Sees token s (drop k bytes) → k ≤ length bytes → suc k < left
-    → said (spot_at (place j.server.offset (suc k)) t) (events.Says token) (run_of (passed ToClient left (suc k) (record j { walker = Some s })) told) ≡ steps ToClient t (b ∷ take k bytes) (run_of j told)
+    → j.server.due ≡ due.Data left → j.server.inside ≡ inside.Walked → j.parser ≡ Some r → next_token r (b ∷ bytes) ≡ Sees token s (drop k bytes) → k ≤ length bytes → suc k < left
+    → said (spot_at (place j.server.offset (suc k)) t) (events.Says token) (run_of (passed ToClient left (suc k) (record j { parser = Some s })) told) ≡ steps ToClient t (b ∷ take k bytes) (run_of j told)
 walks_over cuts t b k bytes j told r s left token d i w e few less =
     let so : reading j r left j.server.offset ≡ j = is_reading j r left d i w in
     sym (ap (λ (x : Judge). steps ToClient t (b ∷ take k bytes) (run_of x told)) (sym so)
     ∙ (over_steps cuts t b k bytes j told r s left j.server.offset token e few less
-    ∙ ap (λ (x : Inside). said (spot_at (place j.server.offset (suc k)) t) (events.Says token) (run_of (record j { server = record j.server { due = due.Data (left - suc k); inside = x; offset = min 18446744073709551615 (j.server.offset + suc k) }; walker = Some s }) told)) (sym i)))
+    ∙ ap (λ (x : Inside). said (spot_at (place j.server.offset (suc k)) t) (events.Says token) (run_of (record j { server = record j.server { due = due.Data (left - suc k); inside = x; offset = min 18446744073709551615 (j.server.offset + suc k) }; parser = Some s }) told)) (sym i)))
 
 -- ---- A fault
 
@@ -310,7 +310,7 @@ counts r piece refusal whole e few =
     counts_by (onward r.walk piece) r piece refusal (most_onward r.walk piece) whole refl (sym (ap (λ (o : Option Refusal). found_on o r piece) whole) ∙ e) few
 
 pub walks_to_fault : (cuts : Cuts) (t b n : ℕ) (bytes : List ℕ) (j : Judge) (told : List Finding) (r : Reading) (left : ℕ) (refusal : Refusal)
-    → j.server.due ≡ due.Data left → j.server.inside ≡ inside.Walked → j.walker ≡ Some r → r.refused ≡ None → r.start + r.passed ≤ 9223372036854775808
+    → j.server.due ≡ due.Data left → j.server.inside ≡ inside.Walked → j.parser ≡ Some r → r.refused ≡ None → r.start + r.passed ≤ 9223372036854775808
     → next_token r (b ∷ bytes) ≡ Refuses refusal → length (b ∷ bytes) < left → left ≤ 65535 → suc n ≡ min (refused_after (r.start + r.passed) refusal) (length (b ∷ bytes))
     → stops (spot_at (place j.server.offset (suc n)) t) (refused_as refusal) (run_of (failed left (suc n) j) told) ≡ steps ToClient t (b ∷ take n bytes) (run_of j told)
 walks_to_fault cuts t b n bytes j told r left refusal d i w whole small e few most count =

@@ -14,11 +14,11 @@ use Rattle.tds_judge.proofs.Mute.{mute}
 use Rattle.tds_judge.proofs.SomeRuns.{some_over}
 
 pub row_steps : (cuts : Cuts) (t n : ℕ) (bytes : List ℕ) (j : Judge) (told : List Finding) (r s : Reading) (left : ℕ)
-    → j.server.due ≡ due.Data left → j.server.inside ≡ inside.Walked → j.walker ≡ Some r → j.talk.is_final ≡ false → IsPassed n r s bytes
+    → j.server.due ≡ due.Data left → j.server.inside ≡ inside.Walked → j.parser ≡ Some r → j.talk.is_final ≡ false → IsPassed n r s bytes
     → 0 < n → n ≤ length bytes → length bytes < left
-    → run_of (passed ToClient left n (record j { walker = Some s })) told ≡ steps ToClient t (take n bytes) (run_of j told)
+    → run_of (passed ToClient left n (record j { parser = Some s })) told ≡ steps ToClient t (take n bytes) (run_of j told)
 row_steps cuts t n bytes j told r s left d i w unended h some few less =
-    mute (spot_at (place j.server.offset n) t) (row_token n r) (passed ToClient left n (record j { walker = Some s })) told refl unended refl refl
+    mute (spot_at (place j.server.offset n) t) (row_token n r) (passed ToClient left n (record j { parser = Some s })) told refl unended refl refl
     ∙ some_over cuts t n bytes j told r s left (row_token n r) d i w h some few less
 
 -- no byte, and nothing is done

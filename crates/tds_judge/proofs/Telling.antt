@@ -24,7 +24,8 @@ use Rattle.tds_judge.specs.declared.headers.HeaderFault.TheVariants as faults
 use Rattle.tds_judge.specs.Headers.{heading_by}
 use Rattle.tds_judge.specs.Talking.{talk_by}
 use Rattle.tds_judge.specs.Noting.{told_by}
-use Rattle.tds_judge.specs.Framing.{Run, answer_begun, begins, begun_by, counted, counted_by, due_by, event_of, fault_of, frame_of, framed, goes_on, head_of, head_taken, headed, headed_at_end, headed_by, inside_by, inside_of, inside_put, is_to_fill, is_judged_version, is_plausible, is_tls, is_walked, is_whole, later_by, lost, message_over, moved, opened, opened_frame, over, over_by, prefixed, read_by, restarted_by, said, shifted, slid, slid_frame, spot_of, step, step_by, steps, stops, taken_up, walked, walked_by, refused_as, versioned, versioned_if}
+use Rattle.tds_judge.specs.Framing.{Run, answer_begun, begins, begun_by, counted, counted_by, due_by, frame_of, framed, goes_on, head_taken, headed, headed_at_end, headed_by, inside_by, inside_put, is_judged_version, is_walked, is_whole, later_by, lost, message_over, moved, opened, opened_frame, over, over_by, prefixed, read_by, restarted_by, said, slid, slid_frame, spot_of, step, step_by, steps, stops, taken_up, walked, walked_by, refused_as, versioned, versioned_if}
+use Rattle.tds_judge.specs.PacketHeads.{event_of, fault_of, head_of, inside_of, is_to_fill, is_plausible, is_tls, shifted}
 use Rattle.tds_judge.specs.History.{Said, Tells, found_in, further}
 
 further_more : (later earlier : List Said) (t : Talk) → further later (further earlier t) ≡ further (later ++ earlier) t
@@ -90,7 +91,7 @@ message_so : (d : Direction) (spot : Spot) (f : Frame) (a : Run) → Tells a (me
 message_so ToServer spot f a =
     either a (said spot events.Ignored a) (headed_at_end f.inside spot a) (f.status / 2 % 2 == 1) (said_so spot events.Ignored a) (headers_so f.inside spot a)
 message_so ToClient spot f a =
-    either a a (said spot (events.Answered (is_whole f.inside a.judge.walker)) a) (f.kind == 18) (same a) (said_so spot (events.Answered (is_whole f.inside a.judge.walker)) a)
+    either a a (said spot (events.Answered (is_whole f.inside a.judge.parser)) a) (f.kind == 18) (same a) (said_so spot (events.Answered (is_whole f.inside a.judge.parser)) a)
 
 over_so_by : (part : Part) (spot : Spot) (f : Frame) (a : Run) → Tells a (over_by part spot f a)
 over_so_by parts.Lost spot f a = same a
@@ -133,7 +134,7 @@ begun_so ToServer spot head a =
     let b = said spot (event_of head) a in
     on a b (opened spot parts.Within (inside_of head.kind) head b) (said_so spot (event_of head) a) (opened_so spot parts.Within (inside_of head.kind) head b)
 begun_so ToClient spot head a =
-    let r : Run = record { judge = record a.judge { walker = restarted_by a.judge.walker }; told = a.told } in
+    let r : Run = record { judge = record a.judge { parser = restarted_by a.judge.parser }; told = a.told } in
     let b = answer_begun spot head r in
     let i = if is_walked head a then inside.Walked else inside.Skipped in
     on a r (opened spot parts.Within i head b) (nothing a r refl refl refl)
@@ -225,7 +226,7 @@ inside_so : (i : Inside) (spot : Spot) (byte : ℕ) (a : Run) → Tells a (insid
 unfolding inside_by
 inside_so inside.Skipped spot byte a = same a
 inside_so (inside.Prefix heading) spot byte a = prefixed_so spot (heading_by heading byte) a
-inside_so inside.Walked spot byte a = walked_so a.judge.walker spot byte a
+inside_so inside.Walked spot byte a = walked_so a.judge.parser spot byte a
 inside_so (inside.Version place) spot byte a = versioned_so spot place byte a
 
 counted_so : (o : Option Reading) (spot : Spot) (left : ℕ) (a : Run) → Tells a (counted_by o spot left a)
@@ -241,7 +242,7 @@ unfolding due_by
 due_so (due.Head got value) spot byte a = head_so spot got (shifted value byte) a
 due_so (due.Data left) spot byte a =
     let b = inside_by (frame_of spot.direction a).inside spot byte a in
-    on a b (counted spot left b) (inside_so (frame_of spot.direction a).inside spot byte a) (counted_so b.judge.walker spot left b)
+    on a b (counted spot left b) (inside_so (frame_of spot.direction a).inside spot byte a) (counted_so b.judge.parser spot left b)
 
 step_so_by : (o : Option Reading) (d : Direction) (time byte : ℕ) (a : Run) → Tells a (step_by o d time byte a)
 step_so_by None d time byte a = same a
@@ -251,7 +252,7 @@ step_so_by (Some r) d time byte a =
 
 step_so : (d : Direction) (time byte : ℕ) (a : Run) → Tells a (step d time byte a)
 unfolding step
-step_so d time byte a = step_so_by a.judge.walker d time byte a
+step_so d time byte a = step_so_by a.judge.parser d time byte a
 
 pub steps_so : (d : Direction) (time : ℕ) (bytes : List ℕ) (a : Run) → Tells a (steps d time bytes a)
 unfolding steps

@@ -1,4 +1,4 @@
--- What a walker's byte does, and how many bytes are left behind a token or a fault.
+-- What a parser's byte does, and how many bytes are left behind a token or a fault.
 use Rattle.std.proofs.Common.{◌≡◌, ◌≤◌, ◌<◌, ℕ, suc, List, [], ◌∷◌, ◌++◌, length, Option, Some, None, refl, sym, ap, arith}
 use Rattle.tds_wire.specs.declared.fault.Refusal.{Refusal}
 use Rattle.tds_wire.specs.declared.fault.WireFault.{WireFault}

@@ -65,7 +65,8 @@ unfoldable pub size_told : List Said → ℕ
 size_told [] = 0
 size_told (x ∷ past) = most_by x.event (agreed_last past) (size_told past)
 
--- A new borrower has the connection, and no reset was heard of since (2.2.7.9, type 18). A request that asks for none is told once.
+-- A new borrower has the connection, and no reset was heard of since (2.2.7.9, type 18). A request
+-- that asks for none is told once.
 abbrev pub lent_by_change : ChangeValue → Bool → Bool
 lent_by_change changes.ResetDone before = false
 lent_by_change _ before = before
@@ -86,13 +87,16 @@ is_lent (x ∷ past) = lent_by x.event (is_lent past)
 
 -- the answer to a request that wasn't cancelled
 abbrev pub is_plain_answer : List Said → Bool
-is_plain_answer past = is_request (asked_last past) && (not (is_out past) && not (is_acknowledged past))
+is_plain_answer past =
+    is_request (asked_last past) && (not (is_out past) && not (is_acknowledged past))
 
 -- the answer to a request or to a message of a login, where none was cancelled
 abbrev pub is_awaited_answer : List Said → Bool
-is_awaited_answer past = is_known (asked_last past) && (not (is_out past) && not (is_acknowledged past))
+is_awaited_answer past =
+    is_known (asked_last past) && (not (is_out past) && not (is_acknowledged past))
 
--- a login has begun, and nothing has let the client in (2.2.7.14); a request before that is told once
+-- a login has begun, and nothing has let the client in (2.2.7.14); a request before that is told
+-- once
 abbrev pub entering_by : Event → Bool → Bool
 entering_by events.Login before = true
 entering_by (events.Request status bulk) before = false
@@ -103,7 +107,8 @@ unfoldable pub is_entering : List Said → Bool
 is_entering [] = false
 is_entering (x ∷ past) = entering_by x.event (is_entering past)
 
--- The newest request's last packet is to come (2.2.3.1.2), and no other answer was when it began; an answer that begins before it is told once.
+-- The newest request's last packet is to come (2.2.3.1.2), and no other answer was when it began;
+-- an answer that begins before it is told once.
 abbrev pub goes_out_by : Event → (free before : Bool) → Bool
 goes_out_by (events.Request status bulk) free before = not (status % 2 == 1) && free
 goes_out_by events.Login free before = false
@@ -155,20 +160,25 @@ unfoldable pub is_dated : List Said → Bool
 is_dated [] = false
 is_dated (x ∷ past) = dated_by x.event (is_dated past)
 
--- An earlier one, before that: a DONE isn't one of 13 bytes, or an answer that wasn't cancelled ends inside a token. So it is with the DONE of
--- the login's answer, behind a LOGINACK of an earlier version.
+-- An earlier one, before that: a DONE isn't one of 13 bytes, or an answer that wasn't cancelled
+-- ends inside a token. So it is with the DONE of the login's answer, behind a LOGINACK of an
+-- earlier version.
 abbrev pub other_by_token : Told → Bool → Bool → Bool
 other_by_token (told.Done done) dated before = before || (not dated && not (is_long done))
 other_by_token _ dated before = before
 
 abbrev pub other_by : Event → (dated awaited acknowledged before : Bool) → Bool
-other_by (events.Says token) dated awaited acknowledged before = other_by_token token.told dated before
-other_by (events.Answered whole) dated awaited acknowledged before = if acknowledged then before else before || (awaited && (not whole && not dated))
+other_by (events.Says token) dated awaited acknowledged before =
+    other_by_token token.told dated before
+other_by (events.Answered whole) dated awaited acknowledged before =
+    if acknowledged then before else before || (awaited && (not whole && not dated))
 other_by _ dated awaited acknowledged before = before
 
 unfoldable pub is_other_shown : List Said → Bool
 is_other_shown [] = false
-is_other_shown (x ∷ past) = other_by x.event (is_dated past) (is_awaited_answer past) (is_acknowledged past) (is_other_shown past)
+is_other_shown (x ∷ past) =
+    other_by x.event (is_dated past) (is_awaited_answer past) (is_acknowledged past)
+    (is_other_shown past)
 
 -- ---- Transactions (2.2.7.9)
 
@@ -202,22 +212,28 @@ unheard_by_change type changes.ResetDone out owes before = if keeps owes then be
 unheard_by_change type _ out owes before = before
 
 abbrev pub unheard_by_token : Told → Bool → Reset → Bool → Bool
-unheard_by_token (told.Change change) out owes before = unheard_by_change change.kind change.value out owes before
+unheard_by_token (told.Change change) out owes before =
+    unheard_by_change change.kind change.value out owes before
 unheard_by_token _ out owes before = before
 
 abbrev pub unheard_by : Event → Bool → Bool → Bool → Reset → Bool → Bool
-unheard_by (events.Attention size status) out underway begun owes before = before || (begun && underway)
+unheard_by (events.Attention size status) out underway begun owes before =
+    before || (begun && underway)
 unheard_by (events.Names descriptor) out underway begun owes before = false
-unheard_by (events.Says token) out underway begun owes before = unheard_by_token token.told out owes before
+unheard_by (events.Says token) out underway begun owes before =
+    unheard_by_token token.told out owes before
 unheard_by _ out underway begun owes before = before
 
 unfoldable pub is_unheard : List Said → Bool
 is_unheard [] = false
-is_unheard (x ∷ past) = unheard_by x.event (is_out past) (is_underway past) (has_begun past) (owed_of past) (is_unheard past)
+is_unheard (x ∷ past) =
+    unheard_by x.event (is_out past) (is_underway past) (has_begun past) (owed_of past)
+    (is_unheard past)
 
 -- the transaction that ended last, while no request has named one since; 0 where none did
 abbrev pub gone_by_change : ℕ → ChangeValue → Transaction → ℕ → ℕ
-gone_by_change type (changes.Transaction new old) last before = if begins type then 0 else descriptor_of last
+gone_by_change type (changes.Transaction new old) last before =
+    if begins type then 0 else descriptor_of last
 gone_by_change type _ last before = before
 
 abbrev pub gone_by_token : Told → Transaction → ℕ → ℕ

@@ -1,5 +1,6 @@
--- Lawful conversations: one exchange behind the other, in the order in which somebody on the way sees both directions (MS-TDS 3.2.5, 3.3.5).
--- That an attention is seen before the end of the answer that it stops, or behind it, is lawful both.
+-- Lawful conversations: one exchange behind the other, in the order in which somebody on the way
+-- sees both directions (MS-TDS 3.2.5, 3.3.5). That an attention is seen before the end of the
+-- answer that it stops, or behind it, is lawful both.
 use Rattle.std.specs.Prelude.{◌≡◌, ℕ, ◌==◌, ◌&&◌, ◌||◌, not, nat_lt, Bool, true, false, List, [], ◌∷◌, if◌then◌else◌}
 use Rattle.tds_judge.specs.declared.finding.Direction.{Direction}
 use Rattle.tds_judge.specs.declared.talk.Ending.{Ending}
@@ -50,7 +51,8 @@ left_by _ reset = reset
 
 abbrev pub heard_at : Token → Place → Place
 heard_at token (Greeting enters) = Greeting (if admits token.kind then false else enters)
-heard_at token (Answering reset final) = Answering (left_by token.told reset) (final_by_token token.told final)
+heard_at token (Answering reset final) =
+    Answering (left_by token.told reset) (final_by_token token.told final)
 heard_at token (Skipping acknowledged) = Skipping (acknowledged || acknowledges token)
 heard_at token place = place
 
@@ -93,7 +95,8 @@ place_of (x ∷ past) = place_by x.event (place_of past)
 
 -- ---- What may be said there
 
--- A request is begun where nothing is awaited, with one reset bit at most; what is to be ignored ends its message (2.2.3.1.2).
+-- A request is begun where nothing is awaited, with one reset bit at most; what is to be ignored
+-- ends its message (2.2.3.1.2).
 abbrev pub MayAsk : Place → ℕ → Type 0
 MayAsk Quiet status = (is_both (reset_of status) ≡ false) × (ignores_early status ≡ false)
 MayAsk _ status = ⊥
@@ -105,23 +108,27 @@ MayGreet (Greeting enters) = Unit {0}
 MayGreet Entering = Unit {0}
 MayGreet _ = ⊥
 
--- One attention is out at a time. Where nothing is awaited it has crossed the end of the answer (2.2.1.7).
+-- One attention is out at a time. Where nothing is awaited it has crossed the end of the answer
+-- (2.2.1.7).
 abbrev pub MayStop : Place → Type 0
 MayStop Quiet = Unit {0}
 MayStop (Asking reset) = Unit {0}
 MayStop (Answering reset final) = Unit {0}
 MayStop _ = ⊥
 
--- A request names the transaction that was told last; or none, where its full reset ends it (2.2.5.3.2). Where none was told it may be any.
+-- A request names the transaction that was told last; or none, where its full reset ends it
+-- (2.2.5.3.2). Where none was told it may be any.
 abbrev pub Names : Transaction → Reset → ℕ → Type 0
 Names transactions.Unknown reset descriptor = Unit {0}
-Names (transactions.Told last) reset descriptor = ((last == descriptor) || (is_full reset && (descriptor == 0))) ≡ true
+Names (transactions.Told last) reset descriptor =
+    ((last == descriptor) || (is_full reset && (descriptor == 0))) ≡ true
 
 abbrev pub MayName : Place → Transaction → ℕ → Type 0
 MayName (Asking reset) last descriptor = Names last reset descriptor
 MayName _ last descriptor = ⊥
 
--- A message of the server begins where one is awaited, or to say of a request that it was ignored, and failed so (2.2.1.7).
+-- A message of the server begins where one is awaited, or to say of a request that it was ignored,
+-- and failed so (2.2.1.7).
 abbrev pub MayAnswer : Bool → Place → Type 0
 MayAnswer forgotten (Greeting enters) = Unit {0}
 MayAnswer forgotten (Asking reset) = Unit {0}
@@ -129,8 +136,8 @@ MayAnswer forgotten Stopping = Unit {0}
 MayAnswer forgotten Quiet = forgotten ≡ true
 MayAnswer forgotten _ = ⊥
 
--- The answer to a request acknowledges no attention. Behind an acknowledgement nothing comes in its message (2.2.7.6). None begins a transaction
--- inside another one, or ends another one (2.2.7.9).
+-- The answer to a request acknowledges no attention. Behind an acknowledgement nothing comes in its
+-- message (2.2.7.6). None begins a transaction inside another one, or ends another one (2.2.7.9).
 abbrev pub MaySay : Place → Token → Type 0
 MaySay (Greeting enters) token = Unit {0}
 MaySay (Answering reset final) token = acknowledges token ≡ false
@@ -138,7 +145,8 @@ MaySay (Skipping true) token = ⊥
 MaySay (Skipping false) token = acknowledges token && says_more token ≡ false
 MaySay _ token = ⊥
 
--- It ends between two tokens, behind a final DONE and the end of the reset that was asked for. What an attention stops ends anywhere.
+-- It ends between two tokens, behind a final DONE and the end of the reset that was asked for. What
+-- an attention stops ends anywhere.
 abbrev pub MayEnd : Place → Bool → Type 0
 MayEnd (Greeting enters) whole = Unit {0}
 MayEnd (Answering resets.None true) true = Unit {0}
@@ -163,20 +171,24 @@ abbrev pub MayHead : Bool → Type 0
 MayHead false = Unit {0}
 MayHead true = ⊥
 
--- by the transaction and the packet size that were told last, 0 where no size was, and by whether TDS 7.2 or later was shown, and a message that
--- is to be ignored ended last
+-- by the transaction and the packet size that were told last, 0 where no size was, and by whether
+-- TDS 7.2 or later was shown, and a message that is to be ignored ended last
 abbrev pub MayAt : Place → Transaction → ℕ → (dated forgotten : Bool) → Event → Type 0
-MayAt place last most dated forgotten (events.Packet size fills) = ((most == 0) || not (nat_lt most size)) ≡ true
+MayAt place last most dated forgotten (events.Packet size fills) =
+    ((most == 0) || not (nat_lt most size)) ≡ true
 MayAt place last most dated forgotten events.Unfinished = ⊥
 MayAt place last most dated forgotten (events.Request status bulk) = MayAsk place status
 MayAt place last most dated forgotten events.Login = MayGreet place
-MayAt place last most dated forgotten (events.Attention size status) = MayStop place × (size ≡ 8) × (status ≡ 1)
-MayAt place last most dated forgotten (events.Later status) = (reset_of status ≡ resets.None) × (ignores_early status ≡ false)
+MayAt place last most dated forgotten (events.Attention size status) =
+    MayStop place × (size ≡ 8) × (status ≡ 1)
+MayAt place last most dated forgotten (events.Later status) =
+    (reset_of status ≡ resets.None) × (ignores_early status ≡ false)
 MayAt place last most dated forgotten (events.Names descriptor) = MayName place last descriptor
 MayAt place last most dated forgotten (events.Headers fault) = MayHead dated
 MayAt place last most dated forgotten events.Ignored = Unit {0}
 MayAt place last most dated forgotten events.Answer = MayAnswer forgotten place
-MayAt place last most dated forgotten (events.Says token) = MaySay place token × (changes_wrongly last token ≡ false)
+MayAt place last most dated forgotten (events.Says token) =
+    MaySay place token × (changes_wrongly last token ≡ false)
 MayAt place last most dated forgotten (events.Answered whole) = MayEnd place whole
 MayAt place last most dated forgotten events.TakenUp = Unit {0}
 MayAt place last most dated forgotten (events.Stops ending value) = MayStay ending
@@ -184,7 +196,9 @@ MayAt place last most dated forgotten events.Borrowed = MayLend place
 MayAt place last most dated forgotten events.Closed = Unit {0}
 
 abbrev pub May : List Said → Event → Type 0
-May past event = MayAt (place_of past) (last_told past) (size_told past) (is_dated past) (is_forgotten past) event
+May past event =
+    MayAt (place_of past) (last_told past) (size_told past) (is_dated past) (is_forgotten past)
+    event
 
 -- ---- A lawful conversation, the newest first
 

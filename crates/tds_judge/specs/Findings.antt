@@ -55,7 +55,9 @@ number_of names.AnswerBeforeEnd = 44
 number_of names.ResetOnBulkLoad = 45
 
 abbrev pub is_risk : ℕ → Bool
-is_risk n = (n == 6) || (n == 10) || (n == 11) || (n == 12) || (n == 17) || (n == 18) || (n == 26) || (n == 36) || (n == 41) || (n == 43) || (n == 44) || (n == 45)
+is_risk n =
+    (n == 6) || (n == 10) || (n == 11) || (n == 12) || (n == 17) || (n == 18) || (n == 26)
+    || (n == 36) || (n == 41) || (n == 43) || (n == 44) || (n == 45)
 
 abbrev pub is_note : ℕ → Bool
 is_note n = (n == 16) || (n == 27) || (n == 28) || (n == 29) || (n == 30) || (n == 31) || (n == 34)
@@ -66,8 +68,10 @@ level_of n = if is_risk n then Risk else if is_note n then Note else Breach
 
 -- the judging of the connection ends with it
 abbrev pub ends_judging : ℕ → Bool
-ends_judging n = (n == 21) || (n == 23) || (n == 28) || (n == 29) || (n == 30) || (n == 31) || (n == 38)
+ends_judging n =
+    (n == 21) || (n == 23) || (n == 28) || (n == 29) || (n == 30) || (n == 31) || (n == 38)
 
 -- the findings so far, and this one where it is
 abbrev pub noted : List Finding → Spot → Bool → Name → ℕ → List Finding
-noted xs spot is name value = if is then xs ++ (record { name = name; value = value; spot = spot }) ∷ [] else xs
+noted xs spot is name value =
+    if is then xs ++ (record { name = name; value = value; spot = spot }) ∷ [] else xs

@@ -1,5 +1,6 @@
--- What a byte of a connection does: where each direction is in its packets (MS-TDS 2.2.3), what is said there, and what is found.
-use Rattle.std.specs.Prelude.{◌≡◌, ℕ, ◌+◌, ◌-◌, ◌*◌, ◌/◌, ◌%◌, ◌==◌, ◌&&◌, ◌||◌, not, min, nat_lt, Bool, true, false, List, [], ◌∷◌, Option, Some, None, if◌then◌else◌}
+-- What a byte of a connection does: where each direction is in its packets (MS-TDS 2.2.3), what is
+-- said there, and what is found.
+use Rattle.std.specs.Prelude.{◌≡◌, ℕ, ◌+◌, ◌-◌, ◌/◌, ◌%◌, ◌==◌, ◌&&◌, ◌||◌, not, min, nat_lt, Bool, true, false, List, [], ◌∷◌, Option, Some, None, if◌then◌else◌}
 use Rattle.tds_judge.specs.declared.finding.Direction.{Direction}
 use Rattle.tds_judge.specs.declared.finding.Direction.TheVariants.{ToServer, ToClient}
 use Rattle.tds_judge.specs.declared.finding.Finding.{Finding}
@@ -20,74 +21,35 @@ use Rattle.tds_judge.specs.declared.talk.Ending.TheVariants as endings
 use Rattle.tds_judge.specs.declared.talk.Event.{Event}
 use Rattle.tds_judge.specs.declared.talk.Event.TheVariants as events
 use Rattle.tds_judge.specs.declared.talk.Limits.{Limits}
-use Rattle.tds_judge.specs.Headers.{heading_by, new_heading}
+use Rattle.tds_judge.specs.Headers.{heading_by}
 use Rattle.tds_judge.specs.Talking.{new_talk, talk_by}
 use Rattle.tds_judge.specs.Noting.{told_by}
 use Rattle.tds_wire.specs.declared.fault.Refusal.{Refusal}
 use Rattle.tds_wire.specs.Faults.{fault_number}
 use Rattle.tds_wire.specs.Reading.{IsReady, Reading, Found, Sees, Inside as Amid, Refuses, is_between, next_token, restarted}
-
--- ---- Headers
-
--- eight bytes, the highest first, with one more at their end
-abbrev pub shifted : ℕ → ℕ → ℕ
-shifted value byte = value % 72057594037927936 * 256 + byte
-
--- Type, Status, Length, SPID, PacketID, Window
-abbrev pub head_of : ℕ → Head
-head_of value = record {
-  kind = value / 72057594037927936 % 256;
-  status = value / 281474976710656 % 256;
-  size = value / 4294967296 % 65536;
-  id = value / 256 % 256;
-}
-
--- 01 batch, 03 RPC, 06 attention, 07 bulk load, 08 federated token, 0E transaction manager, 10 LOGIN7, 11 SSPI, 12 PRELOGIN; 04 answer
-abbrev pub is_kind : Direction → ℕ → Bool
-is_kind ToServer kind = (kind == 1) || (kind == 3) || (kind == 6) || (kind == 7) || (kind == 8) || (kind == 14) || (kind == 16) || (kind == 17) || (kind == 18)
-is_kind ToClient kind = (kind == 4) || (kind == 18)
-
-abbrev pub is_plausible : Direction → Head → Bool
-is_plausible direction head = is_kind direction head.kind && not (nat_lt head.size 8)
-
--- a record of TLS: its type, and the first byte of its version
-abbrev pub is_tls : Head → Bool
-is_tls head = ((head.kind == 20) || (head.kind == 21) || (head.kind == 22) || (head.kind == 23)) && (head.status == 3)
-
-abbrev pub other_way : Direction → Direction
-other_way ToServer = ToClient
-other_way ToClient = ToServer
-
-abbrev pub fault_of : Direction → Head → Event
-fault_of direction head =
-    if is_tls head then events.Stops endings.Encrypted 0
-    else if is_kind direction head.kind then events.Stops endings.WrongLength head.size
-    else if is_plausible (other_way direction) head then events.Stops endings.WrongDirection head.kind
-    else events.Stops endings.NotTds head.kind
-
-abbrev pub event_of : Head → Event
-event_of head =
-    if head.kind == 6 then events.Attention head.size head.status
-    else if (head.kind == 1) || (head.kind == 3) || (head.kind == 7) || (head.kind == 14) then events.Request head.status (head.kind == 7)
-    else events.Login
-
--- A packet of a request that doesn't end its message has to be full (2.2.3.1.3).
-abbrev pub is_to_fill : Direction → Head → Bool
-is_to_fill ToServer head = not (head.status % 2 == 1) && ((head.kind == 1) || (head.kind == 3) || (head.kind == 7) || (head.kind == 14))
-is_to_fill ToClient head = false
-
--- ALL_HEADERS is read of a batch, an RPC and a request to the transaction manager (2.2.5.3)
-abbrev pub inside_of : ℕ → Inside
-inside_of kind =
-    if (kind == 1) || (kind == 3) || (kind == 14) then inside.Prefix new_heading else if kind == 16 then inside.Version 0 else inside.Skipped
+use Rattle.tds_judge.specs.PacketHeads.{shifted, head_of, is_plausible, is_tls, fault_of, event_of, is_to_fill, inside_of}
 
 -- ---- Frames
 
 abbrev pub new_frame : Frame
-new_frame = record { due = due.Head 0 0; part = parts.Lost; inside = inside.Skipped; kind = 0; status = 0; offset = 0 }
+new_frame = record {
+  due = due.Head 0 0;
+  part = parts.Lost;
+  inside = inside.Skipped;
+  kind = 0;
+  status = 0;
+  offset = 0;
+}
 
 abbrev pub opened_frame : Frame → Part → Inside → Head → Frame
-opened_frame f part inside head = record { due = due.Data (head.size - 8); part = part; inside = inside; kind = head.kind; status = head.status; offset = f.offset }
+opened_frame f part inside head = record {
+  due = due.Data (head.size - 8);
+  part = part;
+  inside = inside;
+  kind = head.kind;
+  status = head.status;
+  offset = f.offset;
+}
 
 -- ---- A judge, and what it found
 
@@ -121,14 +83,15 @@ said spot event run = record {
 
 -- the judging ends
 abbrev pub stops : Spot → Event → Run → Run
-stops spot event run = said spot event (record { judge = record run.judge { walker = None }; told = run.told })
+stops spot event run =
+    said spot event (record { judge = record run.judge { parser = None }; told = run.told })
 
 -- ---- The end of a packet
 
 abbrev pub is_whole : Inside → Option Reading → Bool
-is_whole inside.Skipped walker = true
-is_whole (inside.Prefix heading) walker = true
-is_whole (inside.Version place) walker = true
+is_whole inside.Skipped parser = true
+is_whole (inside.Prefix heading) parser = true
+is_whole (inside.Version place) parser = true
 is_whole inside.Walked None = true
 is_whole inside.Walked (Some r) = is_between r
 
@@ -141,8 +104,11 @@ headed_at_end (inside.Version place) spot run = run
 
 -- A message whose beginning was seen ends. What is to be ignored need not be whole.
 abbrev pub message_over : Direction → Spot → Frame → Run → Run
-message_over ToServer spot f run = if f.status / 2 % 2 == 1 then said spot events.Ignored run else headed_at_end f.inside spot run
-message_over ToClient spot f run = if f.kind == 18 then run else said spot (events.Answered (is_whole f.inside run.judge.walker)) run
+message_over ToServer spot f run =
+    if f.status / 2 % 2 == 1 then said spot events.Ignored run else headed_at_end f.inside spot run
+message_over ToClient spot f run =
+    if f.kind == 18 then run
+    else said spot (events.Answered (is_whole f.inside run.judge.parser)) run
 
 abbrev pub over_by : Part → Spot → Frame → Run → Run
 over_by parts.Lost spot f run = run
@@ -155,14 +121,16 @@ unfoldable pub over : Spot → Run → Run
 over spot run =
     let f = frame_of spot.direction run in
     if f.status % 2 == 1
-    then over_by f.part spot f (framed spot.direction (record f { due = due.Head 0 0; part = parts.Between }) run)
+    then over_by f.part spot f
+    (framed spot.direction (record f { due = due.Head 0 0; part = parts.Between }) run)
     else framed spot.direction (record f { due = due.Head 0 0 }) run
 
 -- ---- The end of a header
 
 unfoldable pub opened : Spot → Part → Inside → Head → Run → Run
 opened spot part inside head run =
-    let there = framed spot.direction (opened_frame (frame_of spot.direction run) part inside head) run in
+    let there = framed spot.direction (opened_frame (frame_of spot.direction run) part inside head)
+    run in
     if head.size == 8 then over spot there else there
 
 -- A header that can't be one is the beginning of another eight bytes: one byte is dropped.
@@ -175,7 +143,8 @@ slid spot value run = framed spot.direction (slid_frame value (frame_of spot.dir
 -- What was never TDS is given up behind a mebibyte.
 unfoldable pub lost : Spot → ℕ → Run → Run
 lost spot value run =
-    if (spot.offset == 7) && is_tls (head_of value) then stops spot (events.Stops endings.Encrypted 0) run
+    if (spot.offset == 7) && is_tls (head_of value)
+    then stops spot (events.Stops endings.Encrypted 0) run
     else if nat_lt spot.offset 1048575 then slid spot value run
     else stops spot (events.Stops endings.NotTds 0) run
 
@@ -187,19 +156,28 @@ abbrev pub restarted_by : Option Reading → Option Reading
 restarted_by None = None
 restarted_by (Some r) = Some (restarted r)
 
--- A message of that type to the client is one of TLS's handshake, of which there are as many as it needs (2.2.6.5).
+-- A message of that type to the client is one of TLS's handshake, of which there are as many as it
+-- needs (2.2.6.5).
 abbrev pub answer_begun : Spot → Head → Run → Run
 answer_begun spot head run = if head.kind == 18 then run else said spot events.Answer run
 
 abbrev pub begun_by : Direction → Spot → Head → Run → Run
-begun_by ToServer spot head run = opened spot parts.Within (inside_of head.kind) head (said spot (event_of head) run)
+begun_by ToServer spot head run =
+    opened spot parts.Within (inside_of head.kind) head (said spot (event_of head) run)
 begun_by ToClient spot head run =
     opened spot parts.Within (if is_walked head run then inside.Walked else inside.Skipped) head
-    (answer_begun spot head (record { judge = record run.judge { walker = restarted_by run.judge.walker }; told = run.told }))
+    (answer_begun spot head
+    (record {
+      judge = record run.judge { parser = restarted_by run.judge.parser };
+      told =
+          run.told;
+    }))
 
 -- a message begins
 unfoldable pub begins : Spot → Head → Run → Run
-begins spot head run = begun_by spot.direction spot head (said spot (events.Packet head.size (is_to_fill spot.direction head)) run)
+begins spot head run =
+    begun_by spot.direction spot head
+    (said spot (events.Packet head.size (is_to_fill spot.direction head)) run)
 
 abbrev pub later_by : Direction → Spot → Head → Run → Run
 later_by ToServer spot head run = said spot (events.Later head.status) run
@@ -209,11 +187,14 @@ later_by ToClient spot head run = run
 unfoldable pub goes_on : Spot → Frame → Head → Run → Run
 goes_on spot f head run =
     if (head.kind == f.kind) && not (head.kind == 6)
-    then opened spot parts.Within f.inside head (later_by spot.direction spot head (said spot (events.Packet head.size (is_to_fill spot.direction head)) run))
+    then opened spot parts.Within f.inside head
+    (later_by spot.direction spot head
+    (said spot (events.Packet head.size (is_to_fill spot.direction head)) run))
     else if head.kind == 6 then begins spot head run
     else begins spot head (said spot events.Unfinished run)
 
--- The first message is taken up where its first eight bytes begin one; else behind the end of another.
+-- The first message is taken up where its first eight bytes begin one; else behind the end of
+-- another.
 unfoldable pub taken_up : Spot → Head → Run → Run
 taken_up spot head run =
     if (spot.offset == 7) && nat_lt head.id 2 then begins spot head run
@@ -222,51 +203,67 @@ taken_up spot head run =
 abbrev pub headed_by : Part → Bool → Spot → ℕ → Run → Run
 headed_by parts.Lost true spot value run = taken_up spot (head_of value) run
 headed_by parts.Lost false spot value run = lost spot value run
-headed_by parts.Passing true spot value run = opened spot parts.Passing inside.Skipped (head_of value) run
+headed_by parts.Passing true spot value run =
+    opened spot parts.Passing inside.Skipped (head_of value) run
 headed_by parts.Passing false spot value run = slid spot value run
 headed_by parts.Between true spot value run = begins spot (head_of value) run
-headed_by parts.Between false spot value run = stops spot (fault_of spot.direction (head_of value)) run
-headed_by parts.Within true spot value run = goes_on spot (frame_of spot.direction run) (head_of value) run
-headed_by parts.Within false spot value run = stops spot (fault_of spot.direction (head_of value)) run
+headed_by parts.Between false spot value run =
+    stops spot (fault_of spot.direction (head_of value)) run
+headed_by parts.Within true spot value run =
+    goes_on spot (frame_of spot.direction run) (head_of value) run
+headed_by parts.Within false spot value run =
+    stops spot (fault_of spot.direction (head_of value)) run
 
 abbrev pub headed : Spot → ℕ → Run → Run
-headed spot value run = headed_by (frame_of spot.direction run).part (is_plausible spot.direction (head_of value)) spot value run
+headed spot value run =
+    headed_by (frame_of spot.direction run).part (is_plausible spot.direction (head_of value)) spot
+    value run
 
 abbrev pub head_taken : Spot → ℕ → ℕ → Run → Run
 head_taken spot got value run =
     if nat_lt got 7
-    then framed spot.direction (record (frame_of spot.direction run) { due = due.Head (got + 1) value }) run
+    then framed spot.direction
+    (record (frame_of spot.direction run) { due = due.Head (got + 1) value }) run
     else headed spot value run
 
 -- ---- Data
 
 abbrev pub inside_put : Spot → Inside → Run → Run
-inside_put spot inside run = framed spot.direction (record (frame_of spot.direction run) { inside = inside }) run
+inside_put spot inside run =
+    framed spot.direction (record (frame_of spot.direction run) { inside = inside }) run
 
 -- a byte of ALL_HEADERS has come
 abbrev pub prefixed : Spot → Headed → Run → Run
 prefixed spot (headings.On heading) run = inside_put spot (inside.Prefix heading) run
-prefixed spot (headings.Names descriptor heading) run = said spot (events.Names descriptor) (inside_put spot (inside.Prefix heading) run)
+prefixed spot (headings.Names descriptor heading) run =
+    said spot (events.Names descriptor) (inside_put spot (inside.Prefix heading) run)
 prefixed spot headings.Over run = inside_put spot inside.Skipped run
-prefixed spot (headings.Wrong fault) run = said spot (events.Headers fault) (inside_put spot inside.Skipped run)
+prefixed spot (headings.Wrong fault) run =
+    said spot (events.Headers fault) (inside_put spot inside.Skipped run)
 
--- LOGIN7 has its length in 4 bytes, then its version, whose highest byte comes last: 72 to 74 (MS-TDS 2.2.6.4)
+-- LOGIN7 has its length in 4 bytes, then its version, whose highest byte comes last: 72 to 74
+-- (MS-TDS 2.2.6.4)
 abbrev pub is_judged_version : ℕ → Bool
 is_judged_version byte = (byte == 0x72) || (byte == 0x73) || (byte == 0x74)
 
 abbrev pub versioned_if : Bool → Spot → ℕ → Run → Run
-versioned_if judged spot byte run = if judged then run else stops spot (events.Stops endings.OtherVersion byte) run
+versioned_if judged spot byte run =
+    if judged then run else stops spot (events.Stops endings.OtherVersion byte) run
 
 abbrev pub versioned : Spot → ℕ → ℕ → Run → Run
 versioned spot place byte run =
     if nat_lt place 7
-    then framed spot.direction (record (frame_of spot.direction run) { inside = inside.Version (place + 1) }) run
-    else versioned_if (is_judged_version byte) spot byte (framed spot.direction (record (frame_of spot.direction run) { inside = inside.Skipped }) run)
+    then framed spot.direction
+    (record (frame_of spot.direction run) { inside = inside.Version (place + 1) }) run
+    else versioned_if (is_judged_version byte) spot byte
+    (framed spot.direction (record (frame_of spot.direction run) { inside = inside.Skipped })
+    run)
 
 abbrev pub read_by : Reading → Run → Run
-read_by r run = record { judge = record run.judge { walker = Some r }; told = run.told }
+read_by r run = record { judge = record run.judge { parser = Some r }; told = run.told }
 
--- ALTMETADATA and ALTROW (COMPUTE, 2.2.7.1 and 2.2.7.2) aren't read; all else that is refused is no token
+-- ALTMETADATA and ALTROW (COMPUTE, 2.2.7.1 and 2.2.7.2) aren't read; all else that is refused is no
+-- token
 abbrev pub refused_as : Refusal → Event
 refused_as refusal =
     if (fault_number refusal.fault == 1) && ((refusal.byte == 0x88) || (refusal.byte == 0xD3))
@@ -285,39 +282,48 @@ walked (Some r) spot byte run = walked_by (next_token r (byte ∷ [])) spot run
 unfoldable pub inside_by : Inside → Spot → ℕ → Run → Run
 inside_by inside.Skipped spot byte run = run
 inside_by (inside.Prefix heading) spot byte run = prefixed spot (heading_by heading byte) run
-inside_by inside.Walked spot byte run = walked run.judge.walker spot byte run
+inside_by inside.Walked spot byte run = walked run.judge.parser spot byte run
 inside_by (inside.Version place) spot byte run = versioned spot place byte run
 
 abbrev pub counted_by : Option Reading → Spot → ℕ → Run → Run
 counted_by None spot left run = run
 counted_by (Some r) spot left run =
-    if nat_lt 1 left then framed spot.direction (record (frame_of spot.direction run) { due = due.Data (left - 1) }) run
+    if nat_lt 1 left
+    then framed spot.direction
+    (record (frame_of spot.direction run) { due = due.Data (left - 1) }) run
     else over spot run
 
 -- one byte less is to come
 abbrev pub counted : Spot → ℕ → Run → Run
-counted spot left run = counted_by run.judge.walker spot left run
+counted spot left run = counted_by run.judge.parser spot left run
 
 -- ---- A byte
 
 unfoldable pub due_by : Due → Spot → ℕ → Run → Run
 due_by (due.Head got value) spot byte run = head_taken spot got (shifted value byte) run
-due_by (due.Data left) spot byte run = counted spot left (inside_by (frame_of spot.direction run).inside spot byte run)
+due_by (due.Data left) spot byte run =
+    counted spot left (inside_by (frame_of spot.direction run).inside spot byte run)
 
 abbrev pub moved : Direction → Run → Run
 moved direction run =
-    framed direction (record (frame_of direction run) { offset = min 18446744073709551615 ((frame_of direction run).offset + 1) }) run
+    framed direction
+    (record (frame_of direction run) { offset = min 18446744073709551615 ((frame_of direction run).offset + 1) }) run
 
 abbrev pub spot_of : Direction → ℕ → Run → Spot
-spot_of direction time run = record { direction = direction; offset = (frame_of direction run).offset; time = time }
+spot_of direction time run = record {
+  direction = direction;
+  offset = (frame_of direction run).offset;
+  time = time;
+}
 
 abbrev pub step_by : Option Reading → Direction → ℕ → ℕ → Run → Run
 step_by None direction time byte run = run
-step_by (Some r) direction time byte run = due_by (frame_of direction run).due (spot_of direction time run) byte (moved direction run)
+step_by (Some r) direction time byte run =
+    due_by (frame_of direction run).due (spot_of direction time run) byte (moved direction run)
 
 -- what a byte of a direction does, that came at a time; nothing where the judging has ended
 unfoldable pub step : Direction → ℕ → ℕ → Run → Run
-step direction time byte run = step_by run.judge.walker direction time byte run
+step direction time byte run = step_by run.judge.parser direction time byte run
 
 -- and bytes, one behind the other
 unfoldable pub steps : Direction → ℕ → List ℕ → Run → Run
@@ -329,7 +335,7 @@ stopped_by None = true
 stopped_by (Some r) = false
 
 abbrev pub has_stopped : Judge → Bool
-has_stopped j = stopped_by j.walker
+has_stopped j = stopped_by j.parser
 
 -- nothing was seen of the connection
 pub record IsNew (given : Limits) (j : Judge) : Type 0 where
@@ -337,7 +343,7 @@ pub record IsNew (given : Limits) (j : Judge) : Type 0 where
   pub client : j.client ≡ new_frame
   pub server : j.server ≡ new_frame
   pub talk : j.talk ≡ new_talk
-  pub walker : (r : Reading) × (j.walker ≡ Some r) × IsReady r
+  pub parser : (r : Reading) × (j.parser ≡ Some r) × IsReady r
 
 -- ---- Other events
 
@@ -347,7 +353,7 @@ event_by None spot event run = run
 event_by (Some r) spot event run = said spot event run
 
 unfoldable pub event_said : ℕ → Event → Run → Run
-event_said time event run = event_by run.judge.walker (spot_of ToServer time run) event run
+event_said time event run = event_by run.judge.parser (spot_of ToServer time run) event run
 
 -- A connection of which no header was found is closed as none of TDS.
 abbrev pub is_lost : Part → Bool
@@ -357,11 +363,13 @@ is_lost parts.Between = false
 is_lost parts.Within = false
 
 abbrev pub closing : Judge → Event
-closing j = if is_lost j.client.part && nat_lt 0 j.client.offset then events.Stops endings.NotTds 0 else events.Closed
+closing j =
+    if is_lost j.client.part && nat_lt 0 j.client.offset then events.Stops endings.NotTds 0
+    else events.Closed
 
 abbrev pub closed_by : Option Reading → Spot → Run → Run
 closed_by None spot run = run
 closed_by (Some r) spot run = stops spot (closing run.judge) run
 
 unfoldable pub closed : ℕ → Run → Run
-closed time run = closed_by run.judge.walker (spot_of ToServer time run) run
+closed time run = closed_by run.judge.parser (spot_of ToServer time run) run

@@ -1,5 +1,6 @@
--- ALL_HEADERS of a request (MS-TDS 2.2.5.3), byte by byte: a total length in 4 bytes, and headers in any order and number, each with its
--- length in 4, its type in 2, and its data. A length counts its own bytes too; numbers have their lowest byte first.
+-- ALL_HEADERS of a request (MS-TDS 2.2.5.3), byte by byte: a total length in 4 bytes, and headers
+-- in any order and number, each with its length in 4, its type in 2, and its data. A length counts
+-- its own bytes too; numbers have their lowest byte first.
 use Rattle.std.specs.Prelude.{ℕ, ◌+◌, ◌-◌, ◌*◌, ◌/◌, ◌==◌, ◌||◌, nat_lt, true, false, if◌then◌else◌}
 use Rattle.tds_judge.specs.declared.headers.Field.{Field}
 use Rattle.tds_judge.specs.declared.headers.Field.TheVariants as fields
@@ -16,7 +17,14 @@ header_fault_number faults.TwoTransactions = 3
 header_fault_number faults.Kind = 4
 
 abbrev pub new_heading : Heading
-new_heading = record { field = fields.Total; left = 4; value = 0; total = 0; length = 0; named = false }
+new_heading = record {
+  field = fields.Total;
+  left = 4;
+  value = 0;
+  total = 0;
+  length = 0;
+  named = false;
+}
 
 -- a field of so many bytes comes next
 abbrev pub at_field : Field → ℕ → Heading → Heading
@@ -26,16 +34,20 @@ at_field field left h = record h { field = field; left = left; value = 0 }
 
 -- the least has one header without data
 abbrev pub total_over : ℕ → Heading → Headed
-total_over total h = if nat_lt total 10 then read.Wrong faults.Length else read.On (record (at_field fields.Length 4 h) { total = total - 4 })
+total_over total h =
+    if nat_lt total 10 then read.Wrong faults.Length
+    else read.On (record (at_field fields.Length 4 h) { total = total - 4 })
 
 abbrev pub length_over : ℕ → Heading → Headed
 length_over length h =
-    if nat_lt length 6 || nat_lt h.total length then read.Wrong faults.Length else read.On (record (at_field fields.Kind 2 h) { length = length })
+    if nat_lt length 6 || nat_lt h.total length then read.Wrong faults.Length
+    else read.On (record (at_field fields.Kind 2 h) { length = length })
 
 -- One of the headers names a transaction.
 abbrev pub header_over : Heading → Headed
 header_over h =
-    if nat_lt h.length h.total then read.On (record (at_field fields.Length 4 h) { total = h.total - h.length })
+    if nat_lt h.length h.total
+    then read.On (record (at_field fields.Length 4 h) { total = h.total - h.length })
     else if h.named then read.Over
     else read.Wrong faults.NoTransaction
 
@@ -47,11 +59,14 @@ naming h =
     else read.Wrong faults.Length
 
 abbrev pub passing : Heading → Headed
-passing h = if nat_lt 6 h.length then read.On (at_field fields.Rest (h.length - 6) h) else header_over h
+passing h =
+    if nat_lt 6 h.length then read.On (at_field fields.Rest (h.length - 6) h) else header_over h
 
 -- 1 is of a query notification, 3 of a trace (2.2.5.3.1, 2.2.5.3.3)
 abbrev pub kind_over : ℕ → Heading → Headed
-kind_over kind h = if kind == 2 then naming h else if (kind == 1) || (kind == 3) then passing h else read.Wrong faults.Kind
+kind_over kind h =
+    if kind == 2 then naming h else if (kind == 1) || (kind == 3) then passing h
+    else read.Wrong faults.Kind
 
 abbrev pub descriptor_over : Heading → Headed
 descriptor_over h = read.Names h.value (record (at_field fields.Rest 4 h) { named = true })

@@ -1,4 +1,5 @@
--- Breaches, by what was said on a connection before. A history is the list of what was said, the newest first; an event is said next.
+-- Breaches, by what was said on a connection before. A history is the list of what was said, the
+-- newest first; an event is said next.
 use Rattle.std.specs.Prelude.{◌≡◌, ℕ, ◌==◌, ◌&&◌, ◌||◌, not, Bool, true, false, List, [], ◌∷◌, if◌then◌else◌}
 use Rattle.tds_judge.specs.declared.finding.Finding.{Finding}
 use Rattle.tds_judge.specs.declared.finding.Spot.{Spot}
@@ -34,7 +35,8 @@ further (x ∷ later) t = talk_by (further later t) x.spot.time x.event
 -- and what is found then, behind what was found so far
 unfoldable pub found_in : Limits → List Said → Talk → List Finding → List Finding
 found_in limits [] t xs = xs
-found_in limits (x ∷ later) t xs = told_by (found_in limits later t xs) limits (further later t) x.spot x.event
+found_in limits (x ∷ later) t xs =
+    told_by (found_in limits later t xs) limits (further later t) x.spot x.event
 
 -- From one run to another these events were said, and nothing was found but at them.
 pub record Tells (before after : Run) : Type 0 where
@@ -77,7 +79,8 @@ is_out (x ∷ past) = out_by x.event (is_acknowledged past) (is_out past)
 -- two attentions were out at once, and the second acknowledgement is still to come
 abbrev pub twice_by : Event → Bool → Bool → Bool → Bool
 twice_by (events.Attention size status) acknowledged out before = before || out
-twice_by (events.Answered whole) acknowledged out before = if acknowledged then before && out else before
+twice_by (events.Answered whole) acknowledged out before =
+    if acknowledged then before && out else before
 twice_by _ acknowledged out before = before
 
 unfoldable pub is_twice : List Said → Bool
@@ -86,12 +89,15 @@ is_twice (x ∷ past) = twice_by x.event (is_acknowledged past) (is_out past) (i
 
 -- ---- Requests
 
--- A request is underway until an answer ends, or the request itself is to be ignored. An acknowledgement ends the request before the attention,
--- and leaves underway what was asked since; the second of two acknowledgements ends nothing.
+-- A request is underway until an answer ends, or the request itself is to be ignored. An
+-- acknowledgement ends the request before the attention, and leaves underway what was asked since;
+-- the second of two acknowledgements ends nothing.
 abbrev pub left_underway : (acknowledged out since twice before : Bool) → Bool
-left_underway acknowledged out since twice before = if acknowledged then (if out then since else twice && before) else false
+left_underway acknowledged out since twice before =
+    if acknowledged then (if out then since else twice && before) else false
 
--- A message that is to be ignored has ended, and nothing was sent or answered since: the server may answer that it ignored it (2.2.1.7).
+-- A message that is to be ignored has ended, and nothing was sent or answered since: the server may
+-- answer that it ignored it (2.2.1.7).
 abbrev pub forgotten_by : Event → Bool → Bool
 forgotten_by events.Ignored before = true
 forgotten_by (events.Request status bulk) before = false
@@ -107,7 +113,8 @@ is_forgotten (x ∷ past) = forgotten_by x.event (is_forgotten past)
 abbrev pub underway_by : Event → (acknowledged out since twice forgotten before : Bool) → Bool
 underway_by (events.Request status bulk) acknowledged out since twice forgotten before = true
 underway_by events.Login acknowledged out since twice forgotten before = true
-underway_by (events.Answered whole) acknowledged out since twice forgotten before = left_underway acknowledged out since twice before
+underway_by (events.Answered whole) acknowledged out since twice forgotten before =
+    left_underway acknowledged out since twice before
 underway_by events.Ignored acknowledged out since twice forgotten before = false
 underway_by events.Answer acknowledged out since twice forgotten before = before || forgotten
 underway_by _ acknowledged out since twice forgotten before = before
@@ -122,7 +129,8 @@ ended_by _ acknowledged underway before = before
 abbrev pub asked_since_by : Event → (acknowledged out ended before : Bool) → Bool
 asked_since_by (events.Request status bulk) acknowledged out ended before = out
 asked_since_by (events.Attention size status) acknowledged out ended before = false
-asked_since_by (events.Answered whole) acknowledged out ended before = not acknowledged && (before && not ended)
+asked_since_by (events.Answered whole) acknowledged out ended before =
+    not acknowledged && (before && not ended)
 asked_since_by _ acknowledged out ended before = before
 
 pub record Course : Type 0 where
@@ -139,7 +147,9 @@ course_by event acknowledged out twice forgotten t = record {
 
 unfoldable pub course_of : List Said → Course
 course_of [] = record { underway = false; ended = false; since = false }
-course_of (x ∷ past) = course_by x.event (is_acknowledged past) (is_out past) (is_twice past) (is_forgotten past) (course_of past)
+course_of (x ∷ past) =
+    course_by x.event (is_acknowledged past) (is_out past) (is_twice past) (is_forgotten past)
+    (course_of past)
 
 abbrev pub is_underway : List Said → Bool
 is_underway past = (course_of past).underway
@@ -187,17 +197,20 @@ owed_of past = owed (is_cleared past) (asks_of past)
 
 -- 8 has begun, 11 is enlisted; all others end it
 abbrev pub last_by_type : ℕ → ℕ → Transaction
-last_by_type type new = if (type == 8) || (type == 11) then begun_as type new else transactions.Told 0
+last_by_type type new =
+    if (type == 8) || (type == 11) then begun_as type new else transactions.Told 0
 
 abbrev pub last_by_change : ℕ → ChangeValue → Reset → Transaction → Transaction
 last_by_change type (changes.Transaction new old) owes before = last_by_type type new
-last_by_change type changes.ResetDone owes before = if keeps owes then before else transactions.Told 0
+last_by_change type changes.ResetDone owes before =
+    if keeps owes then before else transactions.Told 0
 last_by_change type (changes.PacketSize size) owes before = before
 last_by_change type (changes.Values new old) owes before = before
 last_by_change type changes.Other owes before = before
 
 abbrev pub last_by_token : ℕ → Told → Reset → Transaction → Transaction
-last_by_token kind (told.Change change) owes before = last_by_change change.kind change.value owes before
+last_by_token kind (told.Change change) owes before =
+    last_by_change change.kind change.value owes before
 last_by_token kind told.Unclear owes before = if kind == 0xE3 then transactions.Unknown else before
 last_by_token kind _ owes before = before
 
@@ -237,15 +250,19 @@ is_attention_unanswered past event = of_request event (λ status. is_out past)
 
 -- a request, while another one is underway that wasn't cancelled
 abbrev pub is_request_while_answering : List Said → Event → Bool
-is_request_while_answering past event = of_request event (λ status. is_underway past && not (is_out past))
+is_request_while_answering past event =
+    of_request event (λ status. is_underway past && not (is_out past))
 
 -- a request with both reset bits
 abbrev pub is_both_resets : List Said → Event → Bool
 is_both_resets past event = of_request event (λ status. is_both (reset_of status))
 
--- a descriptor that isn't the one that was told last; but none may be named where a full reset is asked for
+-- a descriptor that isn't the one that was told last; but none may be named where a full reset is
+-- asked for
 abbrev pub is_another : Transaction → Reset → ℕ → Bool
-is_another last asks descriptor = is_told last && (not (descriptor_of last == descriptor) && not (is_full asks && (descriptor == 0)))
+is_another last asks descriptor =
+    is_told last
+    && (not (descriptor_of last == descriptor) && not (is_full asks && (descriptor == 0)))
 
 abbrev pub is_wrong_descriptor : List Said → Event → Bool
 is_wrong_descriptor past event = of_names event (is_another (last_told past) (asks_of past))

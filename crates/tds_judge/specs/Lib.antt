@@ -2,11 +2,12 @@ pub mod Findings
 pub mod Headers
 pub mod Talking
 pub mod Noting
+pub mod PacketHeads
 pub mod Framing
 pub mod History
 pub mod Breaches
 pub mod Told
 pub mod Conversation
-pub mod Walker
+pub mod TokenParser
 pub mod Runs
 pub mod Rows

@@ -18,12 +18,14 @@ use Rattle.tds_judge.specs.Talking.{acknowledges, changes_wrongly, descriptor_of
 -- in a transaction, with nothing asked for since longer than the limit
 abbrev pub is_idle_long : Limits → Talk → ℕ → Bool
 is_idle_long limits t time =
-    not (descriptor_of t.transaction == 0) && (not t.underway && (not (limits.idle == 0) && nat_lt limits.idle (time - t.since)))
+    not (descriptor_of t.transaction == 0)
+    && (not t.underway && (not (limits.idle == 0) && nat_lt limits.idle (time - t.since)))
 
 -- of the attention, and of the answer before
 abbrev pub turn_noted : List Finding → Talk → Spot → List Finding
 turn_noted xs t spot =
-    noted (noted xs spot t.attention names.AttentionUnanswered 0) spot (t.underway && not t.attention) names.RequestWhileAnswering 0
+    noted (noted xs spot t.attention names.AttentionUnanswered 0) spot (t.underway
+    && not t.attention) names.RequestWhileAnswering 0
 
 -- of the reset bits
 abbrev pub reset_noted : List Finding → Talk → Spot → ℕ → List Finding
@@ -32,7 +34,9 @@ reset_noted xs t spot status =
     (noted
     (noted
     (noted xs spot (is_both (reset_of status)) names.BothResets status)
-    spot (is_full (reset_of status) && not (descriptor_of t.transaction == 0)) names.ResetEndsTransaction (descriptor_of t.transaction))
+    spot (is_full (reset_of status)
+    && not (descriptor_of t.transaction == 0)) names.ResetEndsTransaction
+    (descriptor_of t.transaction))
     spot (is_asked (reset_of status) && (is_asked t.reset && t.reset_done)) names.ResetTwice 0)
     spot (t.borrowed && not (is_asked (reset_of status))) names.SessionReusedWithoutReset 0
 
@@ -41,38 +45,48 @@ request_noted xs limits t spot status bulk =
     noted
     (noted
     (noted
-    (noted (reset_noted (turn_noted xs t spot) t spot status) spot (is_idle_long limits t spot.time) names.IdleInTransaction (spot.time - t.since))
+    (noted (reset_noted (turn_noted xs t spot) t spot status) spot (is_idle_long limits t spot.time)
+    names.IdleInTransaction (spot.time - t.since))
     spot (ignores_early status) names.IgnoreUnended status)
     spot t.entering names.RequestBeforeLogin 0)
     spot (bulk && is_asked (reset_of status)) names.ResetOnBulkLoad status
 
 abbrev pub attention_noted : List Finding → Talk → Spot → ℕ → ℕ → List Finding
 attention_noted xs t spot size status =
-    noted (noted xs spot t.attention names.SecondAttention 0) spot (not (size == 8) || not (status == 1)) names.WrongAttention size
+    noted (noted xs spot t.attention names.SecondAttention 0) spot (not (size == 8)
+    || not (status == 1)) names.WrongAttention size
 
 -- another transaction than was told last, but none is named where a full reset is asked for
 abbrev pub names_wrongly : Talk → ℕ → Bool
 names_wrongly t descriptor =
-    is_told t.transaction && (not (descriptor_of t.transaction == descriptor) && not (is_full t.reset && (descriptor == 0)))
+    is_told t.transaction
+    && (not (descriptor_of t.transaction == descriptor) && not
+    (is_full t.reset && (descriptor == 0)))
 
 abbrev pub names_noted : List Finding → Talk → Spot → ℕ → List Finding
 names_noted xs t spot descriptor =
     noted
     (noted
     (noted xs spot (names_wrongly t descriptor) names.WrongDescriptor (descriptor_of t.transaction))
-    spot (names_wrongly t descriptor && t.begun_unheard) names.CancelledBeginKept (descriptor_of t.transaction))
-    spot (names_wrongly t descriptor && (not (t.ended == 0) && (t.ended == descriptor))) names.TransactionEndedUnheard descriptor
+    spot (names_wrongly t descriptor
+    && t.begun_unheard) names.CancelledBeginKept (descriptor_of t.transaction))
+    spot (names_wrongly t descriptor
+    && (not (t.ended == 0) && (t.ended == descriptor))) names.TransactionEndedUnheard descriptor
 
 -- nobody asked for the acknowledgement
 abbrev pub is_unasked : Talk → Token → Bool
-is_unasked t token = acknowledges token && (is_request t.asked && (not t.attention && not t.doubled))
+is_unasked t token =
+    acknowledges token && (is_request t.asked && (not t.attention && not t.doubled))
 
 abbrev pub is_behind : Talk → Token → Bool
-is_behind t token = t.is_final && (is_request t.asked && (not t.attention && not (acknowledges token)))
+is_behind t token =
+    t.is_final && (is_request t.asked && (not t.attention && not (acknowledges token)))
 
 -- no reset is to be told done, nor one of a request that is to be ignored
 abbrev pub resets_unasked : Talk → Token → Bool
-resets_unasked t token = tells_reset token && (is_request t.asked && (not (is_asked (owed t.reset_done t.reset)) || t.forgotten))
+resets_unasked t token =
+    tells_reset token
+    && (is_request t.asked && (not (is_asked (owed t.reset_done t.reset)) || t.forgotten))
 
 -- a reset that is to be told done is told behind what was asked for
 abbrev pub resets_late : Talk → Token → Bool
@@ -83,7 +97,9 @@ abbrev pub ends_in_vain : Talk → Token → Bool
 ends_in_vain t token = ends_none t.transaction token && not t.reset_done
 
 abbrev pub goes_on_acknowledged : Talk → Token → Bool
-goes_on_acknowledged t token = is_request t.asked && ((t.is_final && t.acknowledges) || (acknowledges token && says_more token))
+goes_on_acknowledged t token =
+    is_request t.asked
+    && ((t.is_final && t.acknowledges) || (acknowledges token && says_more token))
 
 -- of what changes
 abbrev pub change_noted : List Finding → Talk → Spot → Token → List Finding
@@ -112,10 +128,13 @@ token_noted xs t spot token =
 
 -- nothing is to be answered
 abbrev pub is_unawaited : Talk → Bool
-is_unawaited t = is_known t.asked && (not t.underway && (not t.attention && (not t.doubled && not t.forgotten)))
+is_unawaited t =
+    is_known t.asked && (not t.underway && (not t.attention && (not t.doubled && not t.forgotten)))
 
 abbrev pub begin_noted : List Finding → Talk → Spot → List Finding
-begin_noted xs t spot = noted (noted xs spot (is_unawaited t) names.AnswerUnasked 0) spot t.asking names.AnswerBeforeEnd 0
+begin_noted xs t spot =
+    noted (noted xs spot (is_unawaited t) names.AnswerUnasked 0) spot t.asking names.AnswerBeforeEnd
+    0
 
 -- an answer ends inside a token, where TDS 7.2 or later wasn't shown
 abbrev pub is_of_another_version : Talk → Bool → Bool
@@ -143,13 +162,16 @@ close_noted xs limits t spot =
     (noted
     (noted xs spot (t.underway && is_request t.asked) names.AnswerUnread 0)
     spot (is_idle_long limits t spot.time) names.IdleInTransaction (spot.time - t.since))
-    spot (not (descriptor_of t.transaction == 0)) names.TransactionLeftByClose (descriptor_of t.transaction)
+    spot (not (descriptor_of t.transaction == 0)) names.TransactionLeftByClose
+    (descriptor_of t.transaction)
 
 -- it is lent while an answer isn't read, or an attention isn't acknowledged
 abbrev pub lent_noted : List Finding → Talk → Spot → List Finding
-lent_noted xs t spot = noted xs spot (t.attention || (t.underway && is_request t.asked)) names.LentWhileAnswering 0
+lent_noted xs t spot =
+    noted xs spot (t.attention || (t.underway && is_request t.asked)) names.LentWhileAnswering 0
 
--- why the judging ends; bytes that are no token may be of an earlier version, where none of 7.2 to 7.4 was shown
+-- why the judging ends; bytes that are no token may be of an earlier version, where none of 7.2 to
+-- 7.4 was shown
 abbrev pub ends_by_token : Ending → Bool → Bool
 ends_by_token endings.WrongToken dated = dated
 ends_by_token _ dated = false
@@ -207,7 +229,8 @@ headers_noted xs t spot fault = noted xs spot t.dated names.WrongHeaders (header
 
 abbrev pub later_noted : List Finding → Spot → ℕ → List Finding
 later_noted xs spot status =
-    noted (noted xs spot (is_asked (reset_of status)) names.ResetOnLaterPacket status) spot (ignores_early status) names.IgnoreUnended status
+    noted (noted xs spot (is_asked (reset_of status)) names.ResetOnLaterPacket status) spot
+    (ignores_early status) names.IgnoreUnended status
 
 -- what is found, behind what was found so far
 abbrev pub told_here : List Finding → Limits → Talk → Spot → Event → List Finding

@@ -5,9 +5,10 @@ use Rattle.tds_judge.specs.declared.frame.Inside.TheVariants as insides
 use Rattle.tds_judge.specs.declared.judge.Judge.{Judge}
 use Rattle.tds_wire.specs.Reading.{IsReady, Reading}
 
--- so many bytes of a packet to the client are left, the walker is between two tokens, and what says nothing changes nothing
+-- so many bytes of a packet to the client are left, the parser is between two tokens, and what says
+-- nothing changes nothing
 pub record IsAtRow (left : ℕ) (j : Judge) : Type 0 where
   pub due : j.server.due ≡ due.Data left
   pub inside : j.server.inside ≡ insides.Walked
-  pub walker : (r : Reading) × (j.walker ≡ Some r) × IsReady r
+  pub parser : (r : Reading) × (j.parser ≡ Some r) × IsReady r
   pub unended : j.talk.is_final ≡ false

@@ -7,8 +7,8 @@ use Rattle.tds_judge.specs.declared.finding.Direction.TheVariants.{ToClient}
 use Rattle.tds_judge.specs.declared.finding.Spot.{Spot}
 use Rattle.tds_judge.specs.declared.frame.Due.TheVariants as due
 use Rattle.tds_judge.specs.declared.judge.Judge.{Judge}
-use Rattle.tds_judge.specs.declared.walker.Went.{Went}
-use Rattle.tds_judge.specs.declared.walker.Went.TheVariants as went
+use Rattle.tds_judge.specs.declared.parser.Went.{Went}
+use Rattle.tds_judge.specs.declared.parser.Went.TheVariants as went
 use Rattle.tds_judge.specs.Framing.{frame_by, with_frame}
 
 -- how many bytes lead up to a refusal and over it, from a place on
@@ -23,7 +23,8 @@ pub record IsRefused (n : ℕ) (r : Reading) (piece : List ℕ) : Type 0 where
 -- what a run of bytes comes to, between these two
 abbrev pub IsWent : Went → Reading → Reading → List ℕ → Type 0
 IsWent went.Inside r s piece = next_token r piece ≡ Inside s
-IsWent (went.Ends n token) r s piece = (next_token r piece ≡ Sees token s (drop n piece)) × (0 < n) × (n ≤ length piece)
+IsWent (went.Ends n token) r s piece =
+    (next_token r piece ≡ Sees token s (drop n piece)) × (0 < n) × (n ≤ length piece)
 IsWent (went.Fails n refusal) r s piece = (h : IsRefused n r piece) × (h.refusal ≡ refusal)
 
 -- so many bytes of data have gone by, fewer than are left

@@ -20,7 +20,9 @@ use Rattle.tds_wire.specs.declared.told.Token.{Token}
 
 -- bit 08 is RESETCONNECTION, 10 RESETCONNECTIONSKIPTRAN (MS-TDS 2.2.3.1.2)
 abbrev pub reset_by : Bool → Bool → Reset
-reset_by full keep = if full then (if keep then resets.Both else resets.Full) else (if keep then resets.Keep else resets.None)
+reset_by full keep =
+    if full then (if keep then resets.Both else resets.Full)
+    else (if keep then resets.Keep else resets.None)
 
 abbrev pub reset_of : ℕ → Reset
 reset_of status = reset_by (status / 8 % 2 == 1) (status / 16 % 2 == 1)
@@ -127,12 +129,16 @@ ends_old type = (type == 9) || (type == 10) || (type == 17)
 -- 8 begins one inside another or without a descriptor, or another one ends than was told last
 abbrev pub changes_wrongly : Transaction → Token → Bool
 changes_wrongly last token = of_change token.told (λ type value. of_both value (λ new old.
-    if (type == 8) || (type == 11) then (type == 8) && ((new == 0) || (not (descriptor_of last == 0) && not (descriptor_of last == new)))
+    if (type == 8) || (type == 11)
+    then (type == 8)
+    && ((new == 0) || (not (descriptor_of last == 0) && not (descriptor_of last == new)))
     else ends_old type && (not (descriptor_of last == 0) && not (descriptor_of last == old))))
 
 -- one ends, and it was told that none is open
 abbrev pub ends_none : Transaction → Token → Bool
-ends_none last token = of_change token.told (λ type value. of_both value (λ new old. ends_old type && (is_told last && (descriptor_of last == 0))))
+ends_none last token =
+    of_change token.told (λ type value. of_both value (λ new old. ends_old type
+    && (is_told last && (descriptor_of last == 0))))
 
 abbrev pub old_of : ChangeValue → ℕ
 old_of (changes.Transaction new old) = old
@@ -145,7 +151,8 @@ told_old _ = 0
 abbrev pub ended_descriptor : Token → ℕ
 ended_descriptor token = told_old token.told
 
--- Type 11 has its descriptor as the old value by its table, and as the new one by what clients do: none is known from there on.
+-- Type 11 has its descriptor as the old value by its table, and as the new one by what clients do:
+-- none is known from there on.
 abbrev pub begun_as : ℕ → ℕ → Transaction
 begun_as type new = if type == 11 then transactions.Unknown else transactions.Told new
 
@@ -157,8 +164,8 @@ unclear_by kind _ = false
 abbrev pub is_unclear : Token → Bool
 is_unclear token = unclear_by token.kind token.told
 
--- A DONE of TDS 7.2 has 8 bytes of a count, one of an earlier version 4 (MS-TDS 2.2.7.6): then the next token's first byte, which is never 0,
--- stands in the upper half.
+-- A DONE of TDS 7.2 has 8 bytes of a count, one of an earlier version 4 (MS-TDS 2.2.7.6): then the
+-- next token's first byte, which is never 0, stands in the upper half.
 abbrev pub is_long : Done → Bool
 is_long done = nat_lt done.count 4294967296
 
@@ -192,7 +199,18 @@ begins_request t status bulk = record t {
 
 abbrev pub begins_login : Talk → Talk
 begins_login t =
-    record t { asked = asks.Login; underway = true; asking = false; reset = resets.None; reset_done = false; bulk = false; forgotten = false; begun = false; transaction = transactions.Told 0; entering = true }
+    record t {
+      asked = asks.Login;
+      underway = true;
+      asking = false;
+      reset = resets.None;
+      reset_done = false;
+      bulk = false;
+      forgotten = false;
+      begun = false;
+      transaction = transactions.Told 0;
+      entering = true;
+    }
 
 -- a transaction that the answer underway has begun was begun by an answer that is cancelled now
 abbrev pub cancels : Talk → Talk
@@ -213,7 +231,13 @@ has_named t = record t { begun_unheard = false; ended = 0; dated = true }
 -- ---- What an answer says
 
 abbrev pub begins_answer : Talk → Talk
-begins_answer t = record t { underway = t.underway || t.forgotten; is_final = false; acknowledges = false; worked = false; asking = false }
+begins_answer t = record t {
+  underway = t.underway || t.forgotten;
+  is_final = false;
+  acknowledges = false;
+  worked = false;
+  asking = false;
+}
 
 -- of the three kinds of DONE the last decides
 abbrev pub is_done : Talk → Done → Talk
@@ -226,21 +250,41 @@ is_done t done = record t {
 
 abbrev pub has_begun : Talk → ℕ → ℕ → ℕ → Talk
 has_begun t time type descriptor =
-    record t { transaction = begun_as type descriptor; begun = true; begun_unheard = t.attention; ended = 0; since = time }
+    record t {
+      transaction = begun_as type descriptor;
+      begun = true;
+      begun_unheard = t.attention;
+      ended = 0;
+      since = time;
+    }
 
 abbrev pub has_ended : Talk → ℕ → Talk
 has_ended t time =
-    record t { transaction = transactions.Told 0; begun = false; begun_unheard = false; ended = descriptor_of t.transaction; since = time }
+    record t {
+      transaction = transactions.Told 0;
+      begun = false;
+      begun_unheard = false;
+      ended = descriptor_of t.transaction;
+      since = time;
+    }
 
--- 8 has begun, and 11 is enlisted; 9 is committed, 10 rolled back, 12 defected, 17 has ended (MS-TDS 2.2.7.9)
+-- 8 has begun, and 11 is enlisted; 9 is committed, 10 rolled back, 12 defected, 17 has ended
+-- (MS-TDS 2.2.7.9)
 abbrev pub transaction_changed : Talk → ℕ → ℕ → ℕ → Talk
-transaction_changed t time type new = if (type == 8) || (type == 11) then has_begun t time type new else has_ended t time
+transaction_changed t time type new =
+    if (type == 8) || (type == 11) then has_begun t time type new else has_ended t time
 
--- 18: the reset has ended the transaction, but for one that keeps it. One that no bit asked for is a full one (`sp_reset_connection`).
+-- 18: the reset has ended the transaction, but for one that keeps it. One that no bit asked for is
+-- a full one (`sp_reset_connection`).
 abbrev pub is_reset : Talk → Talk
 is_reset t =
     if keeps (owed t.reset_done t.reset) then record t { reset_done = true; borrowed = false }
-    else record t { reset_done = true; borrowed = false; transaction = transactions.Told 0; begun_unheard = false }
+    else record t {
+      reset_done = true;
+      borrowed = false;
+      transaction = transactions.Told 0;
+      begun_unheard = false;
+    }
 
 abbrev pub change_heard : Talk → ℕ → ℕ → ChangeValue → Talk
 change_heard t time type (changes.Transaction new old) = transaction_changed t time type new
@@ -261,7 +305,10 @@ told_heard t time kind _ = t
 
 -- by its first byte
 abbrev pub kind_heard : Talk → ℕ → Talk
-kind_heard t kind = record t { entering = if admits kind then false else t.entering; worked = if shows_work kind then true else t.worked }
+kind_heard t kind = record t {
+  entering = if admits kind then false else t.entering;
+  worked = if shows_work kind then true else t.worked;
+}
 
 abbrev pub token_heard : Talk → ℕ → Token → Talk
 token_heard t time token = told_heard (kind_heard t token.kind) time token.kind token.told
@@ -276,7 +323,8 @@ is_plain t = is_request t.asked && (not t.attention && not t.acknowledges)
 abbrev pub is_awaited : Talk → Bool
 is_awaited t = is_known t.asked && (not t.attention && not t.acknowledges)
 
--- An acknowledgement leaves underway what was asked since the attention; the second of two what is asked.
+-- An acknowledgement leaves underway what was asked since the attention; the second of two what is
+-- asked.
 abbrev pub ends_answer : Talk → ℕ → Bool → Talk
 ends_answer t time whole =
     if t.acknowledges
@@ -290,7 +338,15 @@ ends_answer t time whole =
       since = time;
       most = t.agreed;
     }
-    else record t { underway = false; late = t.late && not t.ended_since; ended_since = true; forgotten = false; since = time; most = t.agreed; other = t.other || (is_awaited t && (not whole && not t.dated)) }
+    else record t {
+      underway = false;
+      late = t.late && not t.ended_since;
+      ended_since = true;
+      forgotten = false;
+      since = time;
+      most = t.agreed;
+      other = t.other || (is_awaited t && (not whole && not t.dated));
+    }
 
 -- ---- What is said
 

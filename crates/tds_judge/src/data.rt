@@ -65,18 +65,18 @@ impl Judge {
         }
     }
 
-    /// The walker reads a byte.
+    /// The parser reads a byte.
     fn walk(&mut self, out: &mut Vec<Finding>, spot: Spot, byte: u8)
         requires { vec_len out.old + 10 ≤ vec_capacity out.old }
         ensures run { (run_of self.new out.new.items)
-            ≡ framing.walked self.old.walker spot byte (run_of self.old out.old.items) }
+            ≡ framing.walked self.old.parser spot byte (run_of self.old out.old.items) }
         ensures few { vec_len out.new ≤ vec_len out.old + 10 }
         ensures capacity { vec_capacity out.new ≡ vec_capacity out.old }
     {
-        let Some(walker) = &mut self.walker else {
+        let Some(parser) = &mut self.parser else {
             return;
         };
-        match walker.feed(&[byte]) {
+        match parser.feed(&[byte]) {
             Ok(fed) => {
                 if let Some(token) = fed.token {
                     self.say(out, spot, Event::Says(token));

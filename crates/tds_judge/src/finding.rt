@@ -63,7 +63,7 @@ pub enum Name {
     NoFinalDone,
     /// 20: an answer ended inside a token.
     CutToken,
-    /// 21: bytes of an answer that are no tokens. With it: the walker's fault. The judging ends.
+    /// 21: bytes of an answer that are no tokens. With it: the parser's fault. The judging ends.
     WrongToken,
     /// 22: a packet is longer than the size that was agreed on. With it: its length.
     PacketSize,

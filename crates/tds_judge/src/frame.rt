@@ -2,6 +2,7 @@
 
 ghost use Rattle.std.specs.Prelude.{◌≡◌};
 ghost use Rattle.tds_judge.specs.Framing as framing;
+ghost use Rattle.tds_judge.specs.PacketHeads as heads;
 
 use crate::finding::Direction;
 use crate::headers::Heading;
@@ -35,7 +36,7 @@ pub enum Inside {
     Skipped,
     /// ALL_HEADERS of a request is read (MS-TDS 2.2.5.3).
     Prefix(Heading),
-    /// The walker reads it.
+    /// The parser reads it.
     Walked,
     /// The version in LOGIN7 is read (MS-TDS 2.2.6.4): so many bytes have come.
     Version { place: u8 },
@@ -64,14 +65,14 @@ pub struct Head {
 
 /// Eight bytes, the highest first, with one more at their end.
 pub fn shifted(value: u64, byte: u8) -> u64
-    ensures { result ≡ framing.shifted value byte }
+    ensures { result ≡ heads.shifted value byte }
 {
     value % 72_057_594_037_927_936 * 256 + u64::from(byte)
 }
 
 /// What is done with the data of a request's message.
 fn inside_of(kind: u8) -> Inside
-    ensures { result ≡ framing.inside_of kind }
+    ensures { result ≡ heads.inside_of kind }
 {
     if kind == 1 || kind == 3 || kind == 14 {
         Inside::Prefix(Heading::new())
@@ -84,7 +85,7 @@ fn inside_of(kind: u8) -> Inside
 
 /// Whether a direction has packets of this type.
 fn is_kind(direction: Direction, kind: u8) -> bool
-    ensures { result ≡ framing.is_kind direction kind }
+    ensures { result ≡ heads.is_kind direction kind }
 {
     match direction {
         Direction::ToServer => {
@@ -104,7 +105,7 @@ fn is_kind(direction: Direction, kind: u8) -> bool
 
 impl Direction {
     fn other(self) -> Direction
-        ensures { result ≡ framing.other_way self }
+        ensures { result ≡ heads.other_way self }
     {
         match self {
             Direction::ToServer => Direction::ToClient,
@@ -116,7 +117,7 @@ impl Direction {
 impl Head {
     /// The header that eight bytes spell.
     pub fn of(value: u64) -> Head
-        ensures { result ≡ framing.head_of value }
+        ensures { result ≡ heads.head_of value }
     {
         Head {
             kind: (value / 72_057_594_037_927_936 % 256) as u8,
@@ -128,14 +129,14 @@ impl Head {
 
     /// Whether it can be the header of a packet.
     pub fn is_plausible(self, direction: Direction) -> bool
-        ensures { result ≡ framing.is_plausible direction self }
+        ensures { result ≡ heads.is_plausible direction self }
     {
         is_kind(direction, self.kind) && self.size >= 8
     }
 
     /// Whether the bytes are those of a record of TLS.
     pub fn is_tls(self) -> bool
-        ensures { result ≡ framing.is_tls self }
+        ensures { result ≡ heads.is_tls self }
     {
         (self.kind == 20 || self.kind == 21 || self.kind == 22 || self.kind == 23)
             && self.status == 3
@@ -143,7 +144,7 @@ impl Head {
 
     /// Why no packet can have it.
     pub fn fault(self, direction: Direction) -> Event
-        ensures { result ≡ framing.fault_of direction self }
+        ensures { result ≡ heads.fault_of direction self }
     {
         if self.is_tls() {
             Event::Stops(Ending::Encrypted, 0)
@@ -158,7 +159,7 @@ impl Head {
 
     /// Whether it is that of a packet of a request that doesn't end its message, and so has to be full.
     pub fn is_to_fill(self, direction: Direction) -> bool
-        ensures { result ≡ framing.is_to_fill direction self }
+        ensures { result ≡ heads.is_to_fill direction self }
     {
         match direction {
             Direction::ToServer => {
@@ -171,7 +172,7 @@ impl Head {
 
     /// What a message to the server is that begins with it.
     pub fn event(self) -> Event
-        ensures { result ≡ framing.event_of self }
+        ensures { result ≡ heads.event_of self }
     {
         if self.kind == 6 {
             Event::Attention(self.size, self.status)
@@ -216,13 +217,13 @@ impl Frame {
 
     /// What is done with a message's data.
     pub fn inside_of_request(head: Head) -> Inside
-        ensures { result ≡ framing.inside_of head.kind }
+        ensures { result ≡ heads.inside_of head.kind }
     {
         inside_of(head.kind)
     }
 }
 
-/// Why the judging ends at bytes that the walker refuses: ALTMETADATA or ALTROW, or no token.
+/// Why the judging ends at bytes that the parser refuses: ALTMETADATA or ALTROW, or no token.
 pub fn refused(refusal: &Refusal) -> Event
     ensures { result ≡ framing.refused_as refusal.now }
 {

@@ -9,8 +9,8 @@ ghost use Rattle.tds_judge.specs.declared.talk.Event.TheVariants as events;
 use crate::NoMemory;
 use crate::finding::{Direction, Finding, Spot};
 use crate::frame::{Frame, Inside, Part};
+use crate::parser::TokenParser;
 use crate::talk::{Ending, Event, Limits, Talk};
-use crate::walker::Walker;
 use std::alloc::Global;
 
 /// What is left of a piece.
@@ -28,7 +28,7 @@ pub struct Judge {
     pub(crate) server: Frame,
     pub(crate) talk: Talk,
     /// Where in an answer's tokens it is; none once the judging has ended.
-    pub(crate) walker: Option<Walker>,
+    pub(crate) parser: Option<TokenParser>,
 }
 
 impl Judge {
@@ -41,13 +41,13 @@ impl Judge {
         requires { limits.columns ≤ 4096 }
         ensures { IfOk result (λ judge. IsNew limits judge) }
     {
-        let walker = Walker::new(alloc, limits.columns, limits.features)?;
+        let parser = TokenParser::new(alloc, limits.columns, limits.features)?;
         Ok(Judge {
             limits,
             client: Frame::new(),
             server: Frame::new(),
             talk: Talk::new(),
-            walker: Some(walker),
+            parser: Some(parser),
         })
     }
 
@@ -214,15 +214,15 @@ impl Judge {
         ensures few { vec_len out.new ≤ vec_len out.old + 10 }
         ensures capacity { vec_capacity out.new ≡ vec_capacity out.old }
     {
-        self.walker = None;
+        self.parser = None;
         self.say(out, spot, event);
     }
 
     pub(crate) fn is_whole(&self, inside: Inside) -> bool
-        ensures { result ≡ framing.is_whole inside self.now.walker }
+        ensures { result ≡ framing.is_whole inside self.now.parser }
     {
-        match (inside, &self.walker) {
-            (Inside::Walked, Some(walker)) => walker.is_between(),
+        match (inside, &self.parser) {
+            (Inside::Walked, Some(parser)) => parser.is_between(),
             _ => true,
         }
     }
@@ -231,7 +231,7 @@ impl Judge {
     pub fn has_stopped(&self) -> bool
         ensures { result ≡ framing.has_stopped self.now }
     {
-        match &self.walker {
+        match &self.parser {
             Some(_) => false,
             None => true,
         }

@@ -11,9 +11,9 @@ mod judge;
 pub mod laws;
 mod noting;
 mod packets;
+mod parser;
 mod runs;
 mod talk;
-mod walker;
 
 pub use finding::{Direction, Finding, Level, Name, Spot};
 pub use judge::{Judge, Unfinished};

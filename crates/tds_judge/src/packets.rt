@@ -134,10 +134,10 @@ impl Judge {
 
     /// Begins anew, before the first token of a message.
     fn restart(&mut self)
-        ensures { self.new ≡ record self.old { walker = framing.restarted_by self.old.walker } }
+        ensures { self.new ≡ record self.old { parser = framing.restarted_by self.old.parser } }
     {
-        if let Some(walker) = &mut self.walker {
-            walker.restart();
+        if let Some(parser) = &mut self.parser {
+            parser.restart();
         }
     }
 

@@ -16,8 +16,8 @@ ghost use Rattle.tds_wire.specs.declared.told.Told.TheVariants as heard;
 use crate::finding::{Direction, Finding, Spot};
 use crate::frame::{Due, Inside, refused};
 use crate::judge::Judge;
+use crate::parser::Went;
 use crate::talk::{Event, admits, shows_work};
-use crate::walker::Went;
 use tds_wire::{Refusal, Token, Told, cuts_do_not_matter};
 
 impl Judge {
@@ -102,7 +102,7 @@ impl Judge {
         self.stop(out, spot, refused(&refusal));
     }
 
-    /// The walker reads a run of data, up to the end of one token: how many bytes of it.
+    /// The parser reads a run of data, up to the end of one token: how many bytes of it.
     #[inline(always)]
     fn walk_run(&mut self, out: &mut Vec<Finding>, time: u64, left: u16, run: &[u8]) -> usize
         requires some { 0 < length run.now }
@@ -117,15 +117,15 @@ impl Judge {
         ensures few { vec_len out.new ≤ vec_len out.old + 40 }
         ensures capacity { vec_capacity out.new ≡ vec_capacity out.old }
     {
-        let Some(walker) = &mut self.walker else {
+        let Some(parser) = &mut self.parser else {
             return run.len();
         };
-        if !walker.takes_runs() {
+        if !parser.takes_runs() {
             self.step(out, Direction::ToClient, time, run[0]);
             return 1;
         }
         cuts_do_not_matter();
-        match walker.walk(run) {
+        match parser.walk(run) {
             Went::Inside => {
                 self.pass(Direction::ToClient, left, run.len() as u16);
                 run.len()
@@ -148,8 +148,8 @@ impl Judge {
         ensures { result ≡ true → (left : ℕ) → self.now.server.due ≡ dues.Data left
             → self.now.server.inside ≡ insides.Walked → IsAtRow left self.now }
     {
-        match &self.walker {
-            Some(walker) => !self.talk.is_final && walker.is_between(),
+        match &self.parser {
+            Some(parser) => !self.talk.is_final && parser.is_between(),
             None => false,
         }
     }
@@ -165,11 +165,11 @@ impl Judge {
         ensures run { (time : ℕ) → (told : List Finding) → run_of self.new told
             ≡ framing.steps ToClient time (take result run.now) (run_of self.old told) }
     {
-        let Some(walker) = &mut self.walker else {
+        let Some(parser) = &mut self.parser else {
             return 0;
         };
         cuts_do_not_matter();
-        let count = walker.pass_row(run);
+        let count = parser.pass_row(run);
         if count > 0 {
             self.pass(Direction::ToClient, left, count as u16);
         }

@@ -245,7 +245,7 @@ same_sign start (tokens.Row vs) ranged = refl
 same_sign start (tokens.Env e) ranged = same_change start e ranged
 same_sign start (tokens.Done status cur_cmd rows) ranged = ap (λ (n : ℕ). signs.Done Statement n) (status_is status ranged.0)
 
--- ---- The walker
+-- ---- The parser
 
 front_is : (bytes rest : List ℕ) → front_of (bytes ++ rest) rest ≡ bytes
 front_is bytes rest =

@@ -1,4 +1,4 @@
--- Where the strict reader (`tds_token`) and the walker read the same token.
+-- Where the strict reader (`tds_token`) and the parser read the same token.
 use Rattle.std.specs.Prelude.{◌≡◌, ℕ, zero, suc, List, [], ◌∷◌, length, Option, Some, None}
 use Rattle.tds_token.specs.declared.token.Token.{Token}
 use Rattle.tds_token.specs.declared.token.Token.TheVariants as tokens
@@ -14,7 +14,7 @@ unfoldable pub int4s : ℕ → List Shape
 int4s zero = []
 int4s (suc n) = shape.Fixed 4 ∷ int4s n
 
--- Where the strict reader knows how many values a row has, the walker knows as many columns.
+-- Where the strict reader knows how many values a row has, the parser knows as many columns.
 abbrev pub Knows : Option ℕ → List Shape → Type 0
 Knows None columns = Unit {0}
 Knows (Some n) columns = columns ≡ int4s n

@@ -1,4 +1,4 @@
--- What a client hears of an answer's bytes, by a walker over them and by the rules of any server.
+-- What a client hears of an answer's bytes, by a parser over them and by the rules of any server.
 use Rattle.std.specs.Prelude.{ℕ, zero, suc, ◌&&◌, not, Bool, true, false, List, [], ◌∷◌, length, Option, Some, None, Result, Ok, Err, if◌then◌else◌}
 use Rattle.tds_packet.specs.declared.status.Reset.{Reset}
 use Rattle.tds_client.specs.declared.fault.ClientFault.{ClientFault}
@@ -21,7 +21,7 @@ heard_by (Err fault) next = Err (faults.Client fault)
 
 -- ---- The next token
 
--- the token if the caller may be told of it; the client and the walker behind it; and the bytes that are left
+-- the token if the caller may be told of it; the client and the parser behind it; and the bytes that are left
 pub record Move : Type 0 where
   pub told : Option Token
   pub session : ClientSession
@@ -41,7 +41,7 @@ moved_by s (Refuses refusal) = Err (faults.Wire refusal)
 abbrev pub next_heard : ClientSession → Reading → List ℕ → Result Move ListenFault
 next_heard s r bytes = moved_by s (next_token r bytes)
 
--- The same by what the layout says of the bytes; where the walker is then isn't looked at.
+-- The same by what the layout says of the bytes; where the parser is then isn't looked at.
 pub record LaidMove : Type 0 where
   pub told : Option Token
   pub session : ClientSession
@@ -53,13 +53,13 @@ laid_move s (Ends passed rest) =
 laid_move s More = Ok (record { told = None; session = s; rest = [] })
 laid_move s (Refused refusal) = Err (faults.Wire refusal)
 
-abbrev pub without_walker : Result Move ListenFault → Result LaidMove ListenFault
-without_walker (Ok move) = Ok (record { told = move.told; session = move.session; rest = move.rest })
-without_walker (Err fault) = Err fault
+abbrev pub without_parser : Result Move ListenFault → Result LaidMove ListenFault
+without_parser (Ok move) = Ok (record { told = move.told; session = move.session; rest = move.rest })
+without_parser (Err fault) = Err fault
 
 -- ---- All the tokens that end among bytes
 
--- how the bytes end: the walker stands there, or it refused one
+-- how the bytes end: the parser stands there, or it refused one
 pub data Stop : Type 0 where
   Stands : Reading → Stop
   Fails : Refusal → Stop
@@ -88,7 +88,7 @@ tokens_within (suc most) r (byte ∷ bytes) = tokens_by (next_token r (byte ∷ 
 abbrev pub tokens_in : Reading → List ℕ → Tokens
 tokens_in r bytes = tokens_within (length bytes) r bytes
 
--- the client and the walker
+-- the client and the parser
 pub record Both : Type 0 where
   pub session : ClientSession
   pub reading : Reading

@@ -16,7 +16,7 @@ use crate::fault::ListenFault;
 use crate::sign::sign_of;
 use tds_client::{Client, ClientFault, ClientState, Rules, Sign, Taken};
 use tds_packet::PacketRef;
-use tds_wire::{Token, Walker};
+use tds_wire::{Token, TokenParser};
 
 /// What came of a piece.
 #[derive(Clone, Copy, Debug, PartialEq, Eq)]
@@ -39,24 +39,28 @@ pub struct Heard {
 /// `Client` where the client refuses the token, and `Wire` where the bytes are none. The client is
 /// broken then, and nothing is told.
 #[inline(always)]
-pub fn next(client: &mut Client, walker: &mut Walker, piece: &[u8]) -> Result<Heard, ListenFault>
+pub fn next(
+    client: &mut Client,
+    parser: &mut TokenParser,
+    piece: &[u8],
+) -> Result<Heard, ListenFault>
     ensures within { IfOk result (λ heard. heard.count ≤ length piece.now) }
     ensures moves { IfOk result (λ heard. 0 < length piece.now → 0 < heard.count) }
     ensures ready { IfOk result (λ heard.
-        heard.count < length piece.now → IsReady walker.new) }
+        heard.count < length piece.now → IsReady parser.new) }
     ensures exact { MatchResult result
-        (λ heard. next_heard client.old walker.old piece.now ≡ Ok (record {
+        (λ heard. next_heard client.old parser.old piece.now ≡ Ok (record {
           told = heard.token;
           session = client.new;
-          reading = walker.new;
+          reading = parser.new;
           rest = drop heard.count piece.now;
         }))
-        (λ fault. next_heard client.old walker.old piece.now ≡ Err fault) }
+        (λ fault. next_heard client.old parser.old piece.now ≡ Err fault) }
     ensures broken { IfErr result (λ fault. IsBroken fault client.new.stage) }
     ensures leaves { IfErr result (λ fault. client.new ≡ broken_at client.old fault) }
 {
     let mut token = None;
-    match next_to(client, walker, piece, &mut token) {
+    match next_to(client, parser, piece, &mut token) {
         Ok(count) => Ok(Heard { count, token }),
         Err(fault) => Err(fault),
     }
@@ -71,25 +75,25 @@ pub fn next(client: &mut Client, walker: &mut Walker, piece: &[u8]) -> Result<He
 #[inline(always)]
 pub fn next_to(
     client: &mut Client,
-    walker: &mut Walker,
+    parser: &mut TokenParser,
     piece: &[u8],
     told: &mut Option<Token>,
 ) -> Result<usize, ListenFault>
     ensures within { IfOk result (λ count. count ≤ length piece.now) }
     ensures moves { IfOk result (λ count. 0 < length piece.now → 0 < count) }
-    ensures ready { IfOk result (λ count. count < length piece.now → IsReady walker.new) }
+    ensures ready { IfOk result (λ count. count < length piece.now → IsReady parser.new) }
     ensures exact { MatchResult result
-        (λ count. next_heard client.old walker.old piece.now ≡ Ok (record {
+        (λ count. next_heard client.old parser.old piece.now ≡ Ok (record {
           told = told.new;
           session = client.new;
-          reading = walker.new;
+          reading = parser.new;
           rest = drop count piece.now;
         }))
-        (λ fault. next_heard client.old walker.old piece.now ≡ Err fault) }
+        (λ fault. next_heard client.old parser.old piece.now ≡ Err fault) }
     ensures broken { IfErr result (λ fault. IsBroken fault client.new.stage) }
     ensures leaves { IfErr result (λ fault. client.new ≡ broken_at client.old fault) }
 {
-    let count = match walker.feed_to(piece, told) {
+    let count = match parser.feed_to(piece, told) {
         Ok(count) => count,
         Err(refusal) => {
             client.lost();
@@ -162,25 +166,25 @@ fn hear_told(client: &mut Client, token: &Token, count: usize) -> Result<usize, 
 #[inline(always)]
 pub fn next_whole(
     client: &mut Client,
-    walker: &mut Walker,
+    parser: &mut TokenParser,
     piece: &[u8],
     told: &mut Option<Token>,
 ) -> Result<usize, ClientFault>
     ensures within { IfOk result (λ count. count ≤ length piece.now) }
     ensures same { IfOk result (λ count. count ≡ 0
-        → (client.new ≡ client.old) × (walker.new ≡ walker.old)) }
-    ensures ready { IfOk result (λ count. 0 < count → IsReady walker.new) }
+        → (client.new ≡ client.old) × (parser.new ≡ parser.old)) }
+    ensures ready { IfOk result (λ count. 0 < count → IsReady parser.new) }
     ensures exact { MatchResult result
-        (λ count. 0 < count → next_heard client.old walker.old piece.now ≡ Ok (record {
+        (λ count. 0 < count → next_heard client.old parser.old piece.now ≡ Ok (record {
           told = told.new;
           session = client.new;
-          reading = walker.new;
+          reading = parser.new;
           rest = drop count piece.now;
         }))
-        (λ fault. next_heard client.old walker.old piece.now ≡ Err (ListenFault.Client fault)) }
+        (λ fault. next_heard client.old parser.old piece.now ≡ Err (ListenFault.Client fault)) }
     ensures leaves { IfErr result (λ fault. client.new ≡ broken_by client.old fault) }
 {
-    let count = walker.take_whole(piece, told);
+    let count = parser.take_whole(piece, told);
     if count == 0 {
         return Ok(0);
     }
@@ -199,25 +203,25 @@ pub fn next_whole(
     }
 }
 
-/// The walker passes the whole rows that bytes begin with: how many bytes they have. No client that
+/// The parser passes the whole rows that bytes begin with: how many bytes they have. No client that
 /// listens does anything with them.
-fn walk_rows(walker: &mut Walker, piece: &[u8]) -> usize
+fn walk_rows(parser: &mut TokenParser, piece: &[u8]) -> usize
     ensures within { result ≤ length piece.now }
-    ensures same { result ≡ 0 → walker.new ≡ walker.old }
-    ensures ready { 0 < result → IsReady walker.new }
+    ensures same { result ≡ 0 → parser.new ≡ parser.old }
+    ensures ready { 0 < result → IsReady parser.new }
     ensures exact { (s : ClientSession) → Listens s.stage
-        → heard_data s walker.old (take result piece.now)
-        ≡ Ok (record { session = s; reading = walker.new }) }
-    ensures most { walker.new.walk.most ≡ walker.old.walk.most }
-    ensures features { walker.new.walk.features ≡ walker.old.walk.features }
+        → heard_data s parser.old (take result piece.now)
+        ≡ Ok (record { session = s; reading = parser.new }) }
+    ensures most { parser.new.walk.most ≡ parser.old.walk.most }
+    ensures features { parser.new.walk.features ≡ parser.old.walk.features }
 {
-    if !walker.is_between() {
+    if !parser.is_between() {
         return 0;
     }
     tds_wire::cuts_do_not_matter();
     let mut done = 0;
     'rows: while done < piece.len() {
-        let count = walker.pass_row(&piece[done..]);
+        let count = parser.pass_row(&piece[done..]);
         if count == 0 {
             return done;
         }
@@ -227,24 +231,24 @@ fn walk_rows(walker: &mut Walker, piece: &[u8]) -> usize
 }
 
 /// Passes the whole rows that bytes of an answer's data begin with: how many bytes they have, or 0
-/// where none stands there whole, where the walker isn't between two tokens, or where the client
+/// where none stands there whole, where the parser isn't between two tokens, or where the client
 /// awaits no answer. A row changes nothing of the client. Behind it go on with `next` or `hear_data`.
 /// It is for callers who want no token, and takes no memory.
 ///
 /// A row with a null bitmap, or with a value behind a longer count than of two bytes, is left to them.
-pub fn pass_rows(client: &Client, walker: &mut Walker, piece: &[u8]) -> usize
+pub fn pass_rows(client: &Client, parser: &mut TokenParser, piece: &[u8]) -> usize
     ensures within { result ≤ length piece.now }
-    ensures same { result ≡ 0 → walker.new ≡ walker.old }
-    ensures ready { 0 < result → IsReady walker.new }
-    ensures exact { heard_data client.now walker.old (take result piece.now)
-        ≡ Ok (record { session = client.now; reading = walker.new }) }
+    ensures same { result ≡ 0 → parser.new ≡ parser.old }
+    ensures ready { 0 < result → IsReady parser.new }
+    ensures exact { heard_data client.now parser.old (take result piece.now)
+        ≡ Ok (record { session = client.now; reading = parser.new }) }
     // It has room for as many columns as before, and knows what the login acknowledged.
-    ensures most { walker.new.walk.most ≡ walker.old.walk.most }
-    ensures features { walker.new.walk.features ≡ walker.old.walk.features }
+    ensures most { parser.new.walk.most ≡ parser.old.walk.most }
+    ensures features { parser.new.walk.features ≡ parser.old.walk.features }
 {
     match client.state() {
-        ClientState::Reading => walk_rows(walker, piece),
-        ClientState::Cancelling => walk_rows(walker, piece),
+        ClientState::Reading => walk_rows(parser, piece),
+        ClientState::Cancelling => walk_rows(parser, piece),
         ClientState::Idle => 0,
         ClientState::Sending => 0,
         ClientState::Broken(_) => 0,
@@ -257,22 +261,26 @@ pub fn pass_rows(client: &Client, walker: &mut Walker, piece: &[u8]) -> usize
 /// # Errors
 ///
 /// As `next`, of the first token that is at fault. The client is broken then.
-pub fn hear_data(client: &mut Client, walker: &mut Walker, bytes: &[u8]) -> Result<(), ListenFault>
+pub fn hear_data(
+    client: &mut Client,
+    parser: &mut TokenParser,
+    bytes: &[u8],
+) -> Result<(), ListenFault>
     ensures exact { MatchResult result
-        (λ _. heard_data client.old walker.old bytes.now
-        ≡ Ok (record { session = client.new; reading = walker.new }))
-        (λ fault. heard_data client.old walker.old bytes.now ≡ Err fault) }
+        (λ _. heard_data client.old parser.old bytes.now
+        ≡ Ok (record { session = client.new; reading = parser.new }))
+        (λ fault. heard_data client.old parser.old bytes.now ≡ Err fault) }
     ensures broken { IfErr result (λ fault. IsBroken fault client.new.stage) }
 {
     tds_wire::cuts_do_not_matter();
     let mut done = 0;
     'tokens: while done < bytes.len() {
-        let rows = pass_rows(client, walker, &bytes[done..]);
+        let rows = pass_rows(client, parser, &bytes[done..]);
         if rows > 0 {
             done += rows;
             continue;
         }
-        match next(client, walker, &bytes[done..]) {
+        match next(client, parser, &bytes[done..]) {
             Ok(heard) => done += heard.count,
             Err(fault) => return Err(fault),
         }
@@ -281,7 +289,7 @@ pub fn hear_data(client: &mut Client, walker: &mut Walker, bytes: &[u8]) -> Resu
 }
 
 /// Hears the end of a message, behind the data of the packet with end of message (MS-TDS 2.2.3.1.2).
-/// It takes no memory, and the walker begins anew.
+/// It takes no memory, and the parser begins anew.
 ///
 /// `Finished` where the request has its whole answer, `Acknowledged` where its cancel is acknowledged,
 /// `More` where the acknowledgement is still to come. After a cancel a message may end inside a token,
@@ -293,17 +301,17 @@ pub fn hear_data(client: &mut Client, walker: &mut Walker, bytes: &[u8]) -> Resu
 /// DONE; `ResetUnanswered` where the request asked for a reset and was told of none. The client is
 /// broken then.
 #[inline(always)]
-pub fn hear_end(client: &mut Client, walker: &mut Walker) -> Result<Taken, ListenFault>
+pub fn hear_end(client: &mut Client, parser: &mut TokenParser) -> Result<Taken, ListenFault>
     ensures exact { MatchResult result
-        (λ answer. heard_end client.old walker.old
+        (λ answer. heard_end client.old parser.old
         ≡ Ok (record { answer = answer; session = client.new }))
-        (λ fault. heard_end client.old walker.old ≡ Err fault) }
-    ensures anew { walker.new ≡ restarted walker.old }
+        (λ fault. heard_end client.old parser.old ≡ Err fault) }
+    ensures anew { parser.new ≡ restarted parser.old }
     ensures broken { IfErr result (λ fault. IsBroken fault client.new.stage) }
     ensures leaves { IfErr result (λ fault. client.new ≡ broken_at_end client.old fault) }
 {
-    let cut = client.may_tell() && !walker.is_between();
-    walker.restart();
+    let cut = client.may_tell() && !parser.is_between();
+    parser.restart();
     if cut {
         client.lost();
         return Err(ListenFault::Cut);
@@ -329,27 +337,27 @@ pub fn hear_end(client: &mut Client, walker: &mut Walker) -> Result<Taken, Liste
 /// As `hear_data` and `hear_end`.
 pub fn hear_packet(
     client: &mut Client,
-    walker: &mut Walker,
+    parser: &mut TokenParser,
     packet: PacketRef<'_>,
 ) -> Result<Taken, ListenFault>
     ensures exact { MatchResult result
-        (λ answer. heard_packet client.old walker.old
+        (λ answer. heard_packet client.old parser.old
         (has_bit (bits_of packet.entry.header.status) 1) packet.entry.«data».now
         ≡ Ok (record { answer = answer; session = client.new }))
-        (λ fault. heard_packet client.old walker.old
+        (λ fault. heard_packet client.old parser.old
         (has_bit (bits_of packet.entry.header.status) 1) packet.entry.«data».now ≡ Err fault) }
-    ensures walker { IfOk result (λ _. (both : Both)
-        × (heard_data client.old walker.old packet.entry.«data».now ≡ Ok both)
-        × (walker.new ≡ (if has_bit (bits_of packet.entry.header.status) 1
+    ensures parser { IfOk result (λ _. (both : Both)
+        × (heard_data client.old parser.old packet.entry.«data».now ≡ Ok both)
+        × (parser.new ≡ (if has_bit (bits_of packet.entry.header.status) 1
         then restarted both.reading else both.reading))) }
     ensures broken { IfErr result (λ fault. IsBroken fault client.new.stage) }
 {
-    match hear_data(client, walker, packet.data) {
+    match hear_data(client, parser, packet.data) {
         Ok(()) => {}
         Err(fault) => return Err(fault),
     }
     if packet.header.status.ends() {
-        hear_end(client, walker)
+        hear_end(client, parser)
     } else {
         Ok(Taken::More)
     }

@@ -8,7 +8,7 @@ ghost use Rattle.tds_client.specs.Machine.{ItemMove};
 ghost use Rattle.tds_client.specs.declared.state.Taken.TheVariants.{Acknowledged};
 ghost use Rattle.tds_listen.specs.Agreeing.{IsPassed, Knows};
 ghost use Rattle.tds_listen.specs.Hearing.{Move, heard_data, heard_end, laid_move, next_heard};
-ghost use Rattle.tds_listen.specs.Hearing.{then_data, without_walker};
+ghost use Rattle.tds_listen.specs.Hearing.{then_data, without_parser};
 ghost use Rattle.tds_listen.specs.Signs.{sign_by};
 ghost use Rattle.tds_token.specs.Layout.{IsToken, RangedEnv, spelling};
 ghost use Rattle.tds_token.specs.declared.env_change.EnvChange.{EnvChange};
@@ -43,13 +43,13 @@ pub fn nothing_told()
 /// refusal.
 pub fn tokens_are_heard()
     ensures { (s : ClientSession) (r : Reading) (bytes : List ℕ) → IsReady r
-        → without_walker (next_heard s r bytes) ≡ laid_move s (laid_out r bytes) }
+        → without_parser (next_heard s r bytes) ≡ laid_move s (laid_out r bytes) }
 {
     tds_wire::tokens_are_passed();
 }
 
 /// Each ENVCHANGE of the strict profile has the same sign by both readers: of the first bytes of its
-/// spelling the walker's token says what the strict reader's does.
+/// spelling the parser's token says what the strict reader's does.
 pub fn changes_are_the_same()
     ensures { (change : EnvChange) (start : ℕ) → RangedEnv change
         → sign_by 0xE3 (told_of 0xE3 start (length (spelling (tokens.Env change)))
@@ -57,7 +57,7 @@ pub fn changes_are_the_same()
 {}
 
 /// Both readers agree where both read: what `tds_token` reads as one token is passed as one token, of
-/// the same bytes, kind and sign, and behind it as many columns are known. So it is where the walker
+/// the same bytes, kind and sign, and behind it as many columns are known. So it is where the parser
 /// has room for the 16 columns of the strict profile, and no column encryption was acknowledged.
 pub fn readers_agree()
     ensures { (r : Reading) (columns after : Option ℕ) (token : Token) (bytes rest : List ℕ)

@@ -37,21 +37,14 @@ kind_of byte = find (λ kind. kind_byte kind == byte) kinds
 
 -- calls of procedures and bulk loads are written, and not read
 abbrev pub is_read : Kind → Bool
-is_read Batch = true
 is_read Procedure = false
-is_read Answer = true
-is_read Attention = true
 is_read BulkLoad = false
-is_read Transaction = true
+is_read _ = true
 
 -- the way that each type goes: answers to the client, all else to the server
 abbrev pub direction_of : Kind → Direction
-direction_of Batch = ToServer
-direction_of Procedure = ToServer
 direction_of Answer = ToClient
-direction_of Attention = ToServer
-direction_of BulkLoad = ToServer
-direction_of Transaction = ToServer
+direction_of _ = ToServer
 
 -- a number of two bytes, the higher byte first
 abbrev pub two_bytes : ℕ → List ℕ

@@ -22,9 +22,8 @@ strongest (Some KeepTransaction) (Some m) = Some m
 
 -- the descriptor in a request's header, where this one was heard: 0 under a full reset, which ends the transaction first
 abbrev pub header_descriptor : Option Reset → ℕ → ℕ
-header_descriptor None heard = heard
 header_descriptor (Some Full) heard = 0
-header_descriptor (Some KeepTransaction) heard = heard
+header_descriptor _ heard = heard
 
 -- the descriptor behind the end of the reset that was asked for; where none was, there is no such end
 abbrev pub reset_effect : Option Reset → ℕ → Option ℕ

@@ -1,5 +1,5 @@
 pub mod Counting
-pub mod Desks
+pub mod Pools
 pub mod Leased
 pub mod Linked
 pub mod Relays

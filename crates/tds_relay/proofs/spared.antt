@@ -1,5 +1,6 @@
 pub mod Apart
 pub mod Aside
+pub mod Away
 pub mod Begun
 pub mod Brought
 pub mod Cleaned
@@ -28,6 +29,7 @@ pub mod Parks
 pub mod Resting
 pub mod Sending
 pub mod Reasons
+pub mod Rightly
 pub mod Shutting
 pub mod Speaking
 pub mod Starting

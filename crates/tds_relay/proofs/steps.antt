@@ -7,6 +7,7 @@ pub mod Doing
 pub mod Faults
 pub mod Fed
 pub mod Fronts
+pub mod Fullness
 pub mod Going
 pub mod Halting
 pub mod Handed
@@ -16,7 +17,7 @@ pub mod Made
 pub mod Naming
 pub mod Parked
 pub mod Placed
-pub mod Posting
+pub mod Queueing
 pub mod Putting
 pub mod Quieting
 pub mod Reaching
@@ -27,5 +28,7 @@ pub mod Sent
 pub mod Slots
 pub mod Staying
 pub mod Stepping
+pub mod Still
+pub mod Tied
 pub mod Told
 pub mod Underway

@@ -10,4 +10,5 @@ pub mod Said
 pub mod Sent
 pub mod Stays
 pub mod Tellings
+pub mod Unheld
 pub mod Waiting

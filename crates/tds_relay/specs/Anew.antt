@@ -9,9 +9,9 @@ use Rattle.tds_service.specs.Service.{Seat, seat_numbered}
 use Rattle.tds_relay.specs.declared.application.Asking.{Asking}
 use Rattle.tds_relay.specs.declared.application.Asking.TheVariants as asking
 use Rattle.tds_relay.specs.declared.application.TheConstants.{MOST_HELD}
-use Rattle.tds_relay.specs.declared.desk.Hold.{Hold}
-use Rattle.tds_relay.specs.Desk as desk
-use Rattle.tds_relay.specs.Desk.{Deed, Desk}
+use Rattle.tds_relay.specs.declared.pool.Hold.{Hold}
+use Rattle.tds_relay.specs.Pool as pool
+use Rattle.tds_relay.specs.Pool.{Action, Pool}
 
 -- The next request on a connection begins a session; or, where it is to keep its transaction, resets at least all else.
 abbrev pub Resets : Reset → Option Seat → Type 0
@@ -20,17 +20,17 @@ Resets Full (Some c) = begins_anew c.line ≡ true
 Resets KeepTransaction (Some c) = (begins_anew c.line ≡ true) ⊎ (is_some c.line.heard.mark ≡ true)
 
 -- on the connection that an application holds, where its request asks for one
-abbrev pub ResetsFor : Option Reset → Option Hold → Desk → Type 0
+abbrev pub ResetsFor : Option Reset → Option Hold → Pool → Type 0
 ResetsFor None held d = Unit {0}
 ResetsFor (Some reset) None d = Unit {0}
 ResetsFor (Some reset) (Some hold) d = Resets reset (seat_numbered hold.number d.service.seats)
 
 -- where a request is asked
-abbrev pub WhereAsked : Deed → Type 0 → Type 0
-WhereAsked desk.Asks P = P
-WhereAsked (desk.Puts count) P = Unit {0}
-WhereAsked (desk.Ends count) P = Unit {0}
-WhereAsked desk.Stops P = Unit {0}
+abbrev pub WhereAsked : Action → Type 0 → Type 0
+WhereAsked pool.Asks P = P
+WhereAsked (pool.Puts count) P = Unit {0}
+WhereAsked (pool.Ends count) P = Unit {0}
+WhereAsked pool.Stops P = Unit {0}
 
 -- An application asks nothing: its request has its answer, or was taken back, or none has begun.
 abbrev pub AsksNothing : Stage → Type 0

@@ -10,11 +10,11 @@ use Rattle.tds_service.specs.Service.{Seat, Service, find_by, has_lease}
 use Rattle.tds_relay.specs.declared.application.Application.{Application}
 use Rattle.tds_relay.specs.declared.application.Asking.{Asking}
 use Rattle.tds_relay.specs.declared.application.Asking.TheVariants as asking
-use Rattle.tds_relay.specs.declared.desk.Hold.{Hold}
+use Rattle.tds_relay.specs.declared.pool.Hold.{Hold}
 use Rattle.tds_relay.specs.declared.link.Link.{Link}
-use Rattle.tds_relay.specs.Desk.{Desk, find_key}
-use Rattle.tds_relay.specs.Hall.{End, Hall, IfOpen, IsBegun, Open, Over, end_at, is_in}
-use Rattle.tds_relay.specs.House.{House, Step, Makes, Takes, after}
+use Rattle.tds_relay.specs.Pool.{Pool, find_key}
+use Rattle.tds_relay.specs.Core.{End, Core, IfOpen, IsBegun, Open, Over, end_at, is_in}
+use Rattle.tds_relay.specs.Machine.{Machine, Step, Makes, Takes, after}
 use Rattle.tds_relay.specs.Reads.{open_at}
 use Rattle.tds_relay.specs.Taking.{IsDeaf, Tells}
 
@@ -30,13 +30,13 @@ IsSent whole (Some (line.Sending begun)) = whole ≡ false
 IsSent whole (Some line.Reading) = whole ≡ true
 IsSent whole _ = ⊥
 
-pub record SendsOn (whole : Bool) (d : Desk) (key : ℕ) : Type 0 where
+pub record SendsOn (whole : Bool) (d : Pool) (key : ℕ) : Type 0 where
   pub hold : Hold
   pub its : find_key key d.holds ≡ Some hold
   pub sent : IsSent whole (stage_by d.service hold.lease)
 
 -- Its application has begun it, where this holds a connection.
-abbrev pub HasBegun : Desk → ℕ → Option End → Type 0
+abbrev pub HasBegun : Pool → ℕ → Option End → Type 0
 HasBegun d key end = (hold : Hold) → find_key key d.holds ≡ Some hold → IfOpen IsBegun end
 
 -- ---- Where a request is
@@ -48,14 +48,14 @@ IsTakenBack (Some (Open front withdrawn asks)) = withdrawn ≡ true
 IsTakenBack (Some (Over why)) = ⊥
 
 -- A request of this application, of which all has come or not, beside these connections.
-pub data IsUnderway (whole : Bool) (links : List Link) (key : ℕ) (h : Hall) : Type 0 where
+pub data IsUnderway (whole : Bool) (links : List Link) (key : ℕ) (h : Core) : Type 0 where
   -- its application stands in the line
-  Waits : is_in key h.desk.line ≡ true → IsUnderway whole links key h
+  Waits : is_in key h.pool.line ≡ true → IsUnderway whole links key h
   -- or holds a connection that isn't open yet; or one on which what it took back isn't acknowledged yet
-  Opens : (hold : Hold) → find_key key h.desk.holds ≡ Some hold → open_at hold.number links ≡ None → IsUnderway whole links key h
-  Drains : (hold : Hold) → find_key key h.desk.holds ≡ Some hold → IsTakenBack (end_at h.ends key) → IsUnderway whole links key h
+  Opens : (hold : Hold) → find_key key h.pool.holds ≡ Some hold → open_at hold.number links ≡ None → IsUnderway whole links key h
+  Drains : (hold : Hold) → find_key key h.pool.holds ≡ Some hold → IsTakenBack (end_at h.ends key) → IsUnderway whole links key h
   -- or the request was asked on the connection that its application holds, and is being sent; where all of it has come, its end was sent
-  Sends : SendsOn whole h.desk key → IsUnderway whole links key h
+  Sends : SendsOn whole h.pool key → IsUnderway whole links key h
   -- or its application is to be closed
   Closes : IsDeaf (end_at h.ends key) → IsUnderway whole links key h
 
@@ -82,26 +82,26 @@ IfAsks P said.Acknowledge = Unit {0}
 IfAsks P said.HandOn = Unit {0}
 
 -- at once, or by the moves before anything else comes
-abbrev pub Soon : (Hall → Type 0) → House → List Step → Type 0
-Soon P h [] = P h.hall
-Soon P h (Makes move ∷ steps) = P h.hall ⊎ Soon P (after h (Makes move)) steps
-Soon P h (step ∷ steps) = P h.hall
+abbrev pub Soon : (Core → Type 0) → Machine → List Step → Type 0
+Soon P h [] = P h.core
+Soon P h (Makes move ∷ steps) = P h.core ⊎ Soon P (after h (Makes move)) steps
+Soon P h (step ∷ steps) = P h.core
 
 -- Behind each piece that steps take of an application's request this holds, before the next one is taken.
-abbrev pub AreObeyed : (Bool → Hall → Type 0) → ℕ → House → List Step → Type 0
+abbrev pub AreObeyed : (Bool → Core → Type 0) → ℕ → Machine → List Step → Type 0
 AreObeyed P key h [] = Unit {0}
 AreObeyed P key h (Takes other bytes ∷ steps) =
-    IfAsks (λ whole. Soon (P whole) (after h (Takes other bytes)) steps) (said_of bytes (end_at h.hall.ends key)) × AreObeyed P key (after h (Takes other bytes)) steps
+    IfAsks (λ whole. Soon (P whole) (after h (Takes other bytes)) steps) (said_of bytes (end_at h.core.ends key)) × AreObeyed P key (after h (Takes other bytes)) steps
 AreObeyed P key h (step ∷ steps) = AreObeyed P key (after h step) steps
 
 -- An application's bytes are taken, up to these, and behind each piece its request is underway.
-pub record Asks (key : ℕ) (old : House) (bytes left : List ℕ) (links : List Link) (new : House) : Type 0 where
+pub record Asks (key : ℕ) (old : Machine) (bytes left : List ℕ) (links : List Link) (new : Machine) : Type 0 where
   pub tells : Tells key old bytes left new
   pub obeyed : AreObeyed (λ whole. IsUnderway whole links key) key old tells.steps
 
 -- Whatever was taken before, these bytes are taken behind it, up to these.
-abbrev pub AsksOn : ℕ → List ℕ → List ℕ → List Link → List Link → House → House → Type 0
-AsksOn key left rest links next old new = (first : House) (bytes : List ℕ) → Asks key first bytes left links old → Asks key first bytes rest next new
+abbrev pub AsksOn : ℕ → List ℕ → List ℕ → List Link → List Link → Machine → Machine → Type 0
+AsksOn key left rest links next old new = (first : Machine) (bytes : List ℕ) → Asks key first bytes left links old → Asks key first bytes rest next new
 
 -- ---- As the code has it
 

@@ -4,7 +4,7 @@ use Rattle.std.specs.Prelude.{◌≢◌, ℕ, ◌==◌, Bool, true, false, List,
 use Rattle.tds_front.specs.declared.fault.FrontFault.{FrontFault}
 use Rattle.tds_front.specs.declared.front.Fed.{Fed}
 use Rattle.tds_front.specs.declared.front.Front.{Front}
-use Rattle.tds_front.specs.declared.stage.Deed.{Deed}
+use Rattle.tds_front.specs.declared.stage.Action.{Action}
 use Rattle.tds_front.specs.declared.stage.Head.{Head}
 use Rattle.tds_front.specs.declared.stage.Stage.{Stage}
 use Rattle.tds_front.specs.Bytes.{fed}
@@ -17,10 +17,10 @@ use Rattle.tds_service.specs.History.{Done}
 use Rattle.tds_service.specs.Line as line
 use Rattle.tds_service.specs.Line.{Answer}
 use Rattle.tds_service.specs.Promises.{ends_message}
-use Rattle.tds_relay.specs.Desk as desk
-use Rattle.tds_relay.specs.Desk.{Event, Sharing, whose}
+use Rattle.tds_relay.specs.Pool as pool
+use Rattle.tds_relay.specs.Pool.{Event, Sharing, whose}
 use Rattle.tds_relay.specs.Fronting.{AnswersOnce, done_on}
-use Rattle.tds_relay.specs.Hall.{End, Open, Over, Hall, Move, Sends, Comes, Feeds, Enters, Quits, done_by, end_at, events_of, moved, sent_by, Ends as AllEnds, MayMoveAll, moved_all, new_hall}
+use Rattle.tds_relay.specs.Core.{End, Open, Over, Core, Move, Sends, Comes, Feeds, Enters, Quits, done_by, end_at, events_of, moved, sent_by, Ends as AllEnds, MayMoveAll, moved_all, new_core}
 
 -- ---- What passes it in one move
 
@@ -42,8 +42,8 @@ said_in [] = []
 said_in (d ∷ ds) = said_by (ends_message d.act) d.answer
 
 -- the packet whose header ends with these bytes, or a fault by other bytes
-abbrev pub refused_by : Result Deed FrontFault → FrontFault → List passing.Event
-refused_by (Ok deed) fault = Refuses fault ∷ []
+abbrev pub refused_by : Result Action FrontFault → FrontFault → List passing.Event
+refused_by (Ok action) fault = Refuses fault ∷ []
 refused_by (Err first) fault = []
 
 abbrev pub brought_by : Stage → Option Head → Result Fed FrontFault → List passing.Event
@@ -73,20 +73,20 @@ abbrev pub unless_withdrawn : Bool → List passing.Event → List passing.Event
 unless_withdrawn false events = events
 unless_withdrawn true events = []
 
-abbrev pub passes : ℕ → Hall → Move → List passing.Event
-passes key h (Sends other deed) = if_same key other (if_open (end_at h.ends key) (λ front withdrawn. gone_on (sent_by h.desk (desk.Does other deed))))
+abbrev pub passes : ℕ → Core → Move → List passing.Event
+passes key h (Sends other action) = if_same key other (if_open (end_at h.ends key) (λ front withdrawn. gone_on (sent_by h.pool (pool.Does other action))))
 passes key h (Comes number part way) =
-    if_whose key (whose h.desk number) (if_open (end_at h.ends key) (λ front withdrawn. unless_withdrawn withdrawn (said_in (done_by h.desk number part))))
+    if_whose key (whose h.pool number) (if_open (end_at h.ends key) (λ front withdrawn. unless_withdrawn withdrawn (said_in (done_by h.pool number part))))
 passes key h (Feeds other bytes) = if_same key other (if_open (end_at h.ends key) (λ front withdrawn. brought front bytes))
 passes key h move = []
 
 -- ---- Along moves
 
-abbrev pub passed : ℕ → Hall → List Move → List passing.Event
+abbrev pub passed : ℕ → Core → List Move → List passing.Event
 passed key h [] = []
 passed key h (move ∷ moves) = passes key h move ++ passed key (moved h move) moves
 
-abbrev pub events_along : Hall → List Move → List Event
+abbrev pub events_along : Core → List Move → List Event
 events_along h [] = []
 events_along h (move ∷ moves) = events_of h move ++ events_along (moved h move) moves
 
@@ -107,16 +107,16 @@ pub record Stay (sharing : Sharing) (key : ℕ) : Type 0 where
   pub before : List Move
   pub ends : AllEnds
   pub since : List Move
-  pub may : MayMoveAll (new_hall sharing) (before ++ Enters key ends ∷ since)
+  pub may : MayMoveAll (new_core sharing) (before ++ Enters key ends ∷ since)
   pub stays : Stays key since
 
 -- what passes its end then
 abbrev pub passed_in : {sharing : Sharing} {key : ℕ} → Stay sharing key → List passing.Event
-passed_in {sharing} {key} s = passed key (moved_all (new_hall sharing) (s.before ++ Enters key s.ends ∷ [])) s.since
+passed_in {sharing} {key} s = passed key (moved_all (new_core sharing) (s.before ++ Enters key s.ends ∷ [])) s.since
 
--- All that is done at the desk, also before it came. Each server answers each request once at most, also behind an attention.
+-- All that is done at the pool, also before it came. Each server answers each request once at most, also behind an attention.
 abbrev pub done_in : {sharing : Sharing} {key : ℕ} → Stay sharing key → List Event
-done_in {sharing} {key} s = events_along (new_hall sharing) (s.before ++ Enters key s.ends ∷ s.since)
+done_in {sharing} {key} s = events_along (new_core sharing) (s.before ++ Enters key s.ends ∷ s.since)
 
 abbrev pub AllAnswerOnce : {sharing : Sharing} {key : ℕ} → Stay sharing key → Type 0
 AllAnswerOnce {sharing} s = (number : ℕ) → AnswersOnce false (done_on sharing number (done_in s))

@@ -15,16 +15,16 @@ use Rattle.tds_service.specs.Ties.{cancel_out}
 use Rattle.tds_relay.specs.declared.application.Application.{Application}
 use Rattle.tds_relay.specs.declared.application.Asking.{Asking}
 use Rattle.tds_relay.specs.declared.application.Asking.TheVariants as asking
-use Rattle.tds_relay.specs.declared.desk.Desk as desks
-use Rattle.tds_relay.specs.declared.desk.Hold.{Hold}
+use Rattle.tds_relay.specs.declared.pool.Pool as pools
+use Rattle.tds_relay.specs.declared.pool.Hold.{Hold}
 use Rattle.tds_relay.specs.declared.link.Link.{Link}
 use Rattle.tds_relay.specs.declared.relay.Relay as code
 use Rattle.tds_relay.specs.Asking.{said_of}
-use Rattle.tds_relay.specs.Desk.{find_key}
-use Rattle.tds_relay.specs.Fronts.{ends_in}
-use Rattle.tds_relay.specs.Hall.{End, Open, Over, end_at}
-use Rattle.tds_relay.specs.House.{House, Step, Takes, after}
-use Rattle.tds_relay.specs.Reads.{FillsAt, open_waits, waits_on}
+use Rattle.tds_relay.specs.Pool.{find_key}
+use Rattle.tds_relay.specs.Fronts.{MovedOn, ends_in}
+use Rattle.tds_relay.specs.Core.{End, Open, Over, end_at, holder, is_in}
+use Rattle.tds_relay.specs.Machine.{Machine, Step, Takes, after}
+use Rattle.tds_relay.specs.Reads.{FillsAt, StaysAt, open_waits, waits_on}
 use Rattle.tds_relay.specs.Taking.{IsDeaf, Tells, count_by}
 
 pub data Body : Type 0 where
@@ -62,7 +62,7 @@ body_in (Some a) goes = if a.is_over then Closed else body_by a.asking a.held.it
 
 -- what goes on where it holds a connection
 abbrev pub going_of : ℕ → code.Relay → Body
-going_of key r = going r.desk.service r.links.items (find_key key r.desk.holds.items)
+going_of key r = going r.pool.service r.links.items (find_key key r.pool.holds.items)
 
 -- that of the request of the application by this key
 abbrev pub body_of : ℕ → code.Relay → Body
@@ -147,22 +147,29 @@ taken_of bytes None = []
 taken_of bytes (Some (Open front withdrawn asks)) = take (count_by (fed front bytes).brings bytes) bytes
 taken_of bytes (Some (Over why)) = []
 
--- Piece by piece of what steps take of an application, from the one body to the other; before each and behind the last it may start.
-abbrev pub AreFollowed : ℕ → House → List Step → Body → Body → Type 0
+-- It is Closed only where nothing more is taken of its application.
+abbrev pub IsClosedAsEnd : Option End → Body → Type 0
+IsClosedAsEnd end Closed = IsDeaf end
+IsClosedAsEnd end _ = Unit {0}
+
+-- Piece by piece of what steps take of an application, from the one body to the other; before each and behind the last it may start. Before
+-- each it is Closed only as its application's end is.
+abbrev pub AreFollowed : ℕ → Machine → List Step → Body → Body → Type 0
 AreFollowed key h [] old new = Starts old new
 AreFollowed key h (Takes other bytes ∷ steps) old new =
-    (from : Body) × (to : Body) × Starts old from × Becomes (said_of bytes (end_at h.hall.ends key)) (taken_of bytes (end_at h.hall.ends key)) from to
-    × AreFollowed key (after h (Takes other bytes)) steps to new
+    (from : Body) × (to : Body) × Starts old from × IsClosedAsEnd (end_at h.core.ends key) from
+    × Becomes (said_of bytes (end_at h.core.ends key)) (taken_of bytes (end_at h.core.ends key)) from to × AreFollowed key (after h (Takes other bytes)) steps to new
 AreFollowed key h (step ∷ steps) old new = AreFollowed key (after h step) steps old new
 
--- An application's bytes are taken, up to these, and its request's body follows them.
-pub record Carries (key : ℕ) (old : House) (bytes left : List ℕ) (from to : Body) (new : House) : Type 0 where
+-- An application's bytes are taken, up to these, and its request's body follows them, and is Closed behind them only as its application's end is.
+pub record Carries (key : ℕ) (old : Machine) (bytes left : List ℕ) (from to : Body) (new : Machine) : Type 0 where
   pub tells : Tells key old bytes left new
   pub followed : AreFollowed key old tells.steps from to
+  pub closed : IsClosedAsEnd (end_at new.core.ends key) to
 
 -- Whatever was taken before, these bytes are taken behind it, up to these.
-abbrev pub CarriesOn : ℕ → List ℕ → List ℕ → Body → Body → House → House → Type 0
-CarriesOn key left rest from to old new = (first : House) (bytes : List ℕ) (at : Body) → Carries key first bytes left at from old → Carries key first bytes rest at to new
+abbrev pub CarriesOn : ℕ → List ℕ → List ℕ → Body → Body → Machine → Machine → Type 0
+CarriesOn key left rest from to old new = (first : Machine) (bytes : List ℕ) (at : Body) → Carries key first bytes left at from old → Carries key first bytes rest at to new
 
 -- What becomes of it by them, and then it may start
 pub record Obeys (answer : Said) (taken : List ℕ) (old new : Body) : Type 0 where
@@ -183,13 +190,60 @@ standing_in key r = (body_of key r, λ (number : ℕ). waits_on number r.links.i
 abbrev pub standing_open : ℕ → code.Relay → BodyAndWaits
 standing_open key r = (body_of key r, λ (number : ℕ). open_waits number r.links.items)
 
--- It may start; what waited on each connection waits there, and more may behind it, or it is there no more.
+-- Nothing of it goes on: there is none, or it is kept.
+abbrev pub IsStill : Body → Type 0
+IsStill Nowhere = Unit {0}
+IsStill (Kept kind bytes whole) = Unit {0}
+IsStill _ = ⊥
+
+-- As it starts, but what is put of it waits behind what waited on its connection, once, and nothing else does.
+pub data StartsInPlace (waits : ℕ → Option (List ℕ)) : Body → Body → Type 0 where
+  Remains : {b : Body} → StartsInPlace waits b b
+  Closing : {b : Body} → StartsInPlace waits b Closed
+  Wanders : {b : Body} → StartsInPlace waits Astray b
+  Follows : {kind : MessageKind} {bytes : List ℕ} {whole : Bool} {number : ℕ} {to : ClientSession} (was out : List ℕ) (from : ClientSession)
+      → waits number ≡ Some was → ArePut whole bytes (opened from kind) to out → StartsInPlace waits (Kept kind bytes whole) (Going number to (was ++ out))
+
+-- It starts so; where nothing of it goes on, nothing is put.
+pub record PutsFrom (waits : ℕ → Option (List ℕ)) (mid : Body) (new : BodyAndWaits) : Type 0 where
+  pub starts : StartsInPlace waits mid new.0
+  pub still : IsStill mid → IsStill new.0 → (number : ℕ) → StaysAt (waits number) (new.1 number)
+
 abbrev pub GoesFrom : BodyAndWaits → BodyAndWaits → Type 0
-GoesFrom old new = Starts old.0 new.0 × ((number : ℕ) → FillsAt (old.1 number) (new.1 number))
+GoesFrom old new = PutsFrom old.1 old.0 new
+
+-- where a request begins
+abbrev pub BeginsFrom : Kind → BodyAndWaits → BodyAndWaits → Type 0
+BeginsFrom kind old new = (mid : Body) × Begins kind mid × PutsFrom old.1 mid new
+
+-- where these bytes of it have come
+abbrev pub GrowsFrom : Bool → List ℕ → BodyAndWaits → BodyAndWaits → Type 0
+GrowsFrom whole more old new = (mid : Body) × Grows whole more old.0 mid × PutsFrom old.1 mid new
+
+-- where it is taken back, and nothing of it goes on: nothing is put
+abbrev pub PutsNothing : BodyAndWaits → BodyAndWaits → Type 0
+PutsNothing old new = IsStill old.0 → (number : ℕ) → StaysAt (old.1 number) (new.1 number)
+
+-- By a piece of a request nothing is put but what goes out of that; of one that begins, and asks for a reset, nothing is said.
+abbrev pub PutsSaid : Said → List ℕ → BodyAndWaits → BodyAndWaits → Type 0
+PutsSaid said.Nothing taken old new = GoesFrom old new
+PutsSaid (said.Begin kind reset) taken old new = reset ≡ None → BeginsFrom kind old new
+PutsSaid (said.Body count) taken old new = GrowsFrom false (last_of count taken) old new
+PutsSaid (said.End count) taken old new = GrowsFrom true (last_of count taken) old new
+PutsSaid (said.Forget false) taken old new = PutsNothing old new
+PutsSaid said.Acknowledge taken old new = PutsNothing old new
+PutsSaid _ taken old new = Unit {0}
+
+-- It is where it was, and on each connection that is there still the same waits; or its application is to be closed.
+abbrev pub RestsFrom : BodyAndWaits → BodyAndWaits → Type 0
+RestsFrom old new =
+    ((new.0 ≡ old.0) × ((number : ℕ) → StaysAt (old.1 number) (new.1 number)))
+    ⊎ ((new.0 ≡ Closed) × ((number : ℕ) → FillsAt (old.1 number) (new.1 number)))
 
 -- Where it went on, what cancels it by its client waits behind what waited on its connection, once, and nothing else; or its application is to be
--- closed.
+-- closed, and stays so.
 abbrev pub IsStoppedOnce : Body → BodyAndWaits → Type 0
+IsStoppedOnce Closed new = new.0 ≡ Closed
 IsStoppedOnce (Going number client waits) new = (new.1 number ≡ Some (waits ++ cancel_out client.stage)) ⊎ (new.0 ≡ Closed)
 IsStoppedOnce _ new = Unit {0}
 
@@ -204,23 +258,39 @@ pub record Heeds (answer : Said) (taken : List ℕ) (old new : BodyAndWaits) : T
   pub obeys : Obeys answer taken old.0 new.0
   pub fills : (number : ℕ) → FillsAt (old.1 number) (new.1 number)
   pub cancels : CancelsSaid answer old.0 new
+  pub puts : PutsSaid answer taken old new
 
--- Piece by piece of what steps take of an application: as AreFollowed, with what waits.
-abbrev pub AreHeeded : ℕ → House → List Step → BodyAndWaits → BodyAndWaits → Type 0
-AreHeeded key h [] old new = GoesFrom old new
+-- Piece by piece of what steps take of an application: as AreFollowed, with what waits; between them nothing is put.
+abbrev pub AreHeeded : ℕ → Machine → List Step → BodyAndWaits → BodyAndWaits → Type 0
+AreHeeded key h [] old new = RestsFrom old new
 AreHeeded key h (Takes other bytes ∷ steps) old new =
-    (from : BodyAndWaits) × (to : BodyAndWaits) × GoesFrom old from × Heeds (said_of bytes (end_at h.hall.ends key)) (taken_of bytes (end_at h.hall.ends key)) from to
-    × AreHeeded key (after h (Takes other bytes)) steps to new
+    (from : BodyAndWaits) × (to : BodyAndWaits) × RestsFrom old from × IsClosedAsEnd (end_at h.core.ends key) from.0
+    × Heeds (said_of bytes (end_at h.core.ends key)) (taken_of bytes (end_at h.core.ends key)) from to × AreHeeded key (after h (Takes other bytes)) steps to new
 AreHeeded key h (step ∷ steps) old new = AreHeeded key (after h step) steps old new
 
 -- An application's bytes are taken, up to these, and what it takes back of that is cancelled.
-pub record HeedsAll (key : ℕ) (old : House) (bytes left : List ℕ) (from to : BodyAndWaits) (new : House) : Type 0 where
+pub record HeedsAll (key : ℕ) (old : Machine) (bytes left : List ℕ) (from to : BodyAndWaits) (new : Machine) : Type 0 where
   pub tells : Tells key old bytes left new
   pub heeded : AreHeeded key old tells.steps from to
+  pub closed : IsClosedAsEnd (end_at new.core.ends key) to.0
 
 -- Whatever was taken before, these bytes are taken behind it, up to these.
-abbrev pub HeedsOn : ℕ → List ℕ → List ℕ → BodyAndWaits → BodyAndWaits → House → House → Type 0
-HeedsOn key left rest from to old new = (first : House) (bytes : List ℕ) (at : BodyAndWaits) → HeedsAll key first bytes left at from old → HeedsAll key first bytes rest at to new
+abbrev pub HeedsOn : ℕ → List ℕ → List ℕ → BodyAndWaits → BodyAndWaits → Machine → Machine → Type 0
+HeedsOn key left rest from to old new = (first : Machine) (bytes : List ℕ) (at : BodyAndWaits) → HeedsAll key first bytes left at from old → HeedsAll key first bytes rest at to new
+
+-- All of them are, and then those who wait are served, among whom its application may be: unless it waits, its request stays by that, or it is to
+-- be closed, and on the connection that it holds nothing is put.
+pub record HeedsServed (key : ℕ) (old : Machine) (bytes : List ℕ) (from to : BodyAndWaits) (new : Machine) : Type 0 where
+  pub at : Machine
+  pub mid : BodyAndWaits
+  pub heeds : HeedsAll key old bytes [] from mid at
+  pub moves : MovedOn at.core new.core
+  pub kept : new.queues ≡ at.queues
+  pub starts : Starts mid.0 to.0
+  pub fills : (number : ℕ) → FillsAt (mid.1 number) (to.1 number)
+  pub rests : is_in key at.core.pool.line ≡ false → Spared mid.0 to.0 ⊎ (mid.0 ≡ Astray)
+  pub keeps : is_in key at.core.pool.line ≡ false → (number : ℕ) → holder at.core.pool number ≡ Some key → StaysAt (mid.1 number) (to.1 number)
+  pub closed : IsClosedAsEnd (end_at new.core.ends key) to.0
 
 -- ---- As the code has it
 
@@ -230,7 +300,7 @@ held_of None = []
 held_of (Some a) = a.held.items
 
 -- The client of the connection that an application holds puts these bytes, with which its message is finished or not.
-pub record ClientPuts (whole : Bool) (more : List ℕ) (key : ℕ) (old new : desks.Desk) (before after : List ℕ) : Type 0 where
+pub record ClientPuts (whole : Bool) (more : List ℕ) (key : ℕ) (old new : pools.Pool) (before after : List ℕ) : Type 0 where
   pub hold : Hold
   pub its : find_key key old.holds.items ≡ Some hold
   pub same : new.holds.items ≡ old.holds.items
@@ -242,7 +312,7 @@ pub record ClientPuts (whole : Bool) (more : List ℕ) (key : ℕ) (old new : de
   pub appended : after ≡ before ++ out
 
 -- The client of the connection that an application holds cancels.
-pub record ClientStops (key : ℕ) (old new : desks.Desk) (before after : List ℕ) : Type 0 where
+pub record ClientStops (key : ℕ) (old new : pools.Pool) (before after : List ℕ) : Type 0 where
   pub hold : Hold
   pub its : find_key key old.holds.items ≡ Some hold
   pub same : new.holds.items ≡ old.holds.items
@@ -251,20 +321,20 @@ pub record ClientStops (key : ℕ) (old new : desks.Desk) (before after : List �
   pub moves : Moves hold.lease old.service new.service from to
   pub appended : after ≡ before ++ cancel_out from.stage
 
--- Something was put on the connection of this number, behind what waited there, and the desk and what is asked are as they were; or the
+-- Something was put on the connection of this number, behind what waited there, and the pool and what is asked are as they were; or the
 -- application is to be closed.
 abbrev pub StopsOn : ℕ → ℕ → code.Relay → code.Relay → Type 0
 StopsOn number key old new =
     IsDeaf (end_at (ends_in new.applications) key)
-    ⊎ ((new.desk ≡ old.desk) × AskAsBefore old.applications new.applications
+    ⊎ ((new.pool ≡ old.pool) × AskAsBefore old.applications new.applications
     × (waits_on number new.links.items ≡ option_map (λ (waits : List ℕ). waits ++ old.outbox.items) (waits_on number old.links.items)))
 
 -- What an application's cancel puts out is to be sent on the connection of this number, which it holds.
 pub record IsHalting (number key : ℕ) (old new : code.Relay) : Type 0 where
   pub hold : Hold
-  pub its : find_key key old.desk.holds.items ≡ Some hold
+  pub its : find_key key old.pool.holds.items ≡ Some hold
   pub number_is : number ≡ hold.number
-  pub stops : ClientStops key old.desk new.desk [] new.outbox.items
+  pub stops : ClientStops key old.pool new.pool [] new.outbox.items
 
 -- These bytes are put where an application's request goes on, whether it asks one or not; or it is to be closed.
 abbrev pub PutsOn : Bool → List ℕ → ℕ → code.Relay → code.Relay → Type 0

@@ -11,20 +11,20 @@ use Rattle.tds_service.specs.Service as calls
 use Rattle.tds_service.specs.Service.{Service, step}
 use Rattle.tds_service.specs.Table.{client_of}
 use Rattle.tds_service.specs.Ties.{cancel_out}
-use Rattle.tds_relay.specs.declared.desk.Hold.{Hold}
-use Rattle.tds_relay.specs.declared.desk.coming.Heard.{Heard}
-use Rattle.tds_relay.specs.declared.desk.coming.What.{What}
-use Rattle.tds_relay.specs.declared.desk.coming.What.TheVariants as whats
-use Rattle.tds_relay.specs.declared.desk.leaving.Left.{Left}
+use Rattle.tds_relay.specs.declared.pool.Hold.{Hold}
+use Rattle.tds_relay.specs.declared.pool.coming.Heard.{Heard}
+use Rattle.tds_relay.specs.declared.pool.coming.What.{What}
+use Rattle.tds_relay.specs.declared.pool.coming.What.TheVariants as whats
+use Rattle.tds_relay.specs.declared.pool.leaving.Left.{Left}
 use Rattle.tds_relay.specs.declared.link.Link.{Link}
 use Rattle.tds_relay.specs.declared.relay.Relay as code
 use Rattle.tds_relay.specs.Bodies.{ArePut}
 use Rattle.tds_relay.specs.Closings.{IsWaiting, Register, Settings, register_in}
-use Rattle.tds_relay.specs.Desk.{Brings, Desk, Way, find_key, next, turn}
+use Rattle.tds_relay.specs.Pool.{Brings, Pool, Way, find_key, next, turn}
 use Rattle.tds_relay.specs.Lent.{HasClosed, IsMade}
 use Rattle.tds_relay.specs.Reads.{CalledAt, bytes_on, open_at, open_waits, reader_at, seen_at, waits_on}
-use Rattle.tds_relay.specs.Hall.{holder}
-use Rattle.tds_relay.specs.Ties.{desk_in}
+use Rattle.tds_relay.specs.Core.{holder}
+use Rattle.tds_relay.specs.Ties.{pool_in}
 
 -- ---- What a cleaning says
 
@@ -103,11 +103,11 @@ pub data WaitsBehindEnd (lent : Type 0) (client : Option ClientSession) (old : O
 
 -- where an application held one
 abbrev pub OfItsHold : (Option ClientSession → Option (List ℕ) → Option (List ℕ) → Type 0) → ℕ → code.Relay → (ℕ → Option (List ℕ)) → Type 0
-OfItsHold Left key old now = (hold : Hold) → find_key key old.desk.holds.items ≡ Some hold → Left (client_of hold.lease old.desk.service) (waits_on hold.number old.links.items) (now hold.number)
+OfItsHold Left key old now = (hold : Hold) → find_key key old.pool.holds.items ≡ Some hold → Left (client_of hold.lease old.pool.service) (waits_on hold.number old.links.items) (now hold.number)
 
 abbrev pub WaitsSinceEnd : ℕ → code.Relay → code.Relay → Type 0
-WaitsSinceEnd key old new = (hold : Hold) → find_key key old.desk.holds.items ≡ Some hold
-    → WaitsBehindEnd (IsSome (holder (desk_in new.desk) hold.number)) (client_of hold.lease old.desk.service) (waits_on hold.number old.links.items) (open_waits hold.number new.links.items)
+WaitsSinceEnd key old new = (hold : Hold) → find_key key old.pool.holds.items ≡ Some hold
+    → WaitsBehindEnd (IsSome (holder (pool_in new.pool) hold.number)) (client_of hold.lease old.pool.service) (waits_on hold.number old.links.items) (open_waits hold.number new.links.items)
 
 -- ---- How often
 
@@ -136,7 +136,7 @@ CountsSent (Some waits) old new = new ≡ (next old.0, old.1)
 
 -- So it is where an application held one that was there.
 abbrev pub CountsAtEnd : ℕ → code.Relay → code.Relay → Type 0
-CountsAtEnd key old new = (hold : Hold) → find_key key old.desk.holds.items ≡ Some hold → IsSome (waits_on hold.number old.links.items)
+CountsAtEnd key old new = (hold : Hold) → find_key key old.pool.holds.items ≡ Some hold → IsSome (waits_on hold.number old.links.items)
     → CountsSent (waits_on hold.number new.links.items) (cleaned_in old) (cleaned_in new)
 
 -- Then those who wait are served: what is counted as cleaned is there, or was lost with one of them; what is counted as closed isn't there, but for
@@ -147,10 +147,10 @@ pub data CountsSince (Lost : Type 0) (number : ℕ) (old new : ℕ × ℕ) (ls :
 
 -- one of them is closed since
 abbrev pub LosesWaiting : Register → code.Relay → code.Relay → Type 0
-LosesWaiting was old new = HasClosed (IsWaiting (desk_in old.desk).line) was (register_in new)
+LosesWaiting was old new = HasClosed (IsWaiting (pool_in old.pool).line) was (register_in new)
 
 abbrev pub CountsSinceEnd : ℕ → Register → code.Relay → code.Relay → Type 0
-CountsSinceEnd key was old new = (hold : Hold) → find_key key old.desk.holds.items ≡ Some hold → IsSome (waits_on hold.number old.links.items)
+CountsSinceEnd key was old new = (hold : Hold) → find_key key old.pool.holds.items ≡ Some hold → IsSome (waits_on hold.number old.links.items)
     → CountsSince (LosesWaiting was old new) hold.number (cleaned_in old) (cleaned_in new) new.links.items
 
 -- Nothing is counted; or the connection of this number was closed instead, which nobody held: it is there no more.
@@ -179,10 +179,10 @@ CountsHeard number (Some heard) old new = CountsWhat heard.what heard.key number
 abbrev pub IsLentBy : ℕ → Service → Type 0
 IsLentBy number s = (lease : ℕ) × (had : Bool) × ((step {T = Token} s calls.Lease).reply ≡ calls.Lent lease number had)
 
--- There were connections before; or the desk has done what it does to bring one, of which the service lends none, or memory is refused to its
+-- There were connections before; or the pool has done what it does to bring one, of which the service lends none, or memory is refused to its
 -- cleaning.
-abbrev pub IsNotBrought : List Link → Desk → Desk → Type 0
-IsNotBrought links old new = ((length links == 0) ≡ false) ⊎ ((gives : Bool) × (way : Way) × (new ≡ (turn old (Brings gives way)).desk))
+abbrev pub IsNotBrought : List Link → Pool → Pool → Type 0
+IsNotBrought links old new = ((length links == 0) ≡ false) ⊎ ((gives : Bool) × (way : Way) × (new ≡ (turn old (Brings gives way)).pool))
 
 -- One is behind them that is open and called so, on which nothing waits, and made as the relay was told; or none is.
 abbrev pub IsFirst : ℕ → Settings → List Link → List Link → Type 0

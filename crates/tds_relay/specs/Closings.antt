@@ -9,9 +9,9 @@ use Rattle.tds_relay.specs.declared.order.Order.{Order}
 use Rattle.tds_relay.specs.declared.order.Order.TheVariants as orders
 use Rattle.tds_relay.specs.declared.relay.Relay as code
 use Rattle.tds_relay.specs.Fronts.{ends_in}
-use Rattle.tds_relay.specs.Hall.{End, Ends, Open, Over, end_at, is_in}
+use Rattle.tds_relay.specs.Core.{End, Ends, Open, Over, end_at, is_in}
 use Rattle.tds_relay.specs.Ordering.{IsOrdered, StayOrdered}
-use Rattle.tds_relay.specs.Posts.{HasAll, Post, Posts, names_of, post_at, posts_in}
+use Rattle.tds_relay.specs.Queues.{HasAll, Queue, Queues, names_of, queue_at, queues_in}
 use Rattle.tds_relay.specs.Reads.{Seen, seen_at}
 use Rattle.tds_relay.specs.Sending.{IsWritten, called_at, sending_at}
 
@@ -29,7 +29,7 @@ pub record KeptBeside : Type 0 where
 -- The ends of all applications, and what waits for them, by their keys; the connections; what is ordered; and what is kept beside that.
 pub record Register : Type 0 where
   pub ends : Ends
-  pub posts : Posts
+  pub queues : Queues
   pub links : List Link
   pub orders : List Order
   pub kept : KeptBeside
@@ -39,24 +39,24 @@ settings_in r = record { most = r.most; size = r.size; features = r.features }
 
 abbrev pub register_in : code.Relay → Register
 register_in r =
-    record { ends = ends_in r.applications; posts = posts_in r.applications; links = r.links.items; orders = r.orders.items; kept = record { refused = r.refused; settings = settings_in r } }
+    record { ends = ends_in r.applications; queues = queues_in r.applications; links = r.links.items; orders = r.orders.items; kept = record { refused = r.refused; settings = settings_in r } }
 
 -- one of them is there no more
 abbrev pub without_key : ℕ → Register → Register
-without_key key r = record { ends = slice_set r.ends key None; posts = slice_set r.posts key None; links = r.links; orders = r.orders; kept = r.kept }
+without_key key r = record { ends = slice_set r.ends key None; queues = slice_set r.queues key None; links = r.links; orders = r.orders; kept = r.kept }
 
 -- these are the connections
 abbrev pub with_links : List Link → Register → Register
-with_links links r = record { ends = r.ends; posts = r.posts; links = links; orders = r.orders; kept = r.kept }
+with_links links r = record { ends = r.ends; queues = r.queues; links = links; orders = r.orders; kept = r.kept }
 
 -- so many connections may be there
 abbrev pub with_most : ℕ → Register → Register
 with_most most r =
-    record { ends = r.ends; posts = r.posts; links = r.links; orders = r.orders; kept = record { refused = r.kept.refused; settings = record r.kept.settings { most = most } } }
+    record { ends = r.ends; queues = r.queues; links = r.links; orders = r.orders; kept = record { refused = r.kept.refused; settings = record r.kept.settings { most = most } } }
 
 -- what waits for applications, and why a connection was closed, as another has it
 abbrev pub but_told : Register → Register → Register
-but_told by r = record { ends = r.ends; posts = by.posts; links = r.links; orders = r.orders; kept = record { refused = by.kept.refused; settings = r.kept.settings } }
+but_told by r = record { ends = r.ends; queues = by.queues; links = r.links; orders = r.orders; kept = record { refused = by.kept.refused; settings = r.kept.settings } }
 
 abbrev pub name_with : Option End → Option (Option ℕ) → Option ℕ
 name_with None name = None
@@ -66,7 +66,7 @@ name_with (Some (Over why)) name = None
 
 -- what an application is called that isn't to be closed
 abbrev pub open_name : ℕ → Register → Option ℕ
-open_name key r = name_with (end_at r.ends key) (slice_index_or (names_of r.posts) key None)
+open_name key r = name_with (end_at r.ends key) (slice_index_or (names_of r.queues) key None)
 
 -- The connection of this number is there, and isn't open yet.
 abbrev pub is_shut : Option Seen → Bool
@@ -112,9 +112,9 @@ ClosesOnce tag old new =
 -- ---- What is done
 
 -- All that waits for whoever is called so fits, and is ordered to be written.
-abbrev pub IsToWriteAll : Option ℕ → Option Post → List Order → Type 0
-IsToWriteAll None post all = Unit {0}
-IsToWriteAll (Some tag) post all = HasAll post × IsOrdered (orders.Write tag) all
+abbrev pub IsToWriteAll : Option ℕ → Option Queue → List Order → Type 0
+IsToWriteAll None queue all = Unit {0}
+IsToWriteAll (Some tag) queue all = HasAll queue × IsOrdered (orders.Write tag) all
 
 -- What was ordered stays so. Whoever is to be closed now and wasn't before is one of these, and is ordered closed; and a connection that is to
 -- be opened now and wasn't before is ordered opened. Why one was closed for a packet's header is told as before; as many may be
@@ -130,7 +130,7 @@ pub record ClosesOnly (May : ℕ → Type 0) (old new : Register) : Type 0 where
   -- and each once, where no two are called so
   pub once : (tag : ℕ) → IsOneCalled tag old → ClosesOnce tag old new
   -- whoever something more waits for is ordered written to, and all of it fits; so is each connection on which more waits
-  pub writes : (key : ℕ) → (post_at new.posts key ≡ post_at old.posts key) ⊎ IsToWriteAll (open_name key new) (post_at new.posts key) new.orders
+  pub writes : (key : ℕ) → (queue_at new.queues key ≡ queue_at old.queues key) ⊎ IsToWriteAll (open_name key new) (queue_at new.queues key) new.orders
   pub writes_on : (number : ℕ) → (sending_at number new.links ≡ sending_at number old.links) ⊎ IsWritten (sending_at number new.links) new.orders
   -- nobody comes, and none is called anew
   pub were_open : (key tag : ℕ) → open_name key new ≡ Some tag → open_name key old ≡ Some tag

@@ -3,17 +3,17 @@ use Rattle.std.specs.Prelude.{◌≡◌, ◌⊎◌, ◌&&◌, ℕ, Bool, true, f
 use Rattle.slab.specs.Slab.{Slab, get}
 use Rattle.tds_packet.specs.Reading.{Reading}
 use Rattle.tds_relay.specs.Bodies.{Astray, Body, Closed, Going, Kept, Nowhere, Spared, Starts, body_in, body_of}
-use Rattle.tds_relay.specs.Desk.{owes_reset, whose}
-use Rattle.tds_relay.specs.Fronts.{hall_in, house_in}
+use Rattle.tds_relay.specs.Pool.{owes_reset, whose}
+use Rattle.tds_relay.specs.Fronts.{core_in, machine_in}
 use Rattle.tds_relay.specs.Handing.{PassesAs}
-use Rattle.tds_relay.specs.Hall.{Hall, done_by, holder, is_in, what_in}
-use Rattle.tds_relay.specs.House.{House, Hands, Step, acknowledges, after}
+use Rattle.tds_relay.specs.Core.{Core, done_by, holder, is_in, what_in}
+use Rattle.tds_relay.specs.Machine.{Machine, Hands, Step, acknowledges, after}
 use Rattle.tds_relay.specs.Reads.{Comes, MayBegin, StaysAt, Streams, answer_at, if_open, open_answer, open_at}
 use Rattle.tds_relay.specs.Sparing.{IsUnkept}
-use Rattle.tds_relay.specs.Ties.{IsReached, desk_in}
+use Rattle.tds_relay.specs.Ties.{IsReached, pool_in}
 use Rattle.tds_relay.specs.declared.application.Application.{Application}
-use Rattle.tds_relay.specs.declared.desk.coming.Heard.{Heard}
-use Rattle.tds_relay.specs.declared.desk.coming.What.{What}
+use Rattle.tds_relay.specs.declared.pool.coming.Heard.{Heard}
+use Rattle.tds_relay.specs.declared.pool.coming.What.{What}
 use Rattle.tds_relay.specs.declared.link.Answer.{Answer}
 use Rattle.tds_relay.specs.declared.link.Link.{Link}
 use Rattle.tds_relay.specs.declared.relay.Relay as code
@@ -79,35 +79,35 @@ acknowledged_in None = false
 acknowledged_in (Some heard) = acknowledges_to heard.key heard.what
 
 -- Each packet is handed on by what is known there, from before these steps to behind them: each one by what the one before has left.
-abbrev pub AreSetAnew : House → List Step → Option Answer → Option Answer → Type 0
+abbrev pub AreSetAnew : Machine → List Step → Option Answer → Option Answer → Type 0
 AreSetAnew h [] had now = StaysAt had now
 AreSetAnew h (Hands number header content part way manner ∷ steps) had now =
-    (from : Answer) × (next : Answer) × (behind : Option Answer) × StaysAt had (Some from) × PassesAs (owes_reset number h.hall.desk) from header content part manner next
-    × BeginsIf (acknowledges_to (whose h.hall.desk number) (what_in (done_by h.hall.desk number part))) (Some next) behind × AreSetAnew (after h (Hands number header content part way manner)) steps behind now
+    (from : Answer) × (next : Answer) × (behind : Option Answer) × StaysAt had (Some from) × PassesAs (owes_reset number h.core.pool) from header content part manner next
+    × BeginsIf (acknowledges_to (whose h.core.pool number) (what_in (done_by h.core.pool number part))) (Some next) behind × AreSetAnew (after h (Hands number header content part way manner)) steps behind now
 AreSetAnew h (step ∷ steps) had now = AreSetAnew (after h step) steps had now
 
 -- Bytes were heard up to these, and the packets among them handed on so.
-pub record StreamsAnew (number : ℕ) (first : Option Answer) (had : Option Reading) (old : House) (from : services.Service) (bytes left : List ℕ) (last : Option Answer) (now : Option Reading) (new : House) (to : services.Service) : Type 0 where
+pub record StreamsAnew (number : ℕ) (first : Option Answer) (had : Option Reading) (old : Machine) (from : services.Service) (bytes left : List ℕ) (last : Option Answer) (now : Option Reading) (new : Machine) (to : services.Service) : Type 0 where
   pub streams : Streams number had old from bytes left now new to
   pub anew : AreSetAnew old streams.steps first last
 
 -- Whatever was heard before, these bytes are heard behind it so; and where this acknowledges something the next message may begin.
-abbrev pub ContinuesAnew : ℕ → List ℕ → List ℕ → Option Heard → Option Answer → Option Reading → Option Answer → Option Reading → House → services.Service → House → services.Service → Type 0
+abbrev pub ContinuesAnew : ℕ → List ℕ → List ℕ → Option Heard → Option Answer → Option Reading → Option Answer → Option Reading → Machine → services.Service → Machine → services.Service → Type 0
 ContinuesAnew number left rest heard had now has next f at g to =
-    (first behind : Option Answer) (begun : Option Reading) (old : House) (from : services.Service) (bytes : List ℕ) → StreamsAnew number first begun old from bytes left had now f at
+    (first behind : Option Answer) (begun : Option Reading) (old : Machine) (from : services.Service) (bytes : List ℕ) → StreamsAnew number first begun old from bytes left had now f at
     → BeginsIf (acknowledged_in heard) has behind → StreamsAnew number first begun old from bytes rest behind next g to
 
 -- Nobody held the connection of this number, and somebody does now; or who held it waits.
-abbrev pub IsLentSince : ℕ → Hall → Hall → Type 0
-IsLentSince number old new = ((holder old.desk number ≡ None) × IsSome (holder new.desk number)) ⊎ ((key : ℕ) × (holder old.desk number ≡ Some key) × (is_in key old.desk.line ≡ true))
+abbrev pub IsLentSince : ℕ → Core → Core → Type 0
+IsLentSince number old new = ((holder old.pool number ≡ None) × IsSome (holder new.pool number)) ⊎ ((key : ℕ) × (holder old.pool number ≡ Some key) × (is_in key old.pool.line ≡ true))
 
 -- What is known of the message stays; or it is lent since, and the next one may begin.
-abbrev pub BeginsLent : ℕ → Hall → Hall → Option Answer → Option Answer → Type 0
+abbrev pub BeginsLent : ℕ → Core → Core → Option Answer → Option Answer → Type 0
 BeginsLent number old new had now = StaysAt had now ⊎ (IsLentSince number old new × MayBegin had now)
 
 -- In a call all of them are, and then those who wait are served: a message may begin anew there alone, where one is lent a connection.
 pub record ComesAnew (number : ℕ) (bytes : List ℕ) (old new : code.Relay) : Type 0 where
-  pub comes : Comes number (open_at number old.links.items) (house_in old) old.desk.service bytes (open_at number new.links.items) (house_in new) new.desk.service
+  pub comes : Comes number (open_at number old.links.items) (machine_in old) old.pool.service bytes (open_at number new.links.items) (machine_in new) new.pool.service
   pub behind : Option Answer
-  pub anew : AreSetAnew (house_in old) comes.streams.streams.steps (answer_at number old.links.items) behind
-  pub begins : IsReached (desk_in old.desk) → BeginsLent number comes.mid.hall (hall_in new) (if_open comes.left behind) (open_answer number new.links.items)
+  pub anew : AreSetAnew (machine_in old) comes.streams.streams.steps (answer_at number old.links.items) behind
+  pub begins : IsReached (pool_in old.pool) → BeginsLent number comes.mid.core (core_in new) (if_open comes.left behind) (open_answer number new.links.items)

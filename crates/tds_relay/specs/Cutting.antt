@@ -1,4 +1,4 @@
--- An answer's data without the news of a reset that nobody asked for (MS-TDS 2.2.7.9, type 18): token by token, as its walker sees
+-- An answer's data without the news of a reset that nobody asked for (MS-TDS 2.2.7.9, type 18): token by token, as its parser sees
 -- them; and what is left, in packets whose lengths are their own.
 use Rattle.std.specs.Prelude.{◌≡◌, ℕ, zero, suc, ◌+◌, ◌≤◌, Bool, List, [], ◌∷◌, ◌++◌, Option, Some, None, length, if◌then◌else◌}
 use Rattle.tds_packet.specs.declared.header.Header.{Header}
@@ -14,7 +14,7 @@ use Rattle.tds_relay.specs.declared.news.Known.TheVariants as knowns
 use Rattle.tds_relay.specs.News.{awaiting, goes_on, goes_on_to_end, held, known_after, known_next}
 use Rattle.tds_relay.specs.Promises.{Each}
 
--- What is left of bytes, what is known of the token that they end in, and where their walker stands behind them: nowhere behind one that no
+-- What is left of bytes, what is known of the token that they end in, and where their parser stands behind them: nowhere behind one that no
 -- answer has.
 pub record Left : Type 0 where
   pub bytes : List ℕ
@@ -82,18 +82,18 @@ awaited owed a = record a { known = awaiting owed a.known }
 
 -- The bytes are a packet of an answer without the news.
 abbrev pub IsCut : code.Answer → Header → List ℕ → List ℕ → Type 0
-IsCut a header content bytes = IsAnew a.size header.packet_id (ends_in header) (left_in (ends_in header) (left_of a.known a.walker content)) bytes
+IsCut a header content bytes = IsAnew a.size header.packet_id (ends_in header) (left_in (ends_in header) (left_of a.known a.parser content)) bytes
 
 -- ---- From packet to packet
 
 -- Nothing has come of the message that comes next.
 abbrev pub at_its_beginning : code.Answer → code.Answer
-at_its_beginning a = record a { walker = restarted a.walker; known = knowns.None }
+at_its_beginning a = record a { parser = restarted a.parser; known = knowns.None }
 
--- What is known behind a packet, and where the walker stands then: where what is left of its data ends, and anew behind a message's end. The
+-- What is known behind a packet, and where the parser stands then: where what is left of its data ends, and anew behind a message's end. The
 -- next ones are as long.
 abbrev pub IsCutTo : code.Answer → Bool → List ℕ → code.Answer → Type 0
 IsCutTo old ends content new =
-    (new.known ≡ (if ends then known_next (left_of old.known old.walker content).known else (left_of old.known old.walker content).known))
-    × ((next : Reading) → (left_of old.known old.walker content).stands ≡ Some next → new.walker ≡ behind_packet ends next)
+    (new.known ≡ (if ends then known_next (left_of old.known old.parser content).known else (left_of old.known old.parser content).known))
+    × ((next : Reading) → (left_of old.known old.parser content).stands ≡ Some next → new.parser ≡ behind_packet ends next)
     × (new.size ≡ old.size)

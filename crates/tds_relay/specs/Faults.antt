@@ -9,11 +9,11 @@ use Rattle.tds_packet.specs.declared.fault.PacketFault.{PacketFault}
 use Rattle.tds_wire.specs.declared.told.Token.{Token}
 use Rattle.tds_service.specs.History.{Done}
 use Rattle.tds_service.specs.Line as line
-use Rattle.tds_relay.specs.declared.desk.coming.Heard.{Heard}
+use Rattle.tds_relay.specs.declared.pool.coming.Heard.{Heard}
 use Rattle.tds_relay.specs.declared.fault.Refused.{Refused}
-use Rattle.tds_relay.specs.Desk.{fault_on}
-use Rattle.tds_relay.specs.Hall.{End, Open, Over, done_by, end_at}
-use Rattle.tds_relay.specs.House.{House, Step, Hands, Takes, after, after_all}
+use Rattle.tds_relay.specs.Pool.{fault_on}
+use Rattle.tds_relay.specs.Core.{End, Open, Over, done_by, end_at}
+use Rattle.tds_relay.specs.Machine.{Machine, Step, Hands, Takes, after, after_all}
 
 -- ---- Of an application
 
@@ -23,8 +23,8 @@ why_of None = None
 why_of (Some (Open front withdrawn asks)) = None
 why_of (Some (Over why)) = why
 
-abbrev pub why_at : ℕ → House → Option FrontFault
-why_at key h = why_of (end_at h.hall.ends key)
+abbrev pub why_at : ℕ → Machine → Option FrontFault
+why_at key h = why_of (end_at h.core.ends key)
 
 -- Its bytes do that.
 abbrev pub AreWrong : FrontFault → List ℕ → Option End → Type 0
@@ -32,16 +32,16 @@ AreWrong fault bytes None = ⊥
 AreWrong fault bytes (Some (Open front withdrawn asks)) = (fed front bytes).brings ≡ Err fault
 AreWrong fault bytes (Some (Over why)) = ⊥
 
-abbrev pub BreaksBy : ℕ → FrontFault → House → Step → Type 0
-BreaksBy key fault h (Takes other bytes) = (other ≡ key) × AreWrong fault bytes (end_at h.hall.ends key)
+abbrev pub BreaksBy : ℕ → FrontFault → Machine → Step → Type 0
+BreaksBy key fault h (Takes other bytes) = (other ≡ key) × AreWrong fault bytes (end_at h.core.ends key)
 BreaksBy key fault h step = ⊥
 
-abbrev pub BreaksAlong : ℕ → FrontFault → House → List Step → Type 0
+abbrev pub BreaksAlong : ℕ → FrontFault → Machine → List Step → Type 0
 BreaksAlong key fault h [] = ⊥
 BreaksAlong key fault h (step ∷ steps) = BreaksBy key fault h step ⊎ BreaksAlong key fault (after h step) steps
 
 -- What is told behind steps was told before them, or its bytes did it in one of them.
-abbrev pub IsMet : ℕ → FrontFault → House → List Step → Type 0
+abbrev pub IsMet : ℕ → FrontFault → Machine → List Step → Type 0
 IsMet key fault h steps = why_at key (after_all h steps) ≡ Some fault → (why_at key h ≡ Some fault) ⊎ BreaksAlong key fault h steps
 
 -- ---- Of a connection
@@ -51,17 +51,17 @@ abbrev pub AnswersFault : ListenFault → List (Done Token) → Type 0
 AnswersFault fault [] = ⊥
 AnswersFault fault (done ∷ dones) = done.answer ≡ line.Fault fault
 
-abbrev pub BreaksOn : ℕ → ListenFault → House → Step → Type 0
-BreaksOn number fault h (Hands other header content part way manner) = (other ≡ number) × AnswersFault fault (done_by h.hall.desk other part)
+abbrev pub BreaksOn : ℕ → ListenFault → Machine → Step → Type 0
+BreaksOn number fault h (Hands other header content part way manner) = (other ≡ number) × AnswersFault fault (done_by h.core.pool other part)
 BreaksOn number fault h step = ⊥
 
-abbrev pub BreaksOnAlong : ℕ → ListenFault → House → List Step → Type 0
+abbrev pub BreaksOnAlong : ℕ → ListenFault → Machine → List Step → Type 0
 BreaksOnAlong number fault h [] = ⊥
 BreaksOnAlong number fault h (step ∷ steps) = BreaksOn number fault h step ⊎ BreaksOnAlong number fault (after h step) steps
 
 -- What is told behind steps was told before them, or a packet of that connection had it in one of them.
-abbrev pub IsMetOn : ℕ → ListenFault → House → List Step → Type 0
-IsMetOn number fault h steps = fault_on number (after_all h steps).hall.desk ≡ Some fault → (fault_on number h.hall.desk ≡ Some fault) ⊎ BreaksOnAlong number fault h steps
+abbrev pub IsMetOn : ℕ → ListenFault → Machine → List Step → Type 0
+IsMetOn number fault h steps = fault_on number (after_all h steps).core.pool ≡ Some fault → (fault_on number h.core.pool ≡ Some fault) ⊎ BreaksOnAlong number fault h steps
 
 -- ---- Of a packet's header
 

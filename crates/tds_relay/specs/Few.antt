@@ -4,32 +4,32 @@ use Rattle.std.specs.Prelude.{◌≡◌, ◌≤◌, ◌<◌, ◌⊎◌, ℕ, suc
 use Rattle.tds_service.specs.Service.{find_by, is_lendable, Seat, Service, has_lease, seat_numbered}
 use Rattle.tds_relay.specs.declared.link.Link.{Link}
 use Rattle.tds_relay.specs.declared.relay.Relay as code
-use Rattle.tds_relay.specs.Desk.{Desk}
+use Rattle.tds_relay.specs.Pool.{Pool}
 use Rattle.tds_relay.specs.Reads.{waits_on}
-use Rattle.tds_relay.specs.Ties.{IsServed, desk_in, IsReached}
-use Rattle.tds_relay.specs.declared.desk.coming.Heard.{Heard}
-use Rattle.tds_relay.specs.declared.desk.coming.What.{What}
-use Rattle.tds_relay.specs.declared.desk.coming.What.TheVariants as whats
-use Rattle.tds_relay.specs.declared.desk.leaving.Left.{Left}
-use Rattle.tds_relay.specs.declared.desk.leaving.Renewed.{Renewed}
-use Rattle.tds_relay.specs.declared.desk.leaving.Renewed.TheVariants as renewals
+use Rattle.tds_relay.specs.Ties.{IsServed, pool_in, IsReached}
+use Rattle.tds_relay.specs.declared.pool.coming.Heard.{Heard}
+use Rattle.tds_relay.specs.declared.pool.coming.What.{What}
+use Rattle.tds_relay.specs.declared.pool.coming.What.TheVariants as whats
+use Rattle.tds_relay.specs.declared.pool.leaving.Left.{Left}
+use Rattle.tds_relay.specs.declared.pool.leaving.Renewed.{Renewed}
+use Rattle.tds_relay.specs.declared.pool.leaving.Renewed.TheVariants as renewals
 use Rattle.tds_relay.specs.Told.{is_there}
 
 -- whether one is free
-abbrev pub has_free : Desk → Bool
+abbrev pub has_free : Pool → Bool
 has_free d = is_some (find_by is_lendable d.service.seats)
 
 -- As many are there as may be, and none is free.
-pub record IsCrowded (most : ℕ) (links : List Link) (d : Desk) : Type 0 where
+pub record IsCrowded (most : ℕ) (links : List Link) (d : Pool) : Type 0 where
   pub many : most ≤ length links
   pub none : has_free d ≡ false
 
 -- Nobody waits, or as many are in use as may be: by the service's own number, or by this one.
 abbrev pub NobodyWaits : code.Relay → Type 0
-NobodyWaits r = IsServed (desk_in r.desk).line (desk_in r.desk).service ⊎ IsCrowded r.most r.links.items (desk_in r.desk)
+NobodyWaits r = IsServed (pool_in r.pool).line (pool_in r.pool).service ⊎ IsCrowded r.most r.links.items (pool_in r.pool)
 
 -- Nobody waits, fewer are there than may be, or one is free.
-abbrev pub MayServe : ℕ → List Link → Desk → Type 0
+abbrev pub MayServe : ℕ → List Link → Pool → Type 0
 MayServe most links d = (d.line ≡ []) ⊎ ((length links < most) ⊎ (has_free d ≡ true))
 
 -- None is there that wasn't.
@@ -51,31 +51,31 @@ FewBy false old new = length new ≡ suc (length old)
 abbrev pub has_seat : ℕ → Service → Bool
 has_seat number s = is_some (seat_numbered number s.seats)
 
--- The desk was reached by events, and its service has a connection of each number of these, and of no other number.
-pub record AreSeated (d : Desk) (ls : List Link) : Type 0 where
+-- The pool was reached by events, and its service has a connection of each number of these, and of no other number.
+pub record AreSeated (d : Pool) (ls : List Link) : Type 0 where
   pub reached : IsReached d
   pub each : (number : ℕ) → has_seat number d.service ≡ is_there number ls
 
 abbrev pub IsSeated : code.Relay → Type 0
-IsSeated r = AreSeated (desk_in r.desk) r.links.items
+IsSeated r = AreSeated (pool_in r.pool) r.links.items
 
 -- ---- Where one comes or goes
 
 -- So it is with all but this one,
-pub record AreSeatedOff (number : ℕ) (d : Desk) (ls : List Link) : Type 0 where
+pub record AreSeatedOff (number : ℕ) (d : Pool) (ls : List Link) : Type 0 where
   pub reached : IsReached d
   pub others : (other : ℕ) → other ≢ number → has_seat other d.service ≡ is_there other ls
 
 abbrev pub IsSeatedOff : ℕ → code.Relay → Type 0
-IsSeatedOff number r = AreSeatedOff number (desk_in r.desk) r.links.items
+IsSeatedOff number r = AreSeatedOff number (pool_in r.pool) r.links.items
 
 -- which the service has or not.
-pub record AreSeatedBut (number : ℕ) (has : Bool) (d : Desk) (ls : List Link) : Type 0 where
+pub record AreSeatedBut (number : ℕ) (has : Bool) (d : Pool) (ls : List Link) : Type 0 where
   pub off : AreSeatedOff number d ls
   pub here : has_seat number d.service ≡ has
 
 abbrev pub IsSeatedBut : ℕ → Bool → code.Relay → Type 0
-IsSeatedBut number has r = AreSeatedBut number has (desk_in r.desk) r.links.items
+IsSeatedBut number has r = AreSeatedBut number has (pool_in r.pool) r.links.items
 
 -- with this one too, or not
 abbrev pub IsSeatedIf : Bool → ℕ → Bool → code.Relay → Type 0

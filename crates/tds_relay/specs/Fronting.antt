@@ -8,7 +8,7 @@ use Rattle.tds_service.specs.Line as line
 use Rattle.tds_service.specs.Line.{Packet, Answer}
 use Rattle.tds_service.specs.Promises.{ends_message}
 use Rattle.tds_service.specs.Service.{Call, new_service, on, steps}
-use Rattle.tds_relay.specs.Desk.{Desk, Event, Sharing, new_desk, turn}
+use Rattle.tds_relay.specs.Pool.{Pool, Event, Sharing, new_pool, turn}
 
 -- ---- What happens on a connection
 
@@ -60,13 +60,13 @@ AnswersOnce out [] = Unit {0}
 AnswersOnce out (d ∷ ds) =
     MayEnd out (ends_message d.act) d.answer × AnswersOnce (is_left_out (is_out_behind out d.sent) (ends_message d.act) d.answer) ds
 
--- ---- Over events of a desk
+-- ---- Over events of a pool
 
 -- the calls of the service that are made
-abbrev pub calls_along : Desk → List Event → List (Call Token)
+abbrev pub calls_along : Pool → List Event → List (Call Token)
 calls_along d [] = []
-calls_along d (event ∷ events) = (turn d event).calls ++ calls_along (turn d event).desk events
+calls_along d (event ∷ events) = (turn d event).calls ++ calls_along (turn d event).pool events
 
 -- what was done on a connection
 abbrev pub done_on : Sharing → ℕ → List Event → List (Done Token)
-done_on sharing number events = on number (steps (new_service sharing.most) (calls_along (new_desk sharing) events))
+done_on sharing number events = on number (steps (new_service sharing.most) (calls_along (new_pool sharing) events))

@@ -1,4 +1,4 @@
--- The ends of applications, as the code has them beside its desk; what it hears of a packet, and how its calls lead from hall to hall.
+-- The ends of applications, as the code has them beside its pool; what it hears of a packet, and how its calls lead from core to core.
 use Rattle.std.specs.Prelude.{◌≡◌, ◌⊎◌, ℕ, Bool, true, false, List, [], ◌∷◌, Option, Some, None, Ok, if◌then◌else◌, map, option_map, slice_set}
 use Rattle.slab.specs.Slab.{Slab}
 use Rattle.tds_packet.specs.declared.status.Reset.{Reset}
@@ -11,17 +11,17 @@ use Rattle.tds_front.specs.Rules as rules
 use Rattle.tds_wire.specs.declared.told.Token.{Token}
 use Rattle.tds_service.specs.History.{Done}
 use Rattle.tds_relay.specs.declared.application.Application.{Application}
-use Rattle.tds_relay.specs.declared.desk.Desk as desks
-use Rattle.tds_relay.specs.declared.desk.coming.Heard.{Heard}
-use Rattle.tds_relay.specs.declared.desk.coming.What.{What}
+use Rattle.tds_relay.specs.declared.pool.Pool as pools
+use Rattle.tds_relay.specs.declared.pool.coming.Heard.{Heard}
+use Rattle.tds_relay.specs.declared.pool.coming.What.{What}
 use Rattle.tds_relay.specs.declared.relay.Relay as code
-use Rattle.tds_relay.specs.Desk as desk
-use Rattle.tds_relay.specs.Desk.{Desk, Way}
-use Rattle.tds_relay.specs.Hall.{End, Open, Over, Ends, Hall, Feeds, IsBegun, IsWhole, LetsGo, Moves, asks_by, change_whose, end_at, move_stage, moved, told, what_in}
-use Rattle.tds_relay.specs.House.{House}
-use Rattle.tds_relay.specs.Posts.{Posts, acknowledgement, give, posts_in}
+use Rattle.tds_relay.specs.Pool as pool
+use Rattle.tds_relay.specs.Pool.{Pool, Way}
+use Rattle.tds_relay.specs.Core.{End, Open, Over, Ends, Core, Feeds, IsBegun, IsWhole, LetsGo, Moves, asks_by, change_whose, end_at, move_stage, moved, told, what_in}
+use Rattle.tds_relay.specs.Machine.{Machine}
+use Rattle.tds_relay.specs.Queues.{Queues, acknowledgement, give, queues_in}
 use Rattle.tds_relay.specs.Taking.{IsDeaf}
-use Rattle.tds_relay.specs.Ties.{Application as ByApplication, Cause, Turns, desk_in}
+use Rattle.tds_relay.specs.Ties.{Application as ByApplication, Cause, Turns, pool_in}
 
 abbrev pub end_of : Application → End
 end_of a = if a.is_over then Over a.fault else Open a.front a.is_withdrawn a.reset
@@ -29,24 +29,24 @@ end_of a = if a.is_over then Over a.fault else Open a.front a.is_withdrawn a.res
 abbrev pub ends_in : Slab Application → Ends
 ends_in s = map (option_map end_of) s.slots
 
-abbrev pub hall_of_ends : Desk → Ends → Hall
-hall_of_ends d ends = record { desk = d; ends = ends }
+abbrev pub core_of_ends : Pool → Ends → Core
+core_of_ends d ends = record { pool = d; ends = ends }
 
-abbrev pub hall_of : desks.Desk → Slab Application → Hall
-hall_of d slab = hall_of_ends (desk_in d) (ends_in slab)
+abbrev pub core_of : pools.Pool → Slab Application → Core
+core_of d slab = core_of_ends (pool_in d) (ends_in slab)
 
-abbrev pub hall_in : code.Relay → Hall
-hall_in r = hall_of r.desk r.applications
+abbrev pub core_in : code.Relay → Core
+core_in r = core_of r.pool r.applications
 
 -- with what waits for each application
-abbrev pub house_with : Desk → Ends → Posts → House
-house_with d ends posts = record { hall = hall_of_ends d ends; posts = posts }
+abbrev pub machine_with : Pool → Ends → Queues → Machine
+machine_with d ends queues = record { core = core_of_ends d ends; queues = queues }
 
-abbrev pub house_of : desks.Desk → Slab Application → House
-house_of d slab = house_with (desk_in d) (ends_in slab) (posts_in slab)
+abbrev pub machine_of : pools.Pool → Slab Application → Machine
+machine_of d slab = machine_with (pool_in d) (ends_in slab) (queues_in slab)
 
-abbrev pub house_in : code.Relay → House
-house_in r = house_of r.desk r.applications
+abbrev pub machine_in : code.Relay → Machine
+machine_in r = machine_of r.pool r.applications
 
 -- ---- A packet that comes
 
@@ -73,15 +73,15 @@ goes_by [] end = end
 goes_by (byte ∷ bytes) end = move_stage rules.went_on end
 
 -- Bytes were put, and then its end, or that alone wasn't.
-pub record PutsOn (key : ℕ) (old new : Desk) (before after : List ℕ) (ends : Bool) : Type 0 where
+pub record PutsOn (key : ℕ) (old new : Pool) (before after : List ℕ) (ends : Bool) : Type 0 where
   pub count : ℕ
-  pub mid : Desk
+  pub mid : Pool
   pub between : List ℕ
-  pub first : Turns (desk.Does key (desk.Puts count)) old mid before between
-  pub last : ((new ≡ mid) × (after ≡ between)) ⊎ ((ends ≡ true) × (more : ℕ) × Turns (desk.Does key (desk.Ends more)) mid new between after)
+  pub first : Turns (pool.Does key (pool.Puts count)) old mid before between
+  pub last : ((new ≡ mid) × (after ≡ between)) ⊎ ((ends ≡ true) × (more : ℕ) × Turns (pool.Does key (pool.Ends more)) mid new between after)
 
 -- Or nothing was.
-abbrev pub MayPut : ℕ → Bool → Desk → Desk → List ℕ → List ℕ → Type 0
+abbrev pub MayPut : ℕ → Bool → Pool → Pool → List ℕ → List ℕ → Type 0
 MayPut key ends old new before after = ((new ≡ old) × (after ≡ before)) ⊎ PutsOn key old new before after ends
 
 -- ---- What is taken back
@@ -104,37 +104,37 @@ pub record IsFed (key : ℕ) (before now : Ends) (bytes : List ℕ) (answer : Sa
 -- ---- As calls say it
 
 -- Wherever moves that this causes led to the one, they lead to the other.
-abbrev pub Moved : Cause → Hall → Hall → Type 0
-Moved by old new = (from : Hall) → Moves by from old → Moves by from new
+abbrev pub Moved : Cause → Core → Core → Type 0
+Moved by old new = (from : Core) → Moves by from old → Moves by from new
 
 -- The same, whoever caused it.
-abbrev pub MovedOn : Hall → Hall → Type 0
+abbrev pub MovedOn : Core → Core → Type 0
 MovedOn old new = (by : Cause) → Moved by old new
 
 -- An application let its connection go first.
-abbrev pub LetsGoFirst : ℕ → Hall → Hall → Type 0
+abbrev pub LetsGoFirst : ℕ → Core → Core → Type 0
 LetsGoFirst key old new = (gives : Bool) × (way : Way) × MovedOn (moved old (LetsGo key false gives way)) new
 
 -- what an application is given by what is said of its bytes
-abbrev pub given_by : ℕ → Said → Posts → Posts
-given_by key said.Acknowledge posts = give key acknowledgement posts
-given_by key answer posts = posts
+abbrev pub given_by : ℕ → Said → Queues → Queues
+given_by key said.Acknowledge queues = give key acknowledgement queues
+given_by key answer queues = queues
 
 -- They are taken between quiet moves.
-pub record TakesBetween (key : ℕ) (old : Hall) (bytes : List ℕ) (new : Hall) : Type 0 where
-  pub mid : Hall
+pub record TakesBetween (key : ℕ) (old : Core) (bytes : List ℕ) (new : Core) : Type 0 where
+  pub mid : Core
   pub first : Moves (ByApplication key) old mid
   pub same : mid.ends ≡ old.ends
   pub next : Moves (ByApplication key) (moved mid (Feeds key bytes)) new
 
 -- Or the application is to be closed, and nothing is given to it.
-pub record ClosesInstead (key : ℕ) (answer : Said) (old new : Hall) : Type 0 where
+pub record ClosesInstead (key : ℕ) (answer : Said) (old new : Core) : Type 0 where
   pub moves : Moves (ByApplication key) old new
   pub deaf : IsDeaf (end_at new.ends key)
-  pub nothing : (posts : Posts) → given_by key answer posts ≡ posts
+  pub nothing : (queues : Queues) → given_by key answer queues ≡ queues
 
 -- So it is from where it was before it was fed.
-abbrev pub FedOn : ℕ → Said → Desk → Ends → Hall → Type 0
+abbrev pub FedOn : ℕ → Said → Pool → Ends → Core → Type 0
 FedOn key answer d now new =
     (before : Ends) (bytes : List ℕ) → IsFed key before now bytes answer
-    → TakesBetween key (hall_of_ends d before) bytes new ⊎ ClosesInstead key answer (hall_of_ends d before) new
+    → TakesBetween key (core_of_ends d before) bytes new ⊎ ClosesInstead key answer (core_of_ends d before) new

@@ -8,15 +8,15 @@ use Rattle.tds_front.specs.Serving.{Happening, Comes, Goes, Closes, Reply, Token
 use Rattle.tds_front.specs.declared.stage.Stage.TheVariants as stages
 use Rattle.tds_relay.specs.Behind.{events_along, passed}
 use Rattle.tds_relay.specs.Cutting.{ends_in}
-use Rattle.tds_relay.specs.Desk.{Event, Sharing, whose}
+use Rattle.tds_relay.specs.Pool.{Event, Sharing, whose}
 use Rattle.tds_relay.specs.Fronting.{AnswersOnce, done_on}
-use Rattle.tds_relay.specs.Hall as hall
-use Rattle.tds_relay.specs.Hall.{Move, end_at, new_hall}
-use Rattle.tds_relay.specs.House.{House, Step, Makes, Hands, Takes, Writes, Admits, Removes, Manner, CausesStep, IsRight, MayAll, after, after_all, handed, moves_of, new_house, owed}
+use Rattle.tds_relay.specs.Core as core
+use Rattle.tds_relay.specs.Core.{Move, end_at, new_core}
+use Rattle.tds_relay.specs.Machine.{Machine, Step, Makes, Hands, Takes, Writes, Admits, Removes, Manner, CausesStep, IsRight, MayAll, after, after_all, handed, moves_of, new_machine, owed}
 use Rattle.tds_relay.specs.Promises.{Each}
 use Rattle.tds_relay.specs.Ties.{Cause}
-use Rattle.tds_relay.specs.Posts.{Post, Posts, acknowledgement, post_at}
-use Rattle.tds_relay.specs.Walkers.{AllReadAnew}
+use Rattle.tds_relay.specs.Queues.{Queue, Queues, acknowledgement, queue_at}
+use Rattle.tds_relay.specs.TokenParsers.{AllReadAnew}
 
 -- ---- What it is given
 
@@ -31,12 +31,12 @@ if_its key (Some other) None = []
 if_its key (Some other) (Some pieces) = if other == key then pieces ∷ [] else []
 
 -- By a packet on the connection that it is lent: that packet. By its own attention: the acknowledgement, where its end owes it that.
-abbrev pub given : ℕ → House → Step → List Given
-given key h (Hands number header content part way manner) = if_its key (whose h.hall.desk number) (handed manner header content)
-given key h (Takes other bytes) = if_its key (Some other) (owed bytes (end_at h.hall.ends other))
+abbrev pub given : ℕ → Machine → Step → List Given
+given key h (Hands number header content part way manner) = if_its key (whose h.core.pool number) (handed manner header content)
+given key h (Takes other bytes) = if_its key (Some other) (owed bytes (end_at h.core.ends other))
 given key h _ = []
 
-abbrev pub given_all : ℕ → House → List Step → List Given
+abbrev pub given_all : ℕ → Machine → List Step → List Given
 given_all key h [] = []
 given_all key h (step ∷ steps) = given key h step ++ given_all key (after h step) steps
 
@@ -47,29 +47,29 @@ pieces_of (said ∷ others) = said ++ pieces_of others
 
 -- ---- What it is sent
 
-abbrev pub bytes_at : Option Post → List ℕ
+abbrev pub bytes_at : Option Queue → List ℕ
 bytes_at (Some p) = p.bytes
 bytes_at o = []
 
-abbrev pub sent : ℕ → House → Step → List ℕ
-sent key h (Writes other count) = if other == key then take count (bytes_at (post_at h.posts key)) else []
+abbrev pub sent : ℕ → Machine → Step → List ℕ
+sent key h (Writes other count) = if other == key then take count (bytes_at (queue_at h.queues key)) else []
 sent key h step = []
 
-abbrev pub sent_all : ℕ → House → List Step → List ℕ
+abbrev pub sent_all : ℕ → Machine → List Step → List ℕ
 sent_all key h [] = []
 sent_all key h (step ∷ steps) = sent key h step ++ sent_all key (after h step) steps
 
 -- What it was sent, and then what waits, are a front of these bytes; all of them, unless something didn't fit.
-pub record IsFrontOf (all sent : List ℕ) (o : Option Post) : Type 0 where
-  pub post : Post
-  pub there : o ≡ Some post
+pub record IsFrontOf (all sent : List ℕ) (o : Option Queue) : Type 0 where
+  pub queue : Queue
+  pub there : o ≡ Some queue
   pub rest : List ℕ
-  pub front : (sent ++ post.bytes) ++ rest ≡ all
-  pub whole : post.is_full ≡ false → rest ≡ []
+  pub front : (sent ++ queue.bytes) ++ rest ≡ all
+  pub whole : queue.is_full ≡ false → rest ≡ []
 
 -- It is there all the while.
 abbrev pub StaysBy : ℕ → Step → Type 0
-StaysBy key (Admits other ends posts) = key ≢ other
+StaysBy key (Admits other ends queues) = key ≢ other
 StaysBy key (Removes other gives way) = key ≢ other
 StaysBy key step = Unit {0}
 
@@ -78,43 +78,43 @@ StaysAll key [] = Unit {0}
 StaysAll key (step ∷ steps) = StaysBy key step × StaysAll key steps
 
 -- So it is of an application, from where this waited.
-abbrev pub IsKept : ℕ → House → List Step → Type 0
+abbrev pub IsKept : ℕ → Machine → List Step → Type 0
 IsKept key h steps =
-    (p : Post) → StaysAll key steps → post_at h.posts key ≡ Some p
-    → IsFrontOf (p.bytes ++ joined (pieces_of (given_all key h steps))) (sent_all key h steps) (post_at (after_all h steps).posts key)
+    (p : Queue) → StaysAll key steps → queue_at h.queues key ≡ Some p
+    → IsFrontOf (p.bytes ++ joined (pieces_of (given_all key h steps))) (sent_all key h steps) (queue_at (after_all h steps).queues key)
 
 -- ---- From where it has come
 
 -- An application comes, behind these steps, and these are the steps since.
 pub record Visit (sharing : Sharing) (key : ℕ) : Type 0 where
   pub before : List Step
-  pub ends : hall.Ends
-  pub posts : Posts
+  pub ends : core.Ends
+  pub queues : Queues
   pub since : List Step
-  pub may : MayAll (new_house sharing) (before ++ Admits key ends posts ∷ since)
+  pub may : MayAll (new_machine sharing) (before ++ Admits key ends queues ∷ since)
   pub stays : StaysAll key since
 
--- So one does in steps by which each packet on each connection is read from where the one before has left its walker, the first one by a
--- walker that has read nothing, as the relay's service was told.
+-- So one does in steps by which each packet on each connection is read from where the one before has left its parser, the first one by a
+-- parser that has read nothing, as the relay's service was told.
 pub record ReadVisit (sharing : Sharing) (key : ℕ) : Type 0 where
   pub visit : Visit sharing key
   pub most : ℕ
   pub features : Features
-  pub read : AllReadAnew most features (new_house sharing) (visit.before ++ Admits key visit.ends visit.posts ∷ visit.since)
+  pub read : AllReadAnew most features (new_machine sharing) (visit.before ++ Admits key visit.ends visit.queues ∷ visit.since)
 
 -- where it has come
-abbrev pub house_in : {sharing : Sharing} {key : ℕ} → Visit sharing key → House
-house_in {sharing} {key} v = after_all (new_house sharing) (v.before ++ Admits key v.ends v.posts ∷ [])
+abbrev pub machine_in : {sharing : Sharing} {key : ℕ} → Visit sharing key → Machine
+machine_in {sharing} {key} v = after_all (new_machine sharing) (v.before ++ Admits key v.ends v.queues ∷ [])
 
 abbrev pub given_in : {sharing : Sharing} {key : ℕ} → Visit sharing key → List Given
-given_in {sharing} {key} v = given_all key (house_in v) v.since
+given_in {sharing} {key} v = given_all key (machine_in v) v.since
 
 abbrev pub sent_in : {sharing : Sharing} {key : ℕ} → Visit sharing key → List ℕ
-sent_in {sharing} {key} v = sent_all key (house_in v) v.since
+sent_in {sharing} {key} v = sent_all key (machine_in v) v.since
 
 -- what waits for it at last
-abbrev pub waits_in : {sharing : Sharing} {key : ℕ} → Visit sharing key → Option Post
-waits_in {sharing} {key} v = post_at (after_all (house_in v) v.since).posts key
+abbrev pub waits_in : {sharing : Sharing} {key : ℕ} → Visit sharing key → Option Queue
+waits_in {sharing} {key} v = queue_at (after_all (machine_in v) v.since).queues key
 
 abbrev pub moves_in : List Step → List Move
 moves_in [] = []
@@ -122,11 +122,11 @@ moves_in (step ∷ steps) = moves_of step ++ moves_in steps
 
 -- what passes between it and its end (tds_front, Passing)
 abbrev pub happens_in : {sharing : Sharing} {key : ℕ} → Visit sharing key → List Happening
-happens_in {sharing} {key} v = towards None stages.Quiet (passed key (house_in v).hall (moves_in v.since))
+happens_in {sharing} {key} v = towards None stages.Quiet (passed key (machine_in v).core (moves_in v.since))
 
--- All that is done at the desk, also before it came. Each server answers each request once at most, also behind an attention.
+-- All that is done at the pool, also before it came. Each server answers each request once at most, also behind an attention.
 abbrev pub done_in : {sharing : Sharing} {key : ℕ} → Visit sharing key → List Event
-done_in {sharing} {key} v = events_along (new_hall sharing) (moves_in (v.before ++ Admits key v.ends v.posts ∷ v.since))
+done_in {sharing} {key} v = events_along (new_core sharing) (moves_in (v.before ++ Admits key v.ends v.queues ∷ v.since))
 
 abbrev pub ServersAnswerOnce : {sharing : Sharing} {key : ℕ} → Visit sharing key → Type 0
 ServersAnswerOnce {sharing} v = (number : ℕ) → AnswersOnce false (done_on sharing number (done_in v))
@@ -158,9 +158,9 @@ AreSaid (Closes ∷ later) all = AreSaid later all
 
 -- ---- In a call
 
--- Steps that this causes led from one house to the other; and what waited for each application, and behind it what they give it, is what
+-- Steps that this causes led from one machine to the other; and what waited for each application, and behind it what they give it, is what
 -- it was sent and what waits.
-pub record Gives (by : Cause) (old new : House) : Type 0 where
+pub record Gives (by : Cause) (old new : Machine) : Type 0 where
   pub steps : List Step
   pub are : after_all old steps ≡ new
   pub may : MayAll old steps

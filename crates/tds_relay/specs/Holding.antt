@@ -1,7 +1,7 @@
 -- Who holds what, found by application, by lease and by connection: beside the list, in the order of lending, stand three by rising
 -- numbers.
 use Rattle.std.specs.Prelude.{◌≡◌, ℕ, ◌==◌, List, filter}
-use Rattle.tds_relay.specs.declared.desk.Hold.{Hold}
+use Rattle.tds_relay.specs.declared.pool.Hold.{Hold}
 use Rattle.tds_relay.specs.declared.index.Indexed.{Indexed}
 use Rattle.tds_relay.specs.Sorted.{Climbs, ids_in, under}
 

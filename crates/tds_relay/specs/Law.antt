@@ -2,23 +2,23 @@
 use Rattle.std.specs.Prelude.{◌≡◌, true, ◌⊎◌, ℕ, false, List, [], ◌∷◌, ◌++◌, drop, take, Option, Some, None, if◌then◌else◌}
 use Rattle.tds_packet.specs.declared.status.Reset.{Reset}
 use Rattle.tds_packet.specs.declared.status.Reset.TheVariants.{Full, KeepTransaction}
-use Rattle.tds_relay.specs.House.{after_all}
+use Rattle.tds_relay.specs.Machine.{after_all}
 use Rattle.tds_relay.specs.Taking.{IsDeaf}
 use Rattle.tds_relay.specs.Telling.{happens_to, wants}
 use Rattle.tds_relay.specs.Reads.{FillsAt, waits_on}
 use Rattle.tds_relay.specs.declared.link.Link.{Link}
 use Rattle.tds_relay.specs.declared.application.Application.{Application}
-use Rattle.tds_relay.specs.declared.desk.Hold.{Hold}
-use Rattle.tds_relay.specs.declared.desk.Mode.TheVariants.{Transactions}
+use Rattle.tds_relay.specs.declared.pool.Hold.{Hold}
+use Rattle.tds_relay.specs.declared.pool.Mode.TheVariants.{Transactions}
 use Rattle.tds_front.specs.declared.front.Front.{Front}
 use Rattle.tds_front.specs.declared.stage.Stage.TheVariants.{Quiet}
 use Rattle.tds_relay.specs.declared.order.Order.{Order}
 use Rattle.tds_relay.specs.declared.order.Order.TheVariants as orders
-use Rattle.tds_relay.specs.Desk as desk
-use Rattle.tds_relay.specs.Desk.{Sharing, Wrong, find_key, hearing, owes_reset}
+use Rattle.tds_relay.specs.Pool as pool
+use Rattle.tds_relay.specs.Pool.{Sharing, Wrong, find_key, hearing, owes_reset}
 use Rattle.tds_relay.specs.Places.{HasNoTransaction, open_on}
-use Rattle.tds_relay.specs.Giving.{Visit, house_in}
-use Rattle.tds_relay.specs.Hall.{Hall, Move, Does, LetsGo, Loses, Replaces, Comes, Quits, AsksFor, IfOpen, IsHere, Open, done_by, end_at, moved}
+use Rattle.tds_relay.specs.Giving.{Visit, machine_in}
+use Rattle.tds_relay.specs.Core.{Core, Move, Does, LetsGo, Loses, Replaces, Comes, Quits, AsksFor, IfOpen, IsHere, Open, done_by, end_at, moved}
 
 -- ---- (1) What leaves
 
@@ -33,67 +33,67 @@ waiting_on number ls = or_nothing (waits_on number ls)
 -- ---- (2) An application keeps its session: the connection that it holds, by the lease by which it holds it
 
 -- What its request asks for lets it be parted, and nothing of that has gone on.
-abbrev pub PartsFor : (Reset → Type 0) → ℕ → Hall → Type 0
-PartsFor Asks key h = IfOpen IsHere (end_at h.ends key) × (Asks Full ⊎ (Asks KeepTransaction × HasNoTransaction h.desk key))
+abbrev pub PartsFor : (Reset → Type 0) → ℕ → Core → Type 0
+PartsFor Asks key h = IfOpen IsHere (end_at h.ends key) × (Asks Full ⊎ (Asks KeepTransaction × HasNoTransaction h.pool key))
 
 -- The only ways in which it may hold that no more: its request asks for a reset that does so; it has left; or its connection is lost, or says
 -- what no server may.
-abbrev pub Parts : (Reset → Type 0) → ℕ → Hold → Hall → Move → Type 0
-Parts Asks key hold h (Does (desk.Renews other resumes)) = (other ≡ key) × Asks KeepTransaction
+abbrev pub Parts : (Reset → Type 0) → ℕ → Hold → Core → Move → Type 0
+Parts Asks key hold h (Does (pool.Renews other resumes)) = (other ≡ key) × Asks KeepTransaction
 Parts Asks key hold h (LetsGo other parks gives way) = (other ≡ key) × PartsFor Asks key h
 Parts Asks key hold h (Replaces number) = (number ≡ hold.number) × PartsFor Asks key h
 Parts Asks key hold h (Quits other gives way) = other ≡ key
 Parts Asks key hold h (Loses number) = number ≡ hold.number
-Parts Asks key hold h (Comes number part way) = (number ≡ hold.number) × (hearing (done_by h.desk number part) ≡ Wrong)
+Parts Asks key hold h (Comes number part way) = (number ≡ hold.number) × (hearing (done_by h.pool number part) ≡ Wrong)
 Parts Asks key hold h move = ⊥
 
 -- By what the relay has of its end.
-abbrev pub KeepsSession : ℕ → Hall → Move → Type 0
+abbrev pub KeepsSession : ℕ → Core → Move → Type 0
 KeepsSession key h move =
-    (hold : Hold) → find_key key h.desk.holds ≡ Some hold
-    → (find_key key (moved h move).desk.holds ≡ Some hold) ⊎ Parts (λ reset. AsksFor reset (end_at h.ends key)) key hold h move
+    (hold : Hold) → find_key key h.pool.holds ≡ Some hold
+    → (find_key key (moved h move).pool.holds ≡ Some hold) ⊎ Parts (λ reset. AsksFor reset (end_at h.ends key)) key hold h move
 
 -- Connections are shared by transactions, its end asks nothing, took nothing back that the server hasn't acknowledged, and has been told of
 -- each reset that it asked for; and on the connection that it holds no transaction is open, and no news of a reset is to come.
-pub record Rested (h : Hall) (key : ℕ) : Type 0 where
-  pub mode : h.desk.mode ≡ Transactions
+pub record Rested (h : Core) (key : ℕ) : Type 0 where
+  pub mode : h.pool.mode ≡ Transactions
   pub front : Front
   pub end : end_at h.ends key ≡ Some (Open front false None)
   pub quiet : front.stage ≡ Quiet
   pub hold : Hold
-  pub holds : find_key key h.desk.holds ≡ Some hold
-  pub closed : open_on h.desk hold.number ≡ Some false
-  pub told : owes_reset hold.number h.desk ≡ false
+  pub holds : find_key key h.pool.holds ≡ Some hold
+  pub closed : open_on h.pool hold.number ≡ Some false
+  pub told : owes_reset hold.number h.pool ≡ false
 
 -- It is parked where it rested.
-abbrev pub IsParked : ℕ → Hall → Move → Type 0
+abbrev pub IsParked : ℕ → Core → Move → Type 0
 IsParked key h (LetsGo other true gives way) = (other ≡ key) × Rested h key
 IsParked key h move = ⊥
 
 -- Or it is parked: that is all.
-abbrev pub KeepsTransaction : ℕ → Hall → Move → Type 0
+abbrev pub KeepsTransaction : ℕ → Core → Move → Type 0
 KeepsTransaction key h move =
-    (hold : Hold) → find_key key h.desk.holds ≡ Some hold
-    → (find_key key (moved h move).desk.holds ≡ Some hold) ⊎ (Parts (λ reset. AsksFor reset (end_at h.ends key)) key hold h move ⊎ IsParked key h move)
+    (hold : Hold) → find_key key h.pool.holds ≡ Some hold
+    → (find_key key (moved h move).pool.holds ≡ Some hold) ⊎ (Parts (λ reset. AsksFor reset (end_at h.ends key)) key hold h move ⊎ IsParked key h move)
 
 -- where a visit's steps have led
-abbrev pub hall_behind : {sharing : Sharing} {key : ℕ} → Visit sharing key → Hall
-hall_behind {sharing} {key} v = (after_all (house_in v) v.since).hall
+abbrev pub core_behind : {sharing : Sharing} {key : ℕ} → Visit sharing key → Core
+core_behind {sharing} {key} v = (after_all (machine_in v) v.since).core
 
 -- The last request that has begun by its own bytes asks for this reset, and it has neither been told of it nor taken the request back; or it
 -- is to be closed.
 abbrev pub HasAsked : {sharing : Sharing} {key : ℕ} → Visit sharing key → Reset → Type 0
-HasAsked {sharing} {key} v reset = (wants None (happens_to v) ≡ Some reset) ⊎ IsDeaf (end_at (hall_behind v).ends key)
+HasAsked {sharing} {key} v reset = (wants None (happens_to v) ≡ Some reset) ⊎ IsDeaf (end_at (core_behind v).ends key)
 
 abbrev pub KeepsOwn : {sharing : Sharing} {key : ℕ} → Visit sharing key → Move → Type 0
 KeepsOwn {sharing} {key} v move =
-    (hold : Hold) → find_key key (hall_behind v).desk.holds ≡ Some hold
-    → (find_key key (moved (hall_behind v) move).desk.holds ≡ Some hold) ⊎ Parts (HasAsked v) key hold (hall_behind v) move
+    (hold : Hold) → find_key key (core_behind v).pool.holds ≡ Some hold
+    → (find_key key (moved (core_behind v) move).pool.holds ≡ Some hold) ⊎ Parts (HasAsked v) key hold (core_behind v) move
 
 abbrev pub KeepsOwnOrRests : {sharing : Sharing} {key : ℕ} → Visit sharing key → Move → Type 0
 KeepsOwnOrRests {sharing} {key} v move =
-    (hold : Hold) → find_key key (hall_behind v).desk.holds ≡ Some hold
-    → (find_key key (moved (hall_behind v) move).desk.holds ≡ Some hold) ⊎ (Parts (HasAsked v) key hold (hall_behind v) move ⊎ IsParked key (hall_behind v) move)
+    (hold : Hold) → find_key key (core_behind v).pool.holds ≡ Some hold
+    → (find_key key (moved (core_behind v) move).pool.holds ≡ Some hold) ⊎ (Parts (HasAsked v) key hold (core_behind v) move ⊎ IsParked key (core_behind v) move)
 
 -- ---- (3) Who is to be closed is ordered closed, once
 

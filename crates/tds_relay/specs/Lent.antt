@@ -3,19 +3,19 @@ use Rattle.std.specs.Prelude.{◌≡◌, ◌≢◌, ◌⊎◌, ℕ, true, false,
 use Rattle.tds_wire.specs.declared.features.Features.{Features}
 use Rattle.tds_service.specs.Beginning.{Begins}
 use Rattle.tds_relay.specs.Cutting.{at_its_beginning}
-use Rattle.tds_relay.specs.declared.desk.Hold.{Hold}
+use Rattle.tds_relay.specs.declared.pool.Hold.{Hold}
 use Rattle.tds_relay.specs.declared.link.Link.{Link}
 use Rattle.tds_relay.specs.declared.link.TheConstants.{COLUMNS}
 use Rattle.tds_relay.specs.declared.news.Known.TheVariants as knowns
 use Rattle.tds_relay.specs.declared.relay.Relay as code
 use Rattle.tds_relay.specs.Closings.{Register, open_name}
 use Rattle.tds_relay.specs.Fronts.{ends_in}
-use Rattle.tds_relay.specs.Desk.{find_key, find_number, key_of, without_number}
-use Rattle.tds_relay.specs.Hall.{end_at, holder, is_in}
+use Rattle.tds_relay.specs.Pool.{find_key, find_number, key_of, without_number}
+use Rattle.tds_relay.specs.Core.{end_at, holder, is_in}
 use Rattle.tds_relay.specs.Reads.{StaysAt, answer_at, carried_there, link_at, waits_on}
 use Rattle.tds_relay.specs.Sparing.{Held, held_at}
 use Rattle.tds_relay.specs.Taking.{IsDeaf}
-use Rattle.tds_relay.specs.Ties.{desk_in}
+use Rattle.tds_relay.specs.Ties.{pool_in}
 
 -- It stays on each, or the connection is there no more.
 pub record KeepsAnswers (old new : List Link) : Type 0 where
@@ -28,7 +28,7 @@ BeginsOn number old new = StaysAt (option_map at_its_beginning (answer_at number
 -- Packets of this size are read there, set anew, and sent. Its login acknowledged these features, no message has begun, and what is put there fits.
 abbrev pub IsMade : ℕ → Features → Link → Type 0
 IsMade size features l =
-    (l.reader.size ≡ size) × (l.answer.size ≡ size) × (l.out.size ≡ size) × Begins COLUMNS features l.answer.walker × (l.answer.known ≡ knowns.None) × (l.out.is_full ≡ false)
+    (l.reader.size ≡ size) × (l.answer.size ≡ size) × (l.out.size ≡ size) × Begins COLUMNS features l.answer.parser × (l.answer.known ≡ knowns.None) × (l.out.is_full ≡ false)
 
 abbrev pub IsMadeOn : ℕ → Features → ℕ → List Link → Type 0
 IsMadeOn size features number ls = IfSome (link_at number ls) (IsMade size features)
@@ -74,9 +74,9 @@ KeepsWaits number old new = (carried_there number new ≡ None) ⊎ (carried_the
 -- Nothing is put, and no message begins anew, on the connection that somebody holds who waits for none, but on these; and where nobody held one,
 -- only where somebody does now.
 pub record PutsOnly (But : ℕ → Type 0) (old new : code.Relay) : Type 0 where
-  pub held : (key : ℕ) (at : Held) → is_in key (desk_in old.desk).line ≡ false → held_at key old.desk ≡ Some at → But at.0 ⊎ KeepsWaits at.0 old.links.items new.links.items
-  pub free : (number : ℕ) → holder (desk_in old.desk) number ≡ None
-      → But number ⊎ (KeepsWaits number old.links.items new.links.items ⊎ IsSome (holder (desk_in new.desk) number))
+  pub held : (key : ℕ) (at : Held) → is_in key (pool_in old.pool).line ≡ false → held_at key old.pool ≡ Some at → But at.0 ⊎ KeepsWaits at.0 old.links.items new.links.items
+  pub free : (number : ℕ) → holder (pool_in old.pool) number ≡ None
+      → But number ⊎ (KeepsWaits number old.links.items new.links.items ⊎ IsSome (holder (pool_in new.pool) number))
 
 -- ---- What one application does
 
@@ -94,10 +94,10 @@ pub record KeepsToItsOwn (key : ℕ) (had : List Hold) (old : List Link) (holds 
   pub own : HoldsOrGone had holds new
 
 abbrev pub IsOnItsOwn : ℕ → code.Relay → code.Relay → Type 0
-IsOnItsOwn key old new = KeepsToItsOwn key old.desk.holds.items old.links.items new.desk.holds.items new.links.items
+IsOnItsOwn key old new = KeepsToItsOwn key old.pool.holds.items old.links.items new.pool.holds.items new.links.items
 
 abbrev pub OthersKeepAt : ℕ → code.Relay → code.Relay → Type 0
-OthersKeepAt key old new = OthersKeep key old.desk.holds.items old.links.items new.desk.holds.items new.links.items
+OthersKeepAt key old new = OthersKeep key old.pool.holds.items old.links.items new.pool.holds.items new.links.items
 
 -- They stay, or what is held of the connection of this number isn't held any more.
 abbrev pub MayForget : ℕ → List Hold → List Hold → Type 0
@@ -110,7 +110,7 @@ IsLetGo key had holds = (hold : Hold) → find_key key had ≡ Some hold → fin
 -- But on these connections the same waits, the same is known of the message, and who holds them does so still.
 abbrev pub FirstKeeps : (ℕ → Type 0) → code.Relay → code.Relay → Type 0
 FirstKeeps But old new = (number : ℕ)
-    → But number ⊎ ((find_number number new.desk.holds.items ≡ find_number number old.desk.holds.items) × (carried_there number new.links.items ≡ carried_there number old.links.items))
+    → But number ⊎ ((find_number number new.pool.holds.items ≡ find_number number old.pool.holds.items) × (carried_there number new.links.items ≡ carried_there number old.links.items))
 
 -- ---- Where those who wait are lent connections
 
@@ -121,8 +121,8 @@ pub data MayBeLent (number : ℕ) (line : List ℕ) (had : List Hold) (old : Lis
   Lends : find_number number had ≡ None → IsSome (find_number number holds) → MayBeLent number line had old holds new
 
 abbrev pub LendsInLine : code.Relay → code.Relay → Type 0
-LendsInLine old new = (number : ℕ) → MayBeLent number old.desk.line.items old.desk.holds.items old.links.items new.desk.holds.items new.links.items
+LendsInLine old new = (number : ℕ) → MayBeLent number old.pool.line.items old.pool.holds.items old.links.items new.pool.holds.items new.links.items
 
 -- This connection is one of who holds that one, if somebody does.
 abbrev pub IsWithHolder : ℕ → code.Relay → ℕ → Type 0
-IsWithHolder number r other = IsSome (holder (desk_in r.desk) number) × (holder (desk_in r.desk) other ≡ holder (desk_in r.desk) number)
+IsWithHolder number r other = IsSome (holder (pool_in r.pool) number) × (holder (pool_in r.pool) other ≡ holder (pool_in r.pool) number)

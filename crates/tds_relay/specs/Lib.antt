@@ -9,16 +9,16 @@ pub mod Cleaning
 pub mod Coming
 pub mod Closings
 pub mod Cutting
-pub mod Desk
+pub mod Pool
 pub mod Faults
 pub mod Few
 pub mod Fronting
 pub mod Fronts
-pub mod Hall
+pub mod Core
 pub mod Giving
 pub mod Handing
 pub mod Holding
-pub mod House
+pub mod Machine
 pub mod News
 pub mod Ordering
 pub mod Parking
@@ -26,7 +26,7 @@ pub mod Places
 pub mod Law
 pub mod Lent
 pub mod Linking
-pub mod Posts
+pub mod Queues
 pub mod Promises
 pub mod Reads
 pub mod Reasons
@@ -39,4 +39,4 @@ pub mod Ties
 pub mod Told
 pub mod Waiting
 pub mod Waking
-pub mod Walkers
+pub mod TokenParsers

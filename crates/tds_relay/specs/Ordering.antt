@@ -31,7 +31,7 @@ Rise low high (n ∷ ns) = (low < n) × Rise n high ns
 pub record OpensNew (old new : code.Relay) : Type 0 where
   pub more : List ℕ
   pub are : opens_in new.orders.items ≡ opens_in old.orders.items ++ more
-  pub rise : Rise old.desk.service.last new.desk.service.last more
+  pub rise : Rise old.pool.service.last new.pool.service.last more
 
 -- As many more as were ordered opened since have come to be there, at most.
 abbrev pub GrowsByOrders : code.Relay → code.Relay → Type 0

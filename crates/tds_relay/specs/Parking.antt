@@ -5,8 +5,8 @@ use Rattle.tds_relay.specs.declared.application.Application.{Application}
 use Rattle.tds_relay.specs.declared.application.Asking.{Asking}
 use Rattle.tds_relay.specs.declared.application.Asking.TheVariants as asking
 use Rattle.tds_relay.specs.declared.relay.Relay as code
-use Rattle.tds_relay.specs.Fronts.{hall_in}
-use Rattle.tds_relay.specs.Hall.{may_park}
+use Rattle.tds_relay.specs.Fronts.{core_in}
+use Rattle.tds_relay.specs.Core.{may_park}
 
 -- There is no request of it that waits or goes on.
 abbrev pub is_asking_nothing : Asking → Bool
@@ -19,4 +19,4 @@ has_no_request None = false
 has_no_request (Some a) = is_asking_nothing a.asking
 
 abbrev pub may_park_in : code.Relay → ℕ → Bool
-may_park_in r key = may_park (hall_in r) key && has_no_request (get r.applications key)
+may_park_in r key = may_park (core_in r) key && has_no_request (get r.applications key)

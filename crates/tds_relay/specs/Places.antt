@@ -8,24 +8,24 @@ use Rattle.tds_front.specs.declared.stage.Stage.TheVariants as stages
 use Rattle.tds_service.specs.Service as calls
 use Rattle.tds_service.specs.Service.{Seat, is_clean, is_open, seat_numbered}
 use Rattle.tds_relay.specs.declared.application.Application.{Application}
-use Rattle.tds_relay.specs.declared.desk.Hold.{Hold}
-use Rattle.tds_relay.specs.declared.desk.Mode.{Mode}
-use Rattle.tds_relay.specs.declared.desk.Mode.TheVariants.{Sessions, Transactions}
-use Rattle.tds_relay.specs.Desk.{Desk, find_key, find_number, key_of, next}
+use Rattle.tds_relay.specs.declared.pool.Hold.{Hold}
+use Rattle.tds_relay.specs.declared.pool.Mode.{Mode}
+use Rattle.tds_relay.specs.declared.pool.Mode.TheVariants.{Sessions, Transactions}
+use Rattle.tds_relay.specs.Pool.{Pool, find_key, find_number, key_of, next}
 
 -- the connection that an application holds
-abbrev pub held_by : Desk → ℕ → Option ℕ
+abbrev pub held_by : Pool → ℕ → Option ℕ
 held_by d key = option_map (λ (h : Hold). h.number) (find_key key d.holds)
 
 -- the application that holds the connection of this number, and where it is in the service
-abbrev pub holder : Desk → ℕ → Option ℕ
+abbrev pub holder : Pool → ℕ → Option ℕ
 holder d number = key_of (find_number number d.holds)
 
-abbrev pub seated : Desk → ℕ → Option calls.Place
+abbrev pub seated : Pool → ℕ → Option calls.Place
 seated d number = option_map (λ (c : Seat). c.place) (seat_numbered number d.service.seats)
 
 -- whether a transaction is open there that no full reset is about to end
-abbrev pub open_on : Desk → ℕ → Option Bool
+abbrev pub open_on : Pool → ℕ → Option Bool
 open_on d number = option_map (λ (c : Seat). is_open c.line.heard.mark c.line.heard.descriptor) (seat_numbered number d.service.seats)
 
 -- how many requests an application has begun
@@ -39,11 +39,11 @@ begun_more (said.Begin kind reset) count = next count
 begun_more _ count = count
 
 -- No transaction is open on the connection that it holds.
-abbrev pub IsClosedOn : Option Hold → Desk → Type 0
+abbrev pub IsClosedOn : Option Hold → Pool → Type 0
 IsClosedOn None d = Unit {0}
 IsClosedOn (Some hold) d = open_on d hold.number ≢ Some true
 
-abbrev pub HasNoTransaction : Desk → ℕ → Type 0
+abbrev pub HasNoTransaction : Pool → ℕ → Type 0
 HasNoTransaction d key = IsClosedOn (find_key key d.holds) d
 
 -- ---- At rest
@@ -63,10 +63,10 @@ abbrev pub is_clean_of : Option Seat → Bool
 is_clean_of None = false
 is_clean_of (Some c) = is_clean c.line.heard.mark c.line.heard.descriptor
 
-abbrev pub is_clean_on : ℕ → Desk → Bool
+abbrev pub is_clean_on : ℕ → Pool → Bool
 is_clean_on number d = is_clean_of (seat_numbered number d.service.seats)
 
 -- So it is of the connection that an application holds.
-abbrev pub holds_clean : Option Hold → Desk → Bool
+abbrev pub holds_clean : Option Hold → Pool → Bool
 holds_clean None d = false
 holds_clean (Some hold) d = is_clean_on hold.number d

@@ -1,14 +1,14 @@
--- What a desk promises, over any list of events.
+-- What a pool promises, over any list of events.
 use Rattle.std.specs.Prelude.{◌≡◌, ◌⊎◌, ◌<◌, ◌+◌, ℕ, ◌==◌, Bool, true, false, List, [], ◌∷◌, ◌++◌, Some, None, if◌then◌else◌}
-use Rattle.tds_relay.specs.declared.desk.Hold.{Hold}
+use Rattle.tds_relay.specs.declared.pool.Hold.{Hold}
 use Rattle.tds_wire.specs.declared.told.Token.{Token}
 use Rattle.tds_service.specs.Line as line
 use Rattle.tds_service.specs.Line.{Line, Stage}
 use Rattle.tds_service.specs.Promises.{attentions}
 use Rattle.tds_service.specs.Service as calls
 use Rattle.tds_service.specs.Service.{Call, Place, Leased, Cleaning, Kept, Free, Draining, Seat, Reply, Lent, is_clean, seat_numbered, on, step, steps}
-use Rattle.tds_relay.specs.Desk as desk
-use Rattle.tds_relay.specs.Desk.{Desk, Event, Deed, find_key, find_lease, turn, whose}
+use Rattle.tds_relay.specs.Pool as pool
+use Rattle.tds_relay.specs.Pool.{Pool, Event, Action, find_key, find_lease, turn, whose}
 
 abbrev pub Each : {X : Type 0} → (X → Type 0) → List X → Type 0
 Each P [] = Unit {0}
@@ -43,7 +43,7 @@ CaresFor holds c = IsCaredFor holds c.number c.place c.line
 -- ---- Whose a connection is
 
 -- An application holds the connection of this number, by a lease.
-pub record Holds (d : Desk) (key number : ℕ) : Type 0 where
+pub record Holds (d : Pool) (key number : ℕ) : Type 0 where
   pub hold : Hold
   pub its : find_key key d.holds ≡ Some hold
   pub seat : Seat
@@ -56,32 +56,32 @@ IsOut (line.Sending true) = Unit {0}
 IsOut line.Reading = Unit {0}
 IsOut _ = ⊥
 
-pub record Cancels (d : Desk) (key number : ℕ) : Type 0 where
+pub record Cancels (d : Pool) (key number : ℕ) : Type 0 where
   pub held : Holds d key number
   pub out : IsOut held.seat.line.stage
 
 -- An application cancels, or lets its connection go.
-abbrev pub IsStop : Deed → Type 0
-IsStop desk.Asks = ⊥
-IsStop (desk.Puts count) = ⊥
-IsStop (desk.Ends count) = ⊥
-IsStop desk.Stops = Unit {0}
+abbrev pub IsStop : Action → Type 0
+IsStop pool.Asks = ⊥
+IsStop (pool.Puts count) = ⊥
+IsStop (pool.Ends count) = ⊥
+IsStop pool.Stops = Unit {0}
 
 abbrev pub IsOf : ℕ → Event → Type 0
-IsOf key (desk.Does other deed) = (other ≡ key) × IsStop deed
-IsOf key (desk.Leaves other gives way) = other ≡ key
+IsOf key (pool.Does other action) = (other ≡ key) × IsStop action
+IsOf key (pool.Leaves other gives way) = other ≡ key
 IsOf key _ = ⊥
 
 -- the attentions that go out on a connection
-abbrev pub attentions_on : Desk → Event → ℕ → ℕ
+abbrev pub attentions_on : Pool → Event → ℕ → ℕ
 attentions_on d event n = attentions (on n (steps d.service (turn d event).calls))
 
 -- Each is of the application that holds the connection, with a request out.
-abbrev pub NoneAstray : Desk → Event → Type 0
+abbrev pub NoneAstray : Pool → Event → Type 0
 NoneAstray d event = (n : ℕ) → 0 < attentions_on d event n → (key : ℕ) × IsOf key event × Cancels d key n
 
 -- To whom a packet is handed: the application whose lease the connection is lent by.
-pub record IsHandedTo (d : Desk) (number key : ℕ) : Type 0 where
+pub record IsHandedTo (d : Pool) (number key : ℕ) : Type 0 where
   pub hold : Hold
   pub its : find_lease hold.lease d.holds ≡ Some hold
   pub key_is : hold.key ≡ key
@@ -106,14 +106,14 @@ said_by lease [] = 0
 said_by lease (call ∷ all) = says lease call + said_by lease all
 
 -- What is said of a request by the lease of an application is one call, of an event that says it for this application.
-abbrev pub SaysOnce : Desk → Event → Type 0
+abbrev pub SaysOnce : Pool → Event → Type 0
 SaysOnce d event = (key : ℕ) (h : Hold) → find_key key d.holds ≡ Some h → 0 < said_by h.lease (turn d event).calls
-    → (deed : Deed) × (event ≡ desk.Does key deed) × (said_by h.lease (turn d event).calls ≡ 1)
+    → (action : Action) × (event ≡ pool.Does key action) × (said_by h.lease (turn d event).calls ≡ 1)
 
 -- ---- Who is lent one
 
 -- A connection that somebody had before is lent only where it is clean.
-abbrev pub LendsClean : Desk → Reply → Type 0
+abbrev pub LendsClean : Pool → Reply → Type 0
 LendsClean d reply = (lease number : ℕ) → reply ≡ Lent lease number true → (c : Seat) × (seat_numbered number d.service.seats ≡ Some c) × IsClean c.line
 
 -- These stand in the other list, in this order.
@@ -124,16 +124,16 @@ IsAmong (x ∷ xs) (y ∷ ys) = ((x ≡ y) × IsAmong xs ys) ⊎ IsAmong (x ∷ 
 
 -- who begins to wait
 abbrev pub comes_to_wait : Event → List ℕ
-comes_to_wait (desk.Waits key) = key ∷ []
+comes_to_wait (pool.Waits key) = key ∷ []
 comes_to_wait _ = []
 
 -- Whoever is lent one has waited longest.
-abbrev pub LendsFirst : Desk → Type 0
-LendsFirst d = (h : Hold) → (turn d desk.Serves).desk.holds ≡ d.holds ++ h ∷ [] → d.line ≡ h.key ∷ (turn d desk.Serves).desk.line
+abbrev pub LendsFirst : Pool → Type 0
+LendsFirst d = (h : Hold) → (turn d pool.Serves).pool.holds ≡ d.holds ++ h ∷ [] → d.line ≡ h.key ∷ (turn d pool.Serves).pool.line
 
 -- ---- One is lost
 
 -- Whoever holds another holds it still, and it is as it was.
-pub record TakesOne (d : Desk) (number : ℕ) : Type 0 where
-  pub holds : (key : ℕ) (h : Hold) → find_key key d.holds ≡ Some h → (h.number == number) ≡ false → find_key key (turn d (desk.Loses number)).desk.holds ≡ Some h
-  pub seats : (n : ℕ) → (n == number) ≡ false → seat_numbered n (turn d (desk.Loses number)).desk.service.seats ≡ seat_numbered n d.service.seats
+pub record TakesOne (d : Pool) (number : ℕ) : Type 0 where
+  pub holds : (key : ℕ) (h : Hold) → find_key key d.holds ≡ Some h → (h.number == number) ≡ false → find_key key (turn d (pool.Loses number)).pool.holds ≡ Some h
+  pub seats : (n : ℕ) → (n == number) ≡ false → seat_numbered n (turn d (pool.Loses number)).pool.service.seats ≡ seat_numbered n d.service.seats

@@ -4,18 +4,18 @@ use Rattle.std.specs.List.{AllByRecursion}
 use Rattle.tds_packet.specs.Layout.{header_bytes}
 use Rattle.tds_packet.specs.Reading.{Reading, joined, with_taken}
 use Rattle.tds_packet.specs.Stream.{IsLess, IsOnePacket}
-use Rattle.tds_wire.specs.Reading as walkers
+use Rattle.tds_wire.specs.Reading as parsers
 use Rattle.tds_service.specs.declared.service.Service as services
-use Rattle.tds_relay.specs.declared.desk.coming.Heard.{Heard}
+use Rattle.tds_relay.specs.declared.pool.coming.Heard.{Heard}
 use Rattle.tds_relay.specs.declared.link.Answer.{Answer}
 use Rattle.tds_relay.specs.declared.link.Link.{Link}
 use Rattle.tds_relay.specs.Cutting.{at_its_beginning}
-use Rattle.tds_relay.specs.Hall.{Moves}
-use Rattle.tds_relay.specs.Posts.{Post, post_in}
-use Rattle.tds_relay.specs.House.{House, Step, Hands, CausesStep, MayAll, after_all}
+use Rattle.tds_relay.specs.Core.{Moves}
+use Rattle.tds_relay.specs.Queues.{Queue, queue_in}
+use Rattle.tds_relay.specs.Machine.{Machine, Step, Hands, CausesStep, MayAll, after_all}
 use Rattle.tds_relay.specs.Promises.{Each}
 use Rattle.tds_relay.specs.Ties.{Cause, Connection}
-use Rattle.tds_relay.specs.Walkers.{AllStand, AreRead, Walks, stands_behind}
+use Rattle.tds_relay.specs.TokenParsers.{AllStand, AreRead, Walks, stands_behind}
 
 -- ---- Connections by their numbers
 
@@ -69,24 +69,34 @@ answer_at number ls = option_map answer_on (link_at number ls)
 
 -- what waits to be sent on the connection of this number, if that is there
 abbrev pub bytes_on : Link → List ℕ
-bytes_on l = (post_in l.out).bytes
+bytes_on l = (queue_in l.out).bytes
 
 abbrev pub waits_on : ℕ → List Link → Option (List ℕ)
 waits_on number ls = option_map bytes_on (link_at number ls)
 
 -- with whether all fits that was put there
-abbrev pub post_on : ℕ → List Link → Option Post
-post_on number ls = option_map (λ (l : Link). post_in l.out) (link_at number ls)
+abbrev pub queue_on : ℕ → List Link → Option Queue
+queue_on number ls = option_map (λ (l : Link). queue_in l.out) (link_at number ls)
 
 -- and what is known of the message that comes there
 abbrev pub Carried : Type 0
-Carried = Post × Answer
+Carried = Queue × Answer
 
 abbrev pub carried_by : Link → Carried
-carried_by l = (post_in l.out, l.answer)
+carried_by l = (queue_in l.out, l.answer)
 
 abbrev pub carried_there : ℕ → List Link → Option Carried
 carried_there number ls = option_map carried_by (link_at number ls)
+
+-- how long its packets are, and whether something that was put there didn't fit
+abbrev pub Fullness : Type 0
+Fullness = ℕ × Bool
+
+abbrev pub fullness_of : Link → Fullness
+fullness_of l = ((queue_in l.out).size, (queue_in l.out).is_full)
+
+abbrev pub fullness_at : ℕ → List Link → Option Fullness
+fullness_at number ls = option_map fullness_of (link_at number ls)
 
 -- if that is open
 abbrev pub if_open : {A : Type 0} → Option Reading → Option A → Option A
@@ -98,6 +108,9 @@ open_waits number ls = if_open (open_at number ls) (waits_on number ls)
 
 abbrev pub open_answer : ℕ → List Link → Option Answer
 open_answer number ls = if_open (open_at number ls) (answer_at number ls)
+
+abbrev pub open_fullness : ℕ → List Link → Option Fullness
+open_fullness number ls = if_open (open_at number ls) (fullness_at number ls)
 
 -- It waits there still, in order, and more may have been put behind it; or the connection is there no more.
 abbrev pub FillsAt : Option (List ℕ) → Option (List ℕ) → Type 0
@@ -138,26 +151,29 @@ CalledAt (Some old) new = IsCalled old.1 old.2 new
 abbrev pub Sees : List Link → List Link → Type 0
 Sees old new = (number : ℕ) (had : Option Seen) → StaysAt had (seen_at number old) → StaysAt had (seen_at number new)
 
--- And what waited on one waits there still, and no more are there; what is known of a message stays, or the next one begins.
+-- And what waited on one waits there still, which is as full, and no more are there; what is known of a message stays, or the next one begins.
 pub record Stays (old new : List Link) : Type 0 where
   pub few : length new ≤ length old
   pub seen : Sees old new
   pub fills : (number : ℕ) → FillsAt (waits_on number old) (waits_on number new)
   pub begins : (number : ℕ) → MayBegin (answer_at number old) (answer_at number new)
+  pub fullness : (number : ℕ) → StaysAt (fullness_at number old) (fullness_at number new)
 
--- Each connection that is open was so, with the same of a packet, and what waited there waits still. Others may be there that are yet to be
--- opened. Each is called as it was. What is known of a message stays, or the next one begins.
+-- Each connection that is open was so, with the same of a packet, and as full, and what waited there waits still. Others may be there that are yet
+-- to be opened. Each is called as it was. What is known of a message stays, or the next one begins.
 pub record Opens (old new : List Link) : Type 0 where
   pub opens : (number : ℕ) → StaysAt (open_at number old) (open_at number new)
   pub fills : (number : ℕ) → FillsAt (open_waits number old) (open_waits number new)
   pub begins : (number : ℕ) → MayBegin (open_answer number old) (open_answer number new)
+  pub fullness : (number : ℕ) → StaysAt (open_fullness number old) (open_fullness number new)
   pub called : (number : ℕ) → CalledAt (seen_at number old) (seen_at number new)
 
--- Of the one of this number that it was open, what waited there, and what it is called, alone.
+-- Of the one of this number that it was open, how full it was, what waited there, and what it is called, alone.
 pub record OpensOthers (number : ℕ) (old new : List Link) : Type 0 where
   pub opens : (other : ℕ) → other ≢ number → StaysAt (open_at other old) (open_at other new)
   pub fills : (other : ℕ) → FillsAt (open_waits other old) (open_waits other new)
   pub begins : (other : ℕ) → other ≢ number → MayBegin (open_answer other old) (open_answer other new)
+  pub fullness : (other : ℕ) → StaysAt (open_fullness other old) (open_fullness other new)
   pub called : (other : ℕ) → CalledAt (seen_at other old) (seen_at other new)
 
 -- what has come of a packet on each that is open when the one of this number is opened
@@ -178,11 +194,12 @@ with_tag tag seen = (seen.0, seen.1, Some tag)
 abbrev pub named_seen : ℕ → ℕ → ℕ → List Link → Option Seen
 named_seen tag number other ls = if other == number then option_map (with_tag tag) (seen_at other ls) else seen_at other ls
 
--- The one of this number is opened, with what its reader had, and what waited there.
+-- The one of this number is opened, with what its reader had, and what waited there, as full as it was.
 pub record OpensOne (number : ℕ) (old new : List Link) : Type 0 where
   pub opens : (other : ℕ) → StaysAt (opened_at number other old) (open_at other new)
   pub fills : (other : ℕ) → FillsAt (if_open (opened_at number other old) (waits_on other old)) (open_waits other new)
   pub begins : (other : ℕ) → MayBegin (if_open (opened_at number other old) (answer_at other old)) (open_answer other new)
+  pub fullness : (other : ℕ) → StaysAt (if_open (opened_at number other old) (fullness_at other old)) (open_fullness other new)
   pub called : (other : ℕ) → CalledAt (opened_seen number other old) (seen_at other new)
 
 -- One has come that is open, with nothing of a packet, and no other is open; or none has.
@@ -218,8 +235,8 @@ ReadsBy (Some r) bytes packets now = IsLess r r.taken → Reads r bytes packets 
 -- ---- In a call
 
 -- These bytes were heard, up to these: the packets among them come, in order, by steps that this connection causes. Each is read from where
--- the one before has left its connection's walker.
-pub record Streams (number : ℕ) (had : Option Reading) (old : House) (from : services.Service) (bytes left : List ℕ) (now : Option Reading) (new : House) (to : services.Service) : Type 0 where
+-- the one before has left its connection's parser.
+pub record Streams (number : ℕ) (had : Option Reading) (old : Machine) (from : services.Service) (bytes left : List ℕ) (now : Option Reading) (new : Machine) (to : services.Service) : Type 0 where
   pub steps : List Step
   pub heard : List ℕ
   pub are : after_all old steps ≡ new
@@ -235,7 +252,7 @@ IsLessAt None = Unit {0}
 IsLessAt (Some r) = IsLess r r.taken
 
 -- All of them; also where the connection is lost among them, whose bytes are nothing from there on.
-pub record StreamsAll (number : ℕ) (had : Option Reading) (old : House) (from : services.Service) (bytes : List ℕ) (now : Option Reading) (new : House) (to : services.Service) : Type 0 where
+pub record StreamsAll (number : ℕ) (had : Option Reading) (old : Machine) (from : services.Service) (bytes : List ℕ) (now : Option Reading) (new : Machine) (to : services.Service) : Type 0 where
   pub left : List ℕ
   pub streams : Streams number had old from bytes left now new to
   pub all : left ≡ []
@@ -247,22 +264,22 @@ if_heard (Some heard) now = now
 
 -- Bytes that come are heard, and then those who wait are served, by which nothing comes: the connection has just what was left of them,
 -- or isn't open.
-pub record Comes (number : ℕ) (had : Option Reading) (old : House) (from : services.Service) (bytes : List ℕ) (now : Option Reading) (new : House) (to : services.Service) : Type 0 where
-  pub mid : House
+pub record Comes (number : ℕ) (had : Option Reading) (old : Machine) (from : services.Service) (bytes : List ℕ) (now : Option Reading) (new : Machine) (to : services.Service) : Type 0 where
+  pub mid : Machine
   pub left : Option Reading
   pub at : services.Service
   pub streams : StreamsAll number had old from bytes left mid at
-  pub goes_on : (by : Cause) → Moves by mid.hall new.hall
-  pub kept : new.posts ≡ mid.posts
+  pub goes_on : (by : Cause) → Moves by mid.core new.core
+  pub kept : new.queues ≡ mid.queues
   pub has : StaysAt left now
   pub stand : AllStand at to
 
 -- ---- Over calls
 
 -- What a call says of the connection of a number, which is open before it and behind it: from what its reader had to what it has, and from
--- where its walker stood to where it stands. Bytes come on the connection; or it is left so by another call.
+-- where its parser stood to where it stands. Bytes come on the connection; or it is left so by another call.
 pub data Call (number : ℕ) : Type 0 where
-  Came : (had now : Reading) (bytes : List ℕ) (old new : House) (from to : services.Service) → Comes number (Some had) old from bytes (Some now) new to → Call number
+  Came : (had now : Reading) (bytes : List ℕ) (old new : Machine) (from to : services.Service) → Comes number (Some had) old from bytes (Some now) new to → Call number
   Another : (had now : Reading) (from to : services.Service) → StaysAt (Some had) (Some now) → AllStand from to → Call number
 
 abbrev pub had_before : {number : ℕ} → Call number → Reading
@@ -296,14 +313,14 @@ FollowAt from [] to = from ≡ to
 FollowAt from (Came had now bytes old new before behind comes ∷ calls) to = (from ≡ before) × FollowAt behind calls to
 FollowAt from (Another had now before behind stays stand ∷ calls) to = (from ≡ before) × FollowAt behind calls to
 
--- where the connection's walker stands behind them
-abbrev pub stands_in : {number : ℕ} → walkers.Reading → List (Call number) → walkers.Reading
+-- where the connection's parser stands behind them
+abbrev pub stands_in : {number : ℕ} → parsers.Reading → List (Call number) → parsers.Reading
 stands_in r [] = r
 stands_in {number} r (Came had now bytes old new from to comes ∷ calls) = stands_in (stands_behind number r old comes.streams.streams.steps) calls
 stands_in r (Another had now from to stays stand ∷ calls) = stands_in r calls
 
 -- Each packet in them is read from where the one before has left it.
-abbrev pub AreReadIn : {number : ℕ} → walkers.Reading → List (Call number) → Type 0
+abbrev pub AreReadIn : {number : ℕ} → parsers.Reading → List (Call number) → Type 0
 AreReadIn r [] = Unit {0}
 AreReadIn {number} r (Came had now bytes old new from to comes ∷ calls) =
     AreRead number r old comes.streams.streams.steps × AreReadIn (stands_behind number r old comes.streams.streams.steps) calls

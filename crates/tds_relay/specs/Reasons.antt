@@ -24,33 +24,30 @@ use Rattle.tds_client.specs.declared.state.Cancelled.{Cancelled}
 use Rattle.tds_client.specs.declared.state.Cancelled.TheVariants.{Asked}
 use Rattle.tds_service.specs.Ties.{cancel_answer}
 use Rattle.tds_relay.specs.declared.application.Application.{Application}
-use Rattle.tds_relay.specs.declared.desk.Desk as desks
-use Rattle.tds_relay.specs.declared.desk.Hold.{Hold}
-use Rattle.tds_relay.specs.declared.desk.coming.Heard.{Heard}
-use Rattle.tds_relay.specs.declared.desk.coming.What.{What}
-use Rattle.tds_relay.specs.declared.desk.coming.What.TheVariants as whats
+use Rattle.tds_relay.specs.declared.pool.Pool as pools
+use Rattle.tds_relay.specs.declared.pool.Hold.{Hold}
+use Rattle.tds_relay.specs.declared.pool.coming.Heard.{Heard}
+use Rattle.tds_relay.specs.declared.pool.coming.What.{What}
+use Rattle.tds_relay.specs.declared.pool.coming.What.TheVariants as whats
 use Rattle.tds_relay.specs.declared.link.Link.{Link}
 use Rattle.tds_relay.specs.declared.relay.Relay as code
 use Rattle.tds_relay.specs.Anew.{ResetsFor}
 use Rattle.tds_relay.specs.Asking.{IsTakenBack}
-use Rattle.tds_relay.specs.Bodies.{Astray, Body, Carries, ClientPuts, ClientStops, Closed, Going, Kept, Nowhere, body_of, last_of}
+use Rattle.tds_relay.specs.Bodies.{Astray, Body, ClientPuts, ClientStops, Closed, Going, Kept, Nowhere, body_of, last_of}
 use Rattle.tds_relay.specs.Cleaning.{MayClean}
-use Rattle.tds_relay.specs.Closings.{IsNoRequest, IsWaiting, IsWho}
-use Rattle.tds_relay.specs.Desk as desk
-use Rattle.tds_relay.specs.Desk.{Desk, find_key, turn}
-use Rattle.tds_relay.specs.Few.{IsSeated}
-use Rattle.tds_relay.specs.Fronts.{MovedOn, ends_in, hall_in, house_in}
-use Rattle.tds_relay.specs.Hall.{AsksFor, End, Ends, IfOpen, IfOpenAsks, Open, Over, asks_by, end_at, holder}
+use Rattle.tds_relay.specs.Closings.{IsNoRequest, IsWho}
+use Rattle.tds_relay.specs.Pool as pool
+use Rattle.tds_relay.specs.Pool.{Pool, find_key, turn}
+use Rattle.tds_relay.specs.Fronts.{ends_in, machine_in}
+use Rattle.tds_relay.specs.Core.{AsksFor, End, Ends, IfOpen, IfOpenAsks, Open, Over, asks_by, end_at, holder}
 use Rattle.tds_relay.specs.Handing.{HearsBy, IsNothing}
-use Rattle.tds_relay.specs.House.{House}
+use Rattle.tds_relay.specs.Machine.{Machine}
 use Rattle.tds_relay.specs.Places.{HasNoTransaction, open_on}
-use Rattle.tds_relay.specs.Posts.{Post, Posts, acknowledgement, fits, give, post_at, post_in, posts_in}
-use Rattle.tds_relay.specs.Coming.{StreamsAnew}
-use Rattle.tds_relay.specs.Lent.{MayBeLent}
-use Rattle.tds_relay.specs.Reads.{Opens as OpensLinks, OpensOthers, Stays, StreamsAll, answer_at, link_at, open_at}
-use Rattle.tds_relay.specs.Sparing.{AllGo, IsKept, MayKeep}
+use Rattle.tds_relay.specs.Queues.{Queue, Queues, acknowledgement, fits, give, queue_at, queue_in, queues_in}
+use Rattle.tds_relay.specs.Reads.{Stays, link_at, open_at}
+use Rattle.tds_relay.specs.Sparing.{IsKept, MayKeep}
 use Rattle.tds_relay.specs.Taking.{IsDeaf}
-use Rattle.tds_relay.specs.Ties.{IsReached, Leaving, Turns, desk_in}
+use Rattle.tds_relay.specs.Ties.{Leaving, Turns, pool_in}
 use Rattle.tds_relay.specs.Told.{room_to_keep}
 
 -- ---- Bytes of a request aren't put on the connection that its application holds
@@ -61,7 +58,7 @@ IsReason refusals.Memory = ⊥
 IsReason _ = Unit {0}
 
 -- The application holds a connection, and what the service does by this call it refuses of that.
-pub record RefusesThere (call : ℕ → ℕ → Call Token) (key : ℕ) (d : desks.Desk) : Type 0 where
+pub record RefusesThere (call : ℕ → ℕ → Call Token) (key : ℕ) (d : pools.Pool) : Type 0 where
   pub hold : Hold
   pub its : find_key key d.holds.items ≡ Some hold
   pub refusal : Refusal
@@ -69,13 +66,13 @@ pub record RefusesThere (call : ℕ → ℕ → Call Token) (key : ℕ) (d : des
   pub refuses : (count : ℕ) → Refuses (call hold.lease count) (service_in d.service) refusal
 
 -- It holds none.
-abbrev pub IsUnheld : ℕ → desks.Desk → Type 0
+abbrev pub IsUnheld : ℕ → pools.Pool → Type 0
 IsUnheld key d = find_key key d.holds.items ≡ None
 
 -- These bytes are refused; or they are taken, and the end of their message is refused.
-pub data IsUntaken (whole : Bool) (more : List ℕ) (key : ℕ) (d : desks.Desk) : Type 0 where
+pub data IsUntaken (whole : Bool) (more : List ℕ) (key : ℕ) (d : pools.Pool) : Type 0 where
   OfBytes : RefusesThere calls.Put key d → IsUntaken whole more key d
-  OfEnd : whole ≡ true → (mid : desks.Desk) (before after : List ℕ) → ClientPuts false more key d mid before after → RefusesThere calls.Finish key mid → IsUntaken whole more key d
+  OfEnd : whole ≡ true → (mid : pools.Pool) (before after : List ℕ) → ClientPuts false more key d mid before after → RefusesThere calls.Finish key mid → IsUntaken whole more key d
 
 -- No request has begun, or all of it is to be put and hasn't come.
 abbrev pub IsUnbegun : Bool → Stage → Type 0
@@ -87,47 +84,47 @@ IsUnbegun whole (stages.Broken fault) = Unit {0}
 
 -- More would wait there behind these than may.
 abbrev pub HasNoRoom : ℕ → List ℕ → List Link → Type 0
-HasNoRoom number bytes links = option_map (λ (l : Link). fits (post_in l.out) bytes) (link_at number links) ≡ Some false
+HasNoRoom number bytes links = option_map (λ (l : Link). fits (queue_in l.out) bytes) (link_at number links) ≡ Some false
 
-pub data CannotPut (whole : Bool) (more : List ℕ) (key : ℕ) (end : Option End) (d : desks.Desk) (links : List Link) : Type 0 where
+pub data CannotPut (whole : Bool) (more : List ℕ) (key : ℕ) (end : Option End) (d : pools.Pool) (links : List Link) : Type 0 where
   Unheld : IsUnheld key d → CannotPut whole more key end d links
   Unbegun : IfOpen (IsUnbegun whole) end → CannotPut whole more key end d links
   Untaken : IsUntaken whole more key d → CannotPut whole more key end d links
   -- its client puts them, and what goes out by that doesn't fit
-  Unfit : (mid : desks.Desk) (out : List ℕ) (puts : ClientPuts whole more key d mid [] out) → HasNoRoom puts.hold.number out links → CannotPut whole more key end d links
+  Unfit : (mid : pools.Pool) (out : List ℕ) (puts : ClientPuts whole more key d mid [] out) → HasNoRoom puts.hold.number out links → CannotPut whole more key end d links
 
 -- ---- A request that waits isn't asked on the connection that its application holds
 
 -- This is open, and what its application took back is acknowledged.
-pub record IsReadyThere (key : ℕ) (end : Option End) (d : desks.Desk) (links : List Link) : Type 0 where
+pub record IsReadyThere (key : ℕ) (end : Option End) (d : pools.Pool) (links : List Link) : Type 0 where
   pub hold : Hold
   pub its : find_key key d.holds.items ≡ Some hold
   pub open_there : IsSome (open_at hold.number links)
   pub drained : ¬ IsTakenBack end
 
 -- That is refused; or it is asked, and what was kept of it isn't put.
-pub data CannotAsk (kind : MessageKind) (bytes : List ℕ) (whole : Bool) (key : ℕ) (end : Option End) (d : desks.Desk) (links : List Link) : Type 0 where
+pub data CannotAsk (kind : MessageKind) (bytes : List ℕ) (whole : Bool) (key : ℕ) (end : Option End) (d : pools.Pool) (links : List Link) : Type 0 where
   Unasked : RefusesThere (λ lease count. calls.Ask lease) key d → CannotAsk kind bytes whole key end d links
-  Unput : (hold : Hold) → find_key key d.holds.items ≡ Some hold → (mid : desks.Desk) → Turns (desk.Does key desk.Asks) (desk_in d) (desk_in mid) [] [] → Opens kind hold.lease d.service mid.service
+  Unput : (hold : Hold) → find_key key d.holds.items ≡ Some hold → (mid : pools.Pool) → Turns (pool.Does key pool.Asks) (pool_in d) (pool_in mid) [] [] → Opens kind hold.lease d.service mid.service
       → CannotPut whole bytes key end mid links → CannotAsk kind bytes whole key end d links
 
 -- That is ready for it, and it isn't asked there.
-abbrev pub CannotStart : ℕ → Option End → desks.Desk → List Link → Body → Type 0
+abbrev pub CannotStart : ℕ → Option End → pools.Pool → List Link → Body → Type 0
 CannotStart key end d links (Kept kind bytes whole) = IsReadyThere key end d links × CannotAsk kind bytes whole key end d links
 CannotStart key end d links _ = ⊥
 
 -- with what a relay has
 abbrev pub CannotStartAt : ℕ → code.Relay → Type 0
-CannotStartAt key r = CannotStart key (end_at (ends_in r.applications) key) r.desk r.links.items (body_of key r)
+CannotStartAt key r = CannotStart key (end_at (ends_in r.applications) key) r.pool r.links.items (body_of key r)
 
 -- Or it is ready, and none has begun, to which no call leads; or the reset that the request asks for isn't done with it there.
-pub data IsTurnedAway (key : ℕ) (end : Option End) (d : desks.Desk) (links : List Link) (body : Body) : Type 0 where
+pub data IsTurnedAway (key : ℕ) (end : Option End) (d : pools.Pool) (links : List Link) (body : Body) : Type 0 where
   Unstarted : CannotStart key end d links body → IsTurnedAway key end d links body
   NoneBegun : IsKept body → IsReadyThere key end d links → IfOpen (IsUnbegun false) end → IsTurnedAway key end d links body
-  Unreset : IsKept body → (ready : IsReadyThere key end d links) → IfOpenAsks (λ asks. ¬ ResetsFor asks (Some ready.hold) (desk_in d)) end → IsTurnedAway key end d links body
+  Unreset : IsKept body → (ready : IsReadyThere key end d links) → IfOpenAsks (λ asks. ¬ ResetsFor asks (Some ready.hold) (pool_in d)) end → IsTurnedAway key end d links body
 
 abbrev pub IsTurnedAwayAt : ℕ → code.Relay → Type 0
-IsTurnedAwayAt key r = IsTurnedAway key (end_at (ends_in r.applications) key) r.desk r.links.items (body_of key r)
+IsTurnedAwayAt key r = IsTurnedAway key (end_at (ends_in r.applications) key) r.pool r.links.items (body_of key r)
 
 -- ---- They can't go on
 
@@ -138,7 +135,7 @@ room_left (Some a) = room_to_keep a
 
 -- They are more than may be kept of a request that waits; or none has begun; or with them it is turned away from the connection that its
 -- application holds.
-abbrev pub CannotGoOn : Bool → List ℕ → ℕ → Option End → ℕ → desks.Desk → List Link → Body → Type 0
+abbrev pub CannotGoOn : Bool → List ℕ → ℕ → Option End → ℕ → pools.Pool → List Link → Body → Type 0
 CannotGoOn whole more key end room d links Closed = Unit {0}
 CannotGoOn whole more key end room d links Nowhere = Unit {0}
 CannotGoOn whole more key end room d links (Kept kind bytes was) = (room < length more) ⊎ (IfOpen (IsUnbegun false) end ⊎ IsTurnedAway key end d links (Kept kind (bytes ++ more) whole))
@@ -147,7 +144,7 @@ CannotGoOn whole more key end room d links (Going number client waits) = CannotP
 
 -- with what a relay has
 abbrev pub CannotGoOnAt : Bool → List ℕ → ℕ → code.Relay → Type 0
-CannotGoOnAt whole more key r = CannotGoOn whole more key (end_at (ends_in r.applications) key) (room_left (get r.applications key)) r.desk r.links.items (body_of key r)
+CannotGoOnAt whole more key r = CannotGoOn whole more key (end_at (ends_in r.applications) key) (room_left (get r.applications key)) r.pool r.links.items (body_of key r)
 
 -- ---- A request can't begin
 
@@ -160,38 +157,38 @@ HasGoneOut stages.Stopping = Unit {0}
 HasGoneOut (stages.Broken fault) = Unit {0}
 
 -- An application isn't parted from its connection: something is out there, or it has one still behind letting it go.
-pub data CannotPart (key : ℕ) (end : Option End) (d : desks.Desk) : Type 0 where
+pub data CannotPart (key : ℕ) (end : Option End) (d : pools.Pool) : Type 0 where
   Out : IfOpen HasGoneOut end → CannotPart key end d
-  Held : (mid : desks.Desk) → Leaving key (desk_in d) (desk_in mid) → IsSome (find_key key mid.holds.items) → CannotPart key end d
+  Held : (mid : pools.Pool) → Leaving key (pool_in d) (pool_in mid) → IsSome (find_key key mid.holds.items) → CannotPart key end d
 
 -- A transaction is open on the connection that it holds.
-abbrev pub HasTransaction : Desk → ℕ → Type 0
+abbrev pub HasTransaction : Pool → ℕ → Type 0
 HasTransaction d key = (hold : Hold) × (find_key key d.holds ≡ Some hold) × (open_on d hold.number ≡ Some true)
 
 -- What it holds isn't lent to it by another lease, and has to stay; or it is lent so, and turns its request away.
-pub data IsUnrenewed (Stays : Type 0) (key : ℕ) (end : Option End) (d : desks.Desk) (links : List Link) (body : Body) : Type 0 where
-  Unkept : (resumes : Bool) → (turn (desk_in d) (desk.Renews key resumes)).desk ≡ desk_in d → Stays → IsUnrenewed Stays key end d links body
-  Unserved : (resumes : Bool) (mid : desks.Desk) → MayKeep (desk_in d) key → desk_in mid ≡ (turn (desk_in d) (desk.Renews key resumes)).desk → IsTurnedAway key end mid links body → IsUnrenewed Stays key end d links body
+pub data IsUnrenewed (Stays : Type 0) (key : ℕ) (end : Option End) (d : pools.Pool) (links : List Link) (body : Body) : Type 0 where
+  Unkept : (resumes : Bool) → (turn (pool_in d) (pool.Renews key resumes)).pool ≡ pool_in d → Stays → IsUnrenewed Stays key end d links body
+  Unserved : (resumes : Bool) (mid : pools.Pool) → MayKeep (pool_in d) key → pool_in mid ≡ (turn (pool_in d) (pool.Renews key resumes)).pool → IsTurnedAway key end mid links body → IsUnrenewed Stays key end d links body
 
 -- Packets of its type are no request. Or it isn't asked on the connection that its application holds; or one that is to keep its transaction
 -- doesn't: this is open still, and the acknowledgement of what was taken back isn't what it waits for; or it isn't parted from it. That is so of
 -- one that asks for a full reset too, but no call leads to it: who begins has nothing out, and holds none behind letting it go.
-abbrev pub CannotBegin : Kind → Option Reset → ℕ → Option End → desks.Desk → List Link → Type 0
+abbrev pub CannotBegin : Kind → Option Reset → ℕ → Option End → pools.Pool → List Link → Type 0
 CannotBegin kind None key end d links = IsNoRequest kind ⊎ (IsReadyThere key end d links × (message : MessageKind) × (packets_are message ≡ kind) × CannotAsk message [] false key end d links)
 CannotBegin kind (Some KeepTransaction) key end d links =
     IsNoRequest kind
-    ⊎ (IsSome (find_key key d.holds.items) × (IsTakenBack end → HasNoTransaction (desk_in d) key) × (message : MessageKind) × (packets_are message ≡ kind)
-    × IsUnrenewed (HasTransaction (desk_in d) key ⊎ CannotPart key end d) key end d links (Kept message [] false))
+    ⊎ (IsSome (find_key key d.holds.items) × (IsTakenBack end → HasNoTransaction (pool_in d) key) × (message : MessageKind) × (packets_are message ≡ kind)
+    × IsUnrenewed (HasTransaction (pool_in d) key ⊎ CannotPart key end d) key end d links (Kept message [] false))
 CannotBegin kind (Some Full) key end d links = IsNoRequest kind ⊎ CannotPart key end d
 
 -- ---- It can't be taken back
 
 -- The service refuses to cancel it.
-abbrev pub IsUncancelled : ℕ → desks.Desk → Type 0
+abbrev pub IsUncancelled : ℕ → pools.Pool → Type 0
 IsUncancelled key d = RefusesThere (λ lease count. calls.Cancel lease) key d
 
 -- No attention goes out by its cancel.
-pub record StopsNothing (key : ℕ) (d : desks.Desk) : Type 0 where
+pub record StopsNothing (key : ℕ) (d : pools.Pool) : Type 0 where
   pub hold : Hold
   pub its : find_key key d.holds.items ≡ Some hold
   pub request : ℕ
@@ -200,25 +197,25 @@ pub record StopsNothing (key : ℕ) (d : desks.Desk) : Type 0 where
   pub not_asked : how ≢ Asked
 
 -- What goes out by it doesn't fit.
-pub record StopsUnfit (key : ℕ) (d : desks.Desk) (links : List Link) : Type 0 where
-  pub mid : desks.Desk
+pub record StopsUnfit (key : ℕ) (d : pools.Pool) (links : List Link) : Type 0 where
+  pub mid : pools.Pool
   pub out : List ℕ
   pub stops : ClientStops key d mid [] out
   pub no_room : HasNoRoom stops.hold.number out links
 
-abbrev pub IsUnstopped : ℕ → desks.Desk → Type 0
+abbrev pub IsUnstopped : ℕ → pools.Pool → Type 0
 IsUnstopped key d = IsUnheld key d ⊎ (IsUncancelled key d ⊎ StopsNothing key d)
 
-abbrev pub CannotStop : ℕ → desks.Desk → List Link → Type 0
+abbrev pub CannotStop : ℕ → pools.Pool → List Link → Type 0
 CannotStop key d links = IsUnstopped key d ⊎ StopsUnfit key d links
 
 -- one that is forgotten here alone: nothing of it may have gone out
-abbrev pub CannotUnask : ℕ → Option End → desks.Desk → List Link → Type 0
+abbrev pub CannotUnask : ℕ → Option End → pools.Pool → List Link → Type 0
 CannotUnask key end d links = IfOpen HasGoneOut end ⊎ (IsUncancelled key d ⊎ StopsUnfit key d links)
 
 -- so where its application waits no more
-pub record WaitsNoMore (Cannot : desks.Desk → Type 0) (d : desks.Desk) : Type 0 where
-  pub mid : desks.Desk
+pub record WaitsNoMore (Cannot : pools.Pool → Type 0) (d : pools.Pool) : Type 0 where
+  pub mid : pools.Pool
   pub holds : mid.holds ≡ d.holds
   pub service : mid.service ≡ d.service
   pub cannot : Cannot mid
@@ -232,29 +229,29 @@ IsAstray Astray = Unit {0}
 IsAstray (Going number client waits) = ⊥
 
 -- of which something has gone on or not
-abbrev pub CannotForget : Bool → ℕ → Option End → desks.Desk → List Link → Body → Type 0
+abbrev pub CannotForget : Bool → ℕ → Option End → pools.Pool → List Link → Body → Type 0
 CannotForget false key end d links body = IsAstray body ⊎ WaitsNoMore (λ mid. CannotUnask key end mid links) d
 CannotForget true key end d links body = WaitsNoMore (λ mid. CannotStop key mid links) d
 
 -- More would wait for it than may.
-abbrev pub IsOverfull : Option Post → Type 0
-IsOverfull post = option_map (λ (p : Post). p.is_full) post ≡ Some true
+abbrev pub IsOverfull : Option Queue → Type 0
+IsOverfull queue = option_map (λ (p : Queue). p.is_full) queue ≡ Some true
 
 -- ---- By what an application says
 
 -- A request can't begin, its bytes can't go on, or it can't be taken back; by what says nothing nobody is closed.
-abbrev pub MayClose : Said → List ℕ → ℕ → Option End → ℕ → desks.Desk → List Link → Posts → Body → Type 0
-MayClose said.Nothing taken key end room d links posts body = ⊥
-MayClose (said.Begin kind reset) taken key end room d links posts body = CannotBegin kind reset key end d links
-MayClose (said.Body count) taken key end room d links posts body = CannotGoOn false (last_of count taken) key end room d links body
-MayClose (said.End count) taken key end room d links posts body = CannotGoOn true (last_of count taken) key end room d links body
-MayClose (said.Forget gone) taken key end room d links posts body = CannotForget gone key end d links body
-MayClose said.Acknowledge taken key end room d links posts body = CannotForget false key end d links body ⊎ IsOverfull (post_at (give key acknowledgement posts) key)
-MayClose said.HandOn taken key end room d links posts body = CannotStop key d links
+abbrev pub MayClose : Said → List ℕ → ℕ → Option End → ℕ → pools.Pool → List Link → Queues → Body → Type 0
+MayClose said.Nothing taken key end room d links queues body = ⊥
+MayClose (said.Begin kind reset) taken key end room d links queues body = CannotBegin kind reset key end d links
+MayClose (said.Body count) taken key end room d links queues body = CannotGoOn false (last_of count taken) key end room d links body
+MayClose (said.End count) taken key end room d links queues body = CannotGoOn true (last_of count taken) key end room d links body
+MayClose (said.Forget gone) taken key end room d links queues body = CannotForget gone key end d links body
+MayClose said.Acknowledge taken key end room d links queues body = CannotForget false key end d links body ⊎ IsOverfull (queue_at (give key acknowledgement queues) key)
+MayClose said.HandOn taken key end room d links queues body = CannotStop key d links
 
 -- with what a relay has; this is its end
 abbrev pub MayCloseAt : Said → List ℕ → ℕ → Option End → code.Relay → Type 0
-MayCloseAt answer taken key end r = MayClose answer taken key end (room_left (get r.applications key)) r.desk r.links.items (posts_in r.applications) (body_of key r)
+MayCloseAt answer taken key end r = MayClose answer taken key end (room_left (get r.applications key)) r.pool r.links.items (queues_in r.applications) (body_of key r)
 
 abbrev pub ReasonWith : List ℕ → ℕ → code.Relay → Front → Bool → Option Reset → Result Fed FrontFault → Type 0
 ReasonWith bytes key r front withdrawn asks (Ok taken) = MayCloseAt taken.said (take taken.count bytes) key (Some (Open front withdrawn (asks_by taken.said asks))) r
@@ -269,42 +266,11 @@ ReasonBy bytes key r (Some (Over why)) = ⊥
 abbrev pub GivesReason : List ℕ → ℕ → code.Relay → Type 0
 GivesReason bytes key r = ReasonBy bytes key r (end_at (ends_in r.applications) key)
 
--- One that waits is lent a connection, in turn, and turned away there. Each that is open was so, and what waited there waits still; on this one
--- nothing else does, unless who waits held it.
-pub record IsLentInVain (r : code.Relay) (other : ℕ) : Type 0 where
-  pub waits : IsWaiting (desk_in r.desk).line other
-  pub free : desks.Desk
-  pub at : code.Relay
-  pub lent : Turns desk.Serves (desk_in free) (desk_in at.desk) [] []
-  pub moved : MovedOn (hall_in r) (hall_in at)
-  pub goes : AllGo r at
-  pub opens : OpensLinks r.links.items at.links.items
-  pub posts : IsReached (desk_in r.desk) → (number : ℕ) → MayBeLent number r.desk.line.items r.desk.holds.items r.links.items free.holds.items at.links.items
-  pub turned : IsTurnedAwayAt other at
-
--- So it is behind these bytes. A connection that is open behind them was so, and what waited there waits still.
-pub record IsLentBehind (key : ℕ) (bytes : List ℕ) (r : code.Relay) (other : ℕ) : Type 0 where
-  pub mid : code.Relay
-  pub carries : Carries key (house_in r) bytes [] (body_of key r) (body_of key mid) (house_in mid)
-  pub stays : Stays r.links.items mid.links.items
-  pub lent : IsLentInVain mid other
-
--- By one piece of these, behind others, by which none was opened, and what waited on one waits still. Or behind them it is lent a connection
--- that doesn't take its request.
-pub data HasReason (key : ℕ) (bytes : List ℕ) (r : code.Relay) : Type 0 where
-  ByPiece : (mid : code.Relay) (left : List ℕ) → Carries key (house_in r) bytes left (body_of key r) (body_of key mid) (house_in mid) → Stays r.links.items mid.links.items → GivesReason left key mid → HasReason key bytes r
-  ByLoan : IsLentBehind key bytes r key → HasReason key bytes r
-
 -- ---- Whom it may close
 
 -- This one, for that.
 abbrev pub ItselfFor : ℕ → Type 0 → ℕ → Type 0
 ItselfFor key Reason other = (other ≡ key) × Reason
-
--- An application's bytes close it for a reason that they have; of others only one that waited, and is lent a connection behind them that
--- doesn't take its request.
-abbrev pub ForReasonOrWaiting : ℕ → List ℕ → code.Relay → ℕ → Type 0
-ForReasonOrWaiting key bytes r other = ItselfFor key (HasReason key bytes r) other ⊎ ((other ≢ key) × IsWaiting (desk_in r.desk).line other × IsLentBehind key bytes r other)
 
 -- ---- By what is heard of a packet
 
@@ -313,34 +279,34 @@ abbrev pub HasTakenBack : Option ℕ → Ends → Type 0
 HasTakenBack key ends = (whose : ℕ) × (key ≡ Some whose) × (IsTakenBack (end_at ends whose) ⊎ IsDeaf (end_at ends whose))
 
 -- Whoever is handed it is closed where more would wait for it than may, or its connection is closed for what the server said there.
-abbrev pub LosesBy : What → Option ℕ → Ends → Posts → ℕ → Type 0
-LosesBy whats.Goes key ends posts other = (key ≡ Some other) × IsOverfull (post_at posts other)
-LosesBy whats.Finished key ends posts other = (key ≡ Some other) × IsOverfull (post_at posts other)
-LosesBy whats.Acknowledged key ends posts other = (key ≡ Some other) × IsOverfull (post_at posts other)
-LosesBy whats.Closed key ends posts other = key ≡ Some other
+abbrev pub LosesBy : What → Option ℕ → Ends → Queues → ℕ → Type 0
+LosesBy whats.Goes key ends queues other = (key ≡ Some other) × IsOverfull (queue_at queues other)
+LosesBy whats.Finished key ends queues other = (key ≡ Some other) × IsOverfull (queue_at queues other)
+LosesBy whats.Acknowledged key ends queues other = (key ≡ Some other) × IsOverfull (queue_at queues other)
+LosesBy whats.Closed key ends queues other = key ≡ Some other
 
 -- It isn't parted from its connection, and stays: something is out there, or none has begun; or a transaction is open, or it isn't one that asks
 -- to keep that.
-abbrev pub CannotMove : ℕ → Option End → Desk → Type 0
+abbrev pub CannotMove : ℕ → Option End → Pool → Type 0
 CannotMove key end d = (IfOpen HasGoneOut end ⊎ IfOpen (IsUnbegun false) end) ⊎ (HasTransaction d key ⊎ (¬ AsksFor KeepTransaction end))
 
 -- What it asks next is turned away; or is to keep its transaction, and doesn't.
-abbrev pub CannotResume : ℕ → Option End → desks.Desk → List Link → Body → Type 0
+abbrev pub CannotResume : ℕ → Option End → pools.Pool → List Link → Body → Type 0
 CannotResume key end d links body =
-    ((¬ AsksFor KeepTransaction end) × IsTurnedAway key end d links body) ⊎ (AsksFor KeepTransaction end × IsUnrenewed (CannotMove key end (desk_in d)) key end d links body)
+    ((¬ AsksFor KeepTransaction end) × IsTurnedAway key end d links body) ⊎ (AsksFor KeepTransaction end × IsUnrenewed (CannotMove key end (pool_in d)) key end d links body)
 
 -- This one was told so, and what it asks doesn't go on. Or it holds none, or another holds the connection of this number: to these no call leads.
-abbrev pub ResumesNot : ℕ → Option ℕ → Ends → desks.Desk → List Link → Body → ℕ → Type 0
+abbrev pub ResumesNot : ℕ → Option ℕ → Ends → pools.Pool → List Link → Body → ℕ → Type 0
 ResumesNot number key ends d links body other =
-    ((key ≡ Some other) × (IsUnheld other d ⊎ CannotResume other (end_at ends other) d links body)) ⊎ ((key ≢ Some other) × IsWho (holder (desk_in d) number) other)
+    ((key ≡ Some other) × (IsUnheld other d ⊎ CannotResume other (end_at ends other) d links body)) ⊎ ((key ≢ Some other) × IsWho (holder (pool_in d) number) other)
 
 abbrev pub ResumesNotAt : ℕ → ℕ → code.Relay → ℕ → Type 0
-ResumesNotAt number key r other = ResumesNot number (Some key) (ends_in r.applications) r.desk r.links.items (body_of other r) other
+ResumesNotAt number key r other = ResumesNot number (Some key) (ends_in r.applications) r.pool r.links.items (body_of other r) other
 
 -- So is who holds it, where a header isn't one.
-abbrev pub LosesFor : ℕ → Option Heard → Desk → Ends → Posts → ℕ → Type 0
-LosesFor number None d ends posts other = IsWho (holder d number) other
-LosesFor number (Some heard) d ends posts other = LosesBy heard.what heard.key ends posts other
+abbrev pub LosesFor : ℕ → Option Heard → Pool → Ends → Queues → ℕ → Type 0
+LosesFor number None d ends queues other = IsWho (holder d number) other
+LosesFor number (Some heard) d ends queues other = LosesBy heard.what heard.key ends queues other
 
 -- The connection stays.
 abbrev pub IsLeftOpen : Option Heard → Type 0
@@ -354,39 +320,25 @@ Cleans who heard before after = IsLeftOpen heard → MayClean who before after
 -- ---- By bytes that come
 
 -- These bytes of a connection that is open are heard so, up to the end of a packet: by its reader, and by the service.
-pub record IsHeardAs (number : ℕ) (left : List ℕ) (heard : Option Heard) (r : code.Relay) (new : House) : Type 0 where
+pub record IsHeardAs (number : ℕ) (left : List ℕ) (heard : Option Heard) (r : code.Relay) (new : Machine) : Type 0 where
   pub link : Link
   pub there : link_at number r.links.items ≡ Some link
   pub is_open : link.is_open ≡ true
   pub next : Link
   pub count : ℕ
-  pub hears : HearsBy number (reading_on number r.desk.service) link next left count heard (house_in r) new
+  pub hears : HearsBy number (reading_on number r.pool.service) link next left count heard (machine_in r) new
 
 -- Nothing was.
 abbrev pub HearsNothing : Option Heard → Type 0
 HearsNothing None = ⊥
 HearsNothing (Some heard) = IsNothing heard
 
--- The desk is as it was, and has nothing to send.
+-- The pool is as it was, and has nothing to send.
 abbrev pub IsIdle : code.Relay → code.Relay → Type 0
-IsIdle old new = (new.desk ≡ old.desk) × (new.outbox.items ≡ [])
+IsIdle old new = (new.pool ≡ old.pool) × (new.outbox.items ≡ [])
 
 -- It closes this one; or behind what it took back its next request doesn't go on.
 pub data LosesOn (number : ℕ) (left : List ℕ) (r : code.Relay) (other : ℕ) : Type 0 where
-  OfPacket : (heard : Option Heard) (new : House) → IsHeardAs number left heard r new → LosesFor number heard (desk_in r.desk) (ends_in r.applications) new.posts other → LosesOn number left r other
-  OfResuming : (heard : Heard) (new : House) → IsHeardAs number left (Some heard) r new → heard.what ≡ whats.Acknowledged → HasTakenBack heard.key (ends_in r.applications)
-      → (d : desks.Desk) → desk_in d ≡ new.hall.desk → ResumesNot number heard.key new.hall.ends d r.links.items (body_of other r) other → LosesOn number left r other
-
--- They come behind others, by which none was opened, and what waited on one waits still. Or all have come, and one that waits is lent a
--- connection that doesn't take its request.
-pub data IsClosedByHearing (number : ℕ) (bytes : List ℕ) (r : code.Relay) (other : ℕ) : Type 0 where
-  ByPacket : (mid : code.Relay) (left : List ℕ)
-      → StreamsAnew number (answer_at number r.links.items) (open_at number r.links.items) (house_in r) r.desk.service bytes left (answer_at number mid.links.items) (open_at number mid.links.items) (house_in mid) mid.desk.service
-      → OpensOthers number r.links.items mid.links.items → LosesOn number left mid other → IsClosedByHearing number bytes r other
-  InLine : (mid : code.Relay)
-      → StreamsAll number (open_at number r.links.items) (house_in r) r.desk.service bytes (open_at number mid.links.items) (house_in mid) mid.desk.service
-      → OpensOthers number r.links.items mid.links.items → IsLentInVain mid other → IsClosedByHearing number bytes r other
-
--- where the service has the connections that the relay has, as it has behind each call
-abbrev pub HeardFor : ℕ → List ℕ → code.Relay → ℕ → Type 0
-HeardFor number bytes r other = IsSeated r → IsClosedByHearing number bytes r other
+  OfPacket : (heard : Option Heard) (new : Machine) → IsHeardAs number left heard r new → LosesFor number heard (pool_in r.pool) (ends_in r.applications) new.queues other → LosesOn number left r other
+  OfResuming : (heard : Heard) (new : Machine) → IsHeardAs number left (Some heard) r new → heard.what ≡ whats.Acknowledged → HasTakenBack heard.key (ends_in r.applications)
+      → (d : pools.Pool) → pool_in d ≡ new.core.pool → ResumesNot number heard.key new.core.ends d r.links.items (body_of other r) other → LosesOn number left r other

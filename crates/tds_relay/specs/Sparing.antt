@@ -1,5 +1,5 @@
 -- What one application does leaves the requests of all others as they are.
-use Rattle.std.specs.Prelude.{◌≡◌, ◌≢◌, ◌≤◌, ◌⊎◌, true, ◌++◌, ℕ, Bool, List, [], ◌∷◌, IsSome, Option, Some, None, option_map}
+use Rattle.std.specs.Prelude.{◌≡◌, ◌≢◌, ◌≤◌, ◌⊎◌, true, false, ◌++◌, ℕ, Bool, List, [], ◌∷◌, IsSome, Option, Some, None, option_map}
 use Rattle.tds_client.specs.declared.message.MessageKind.{MessageKind}
 use Rattle.tds_client.specs.Session.{ClientSession}
 use Rattle.tds_client.specs.Streams.{opened}
@@ -8,22 +8,22 @@ use Rattle.tds_wire.specs.declared.told.Token.{Token}
 use Rattle.tds_service.specs.Service as calls
 use Rattle.tds_service.specs.Service.{Seat, Service, has_lease, step}
 use Rattle.tds_service.specs.Table.{client_of, reading_on, service_in}
-use Rattle.tds_relay.specs.declared.desk.Desk as desks
-use Rattle.tds_relay.specs.declared.desk.Hold.{Hold}
-use Rattle.tds_relay.specs.declared.desk.leaving.Renewed.{Renewed}
-use Rattle.tds_relay.specs.declared.desk.leaving.Renewed.TheVariants as renewals
+use Rattle.tds_relay.specs.declared.pool.Pool as pools
+use Rattle.tds_relay.specs.declared.pool.Hold.{Hold}
+use Rattle.tds_relay.specs.declared.pool.leaving.Renewed.{Renewed}
+use Rattle.tds_relay.specs.declared.pool.leaving.Renewed.TheVariants as renewals
 use Rattle.tds_relay.specs.declared.relay.Relay as code
 use Rattle.tds_relay.specs.Asking.{IsTakenBack}
 use Rattle.tds_relay.specs.Bodies.{ArePut, Astray, Body, Closed, Going, Kept, Nowhere, Spared, Starts, body_of}
-use Rattle.tds_relay.specs.Desk.{Desk, find_key, find_lease, ticket_in, without_lease}
+use Rattle.tds_relay.specs.Pool.{Pool, find_key, find_lease, ticket_in, without_lease}
 use Rattle.tds_relay.specs.Fronts.{ends_in}
-use Rattle.tds_relay.specs.Hall.{end_at, holder}
+use Rattle.tds_relay.specs.Core.{end_at, holder, is_in}
 use Rattle.tds_relay.specs.Promises.{Each}
 use Rattle.tds_relay.specs.Reads.{open_at, reader_at, waits_on}
-use Rattle.tds_relay.specs.Ties.{IsReached, desk_in}
-use Rattle.tds_relay.specs.Walkers.{IsLed}
+use Rattle.tds_relay.specs.Ties.{IsReached, pool_in}
+use Rattle.tds_relay.specs.TokenParsers.{IsLed}
 
--- ---- At a desk
+-- ---- At a pool
 
 -- the connection that is held, by its number, and its client
 abbrev pub Held : Type 0
@@ -34,28 +34,28 @@ held_by s None = None
 held_by s (Some hold) = option_map (λ (client : ClientSession). let held : Held = (hold.number, client) in held) (client_of hold.lease s)
 
 -- what this application holds
-abbrev pub held_at : ℕ → desks.Desk → Option Held
+abbrev pub held_at : ℕ → pools.Pool → Option Held
 held_at key d = held_by d.service (find_key key d.holds.items)
 
 -- It holds what it held; where that was nothing, nothing is said.
-abbrev pub HoldsOn : ℕ → desks.Desk → desks.Desk → Type 0
+abbrev pub HoldsOn : ℕ → pools.Pool → pools.Pool → Type 0
 HoldsOn key old new = (held_at key new ≡ held_at key old) ⊎ (held_at key old ≡ None)
 
--- All others than this one do, at a desk that was reached by events.
-pub record OthersHold (key : ℕ) (old new : desks.Desk) : Type 0 where
-  pub hold : IsReached (desk_in old) → (other : ℕ) → other ≢ key → HoldsOn other old new
+-- All others than this one do, at a pool that was reached by events.
+pub record OthersHold (key : ℕ) (old new : pools.Pool) : Type 0 where
+  pub hold : IsReached (pool_in old) → (other : ℕ) → other ≢ key → HoldsOn other old new
 
 -- each does
-pub record AllHold (old new : desks.Desk) : Type 0 where
-  pub hold : IsReached (desk_in old) → (key : ℕ) → HoldsOn key old new
+pub record AllHold (old new : pools.Pool) : Type 0 where
+  pub hold : IsReached (pool_in old) → (key : ℕ) → HoldsOn key old new
 
 -- It doesn't hold the connection of this number.
-abbrev pub IsOff : ℕ → ℕ → desks.Desk → Type 0
+abbrev pub IsOff : ℕ → ℕ → pools.Pool → Type 0
 IsOff number key d = (client : ClientSession) → held_at key d ≢ Some (number, client)
 
 -- All who don't hold it hold what they held.
-pub record OffHold (number : ℕ) (old new : desks.Desk) : Type 0 where
-  pub hold : IsReached (desk_in old) → (key : ℕ) → IsOff number key old → HoldsOn key old new
+pub record OffHold (number : ℕ) (old new : pools.Pool) : Type 0 where
+  pub hold : IsReached (pool_in old) → (key : ℕ) → IsOff number key old → HoldsOn key old new
 
 -- No connection of this lease has this number.
 pub record IsAside (lease number : ℕ) (s : Service) : Type 0 where
@@ -76,17 +76,17 @@ AsideHeld number holds old new =
     → client_of h.lease new ≡ Some client
 
 -- An application keeps its connection by another lease, the last one that is held; or nothing has changed.
-abbrev pub IsRenewed : Renewed → ℕ → desks.Desk → desks.Desk → Type 0
+abbrev pub IsRenewed : Renewed → ℕ → pools.Pool → pools.Pool → Type 0
 IsRenewed (renewals.Kept hold) key old new =
     (was : Hold) × (find_key key old.holds.items ≡ Some was) × (hold.key ≡ key) × (new.holds.items ≡ without_lease was.lease old.holds.items ++ hold ∷ [])
-IsRenewed renewals.NotKept key old new = desk_in new ≡ desk_in old
+IsRenewed renewals.NotKept key old new = pool_in new ≡ pool_in old
 
 -- The service keeps the connection that this application holds.
-abbrev pub MayKeep : Desk → ℕ → Type 0
+abbrev pub MayKeep : Pool → ℕ → Type 0
 MayKeep d key = (hold : Hold) × (find_key key d.holds ≡ Some hold) × IsSome (ticket_in (step {T = Token} d.service (calls.Keep hold.lease)).reply)
 
 -- Where that is kept, it does.
-abbrev pub IsKeptBy : Renewed → ℕ → Desk → Type 0
+abbrev pub IsKeptBy : Renewed → ℕ → Pool → Type 0
 IsKeptBy (renewals.Kept hold) key d = MayKeep d key
 IsKeptBy renewals.NotKept key d = Unit {0}
 
@@ -100,26 +100,30 @@ Rests old new = Spared old new ⊎ (old ≡ Astray)
 pub record AllRest (old new : code.Relay) : Type 0 where
   pub rest : (key : ℕ) → Rests (body_of key old) (body_of key new)
 
--- or each but that of one application.
+-- or each but that of one application,
 pub record OthersRest (key : ℕ) (old new : code.Relay) : Type 0 where
   pub rest : (other : ℕ) → other ≢ key → Rests (body_of other old) (body_of other new)
 
--- Something was put on the connection of this number, and the desk is as it was; or all stay.
+-- or each of one that waits for no connection.
+pub record AwayRest (old new : code.Relay) : Type 0 where
+  pub rest : (key : ℕ) → is_in key (pool_in old.pool).line ≡ false → Rests (body_of key old) (body_of key new)
+
+-- Something was put on the connection of this number, and the pool is as it was; or all stay.
 abbrev pub SendsOn : ℕ → code.Relay → code.Relay → Type 0
 SendsOn number old new =
-    ((new.desk ≡ old.desk) × ((other : ℕ) → other ≢ number → waits_on other new.links.items ≡ waits_on other old.links.items)) ⊎ AllRest old new
+    ((new.pool ≡ old.pool) × ((other : ℕ) → other ≢ number → waits_on other new.links.items ≡ waits_on other old.links.items)) ⊎ AllRest old new
 
--- Each stays or starts, where the desk was reached by events.
+-- Each stays or starts, where the pool was reached by events.
 pub record AllGo (old new : code.Relay) : Type 0 where
-  pub go : IsReached (desk_in old.desk) → (key : ℕ) → Starts (body_of key old) (body_of key new)
+  pub go : IsReached (pool_in old.pool) → (key : ℕ) → Starts (body_of key old) (body_of key new)
 
 -- or each but that of one application
 pub record OthersGo (key : ℕ) (old new : code.Relay) : Type 0 where
-  pub go : IsReached (desk_in old.desk) → (other : ℕ) → other ≢ key → Starts (body_of other old) (body_of other new)
+  pub go : IsReached (pool_in old.pool) → (other : ℕ) → other ≢ key → Starts (body_of other old) (body_of other new)
 
 -- or each but this one, if there is one, that doesn't hold the connection of this number
 pub record OffGo (number : ℕ) (who : Option ℕ) (old new : code.Relay) : Type 0 where
-  pub go : IsReached (desk_in old.desk) → (key : ℕ) → who ≢ Some key → holder (desk_in old.desk) number ≢ Some key → Starts (body_of key old) (body_of key new)
+  pub go : IsReached (pool_in old.pool) → (key : ℕ) → who ≢ Some key → holder (pool_in old.pool) number ≢ Some key → Starts (body_of key old) (body_of key new)
 
 -- ---- A request that has waited
 
@@ -142,7 +146,7 @@ HasGone (Going number client waits) = Unit {0}
 -- It waits: what its application took back isn't acknowledged yet, or the connection that this holds isn't open.
 pub data IsHeldBack (key : ℕ) (r : code.Relay) : Type 0 where
   Drains : IsTakenBack (end_at (ends_in r.applications) key) → IsHeldBack key r
-  Opens : (hold : Hold) → find_key key r.desk.holds.items ≡ Some hold → open_at hold.number r.links.items ≡ None → IsHeldBack key r
+  Opens : (hold : Hold) → find_key key r.pool.holds.items ≡ Some hold → open_at hold.number r.links.items ≡ None → IsHeldBack key r
 
 -- As it starts, but what is put of it waits behind this, once, and nothing else does.
 pub data StartsBehind (waited : Option (List ℕ)) : Body → Body → Type 0 where
@@ -154,12 +158,12 @@ pub data StartsBehind (waited : Option (List ℕ)) : Body → Body → Type 0 wh
 -- behind what waited on the connection that its application holds
 abbrev pub StartsThere : ℕ → code.Relay → code.Relay → Type 0
 StartsThere key old new =
-    (hold : Hold) → find_key key old.desk.holds.items ≡ Some hold → StartsBehind (waits_on hold.number old.links.items) (body_of key old) (body_of key new)
+    (hold : Hold) → find_key key old.pool.holds.items ≡ Some hold → StartsBehind (waits_on hold.number old.links.items) (body_of key old) (body_of key new)
 
 -- One that was kept for the connection of this number goes on there now, behind what waited there; but where what its application took back
 -- isn't acknowledged yet, and where there is no such connection.
 pub record StartsOn (number : ℕ) (old new : code.Relay) : Type 0 where
-  pub start : (key : ℕ) (client : ClientSession) → held_at key old.desk ≡ Some (number, client) → IsKept (body_of key old)
+  pub start : (key : ℕ) (client : ClientSession) → held_at key old.pool ≡ Some (number, client) → IsKept (body_of key old)
       → (HasGone (body_of key new) × StartsBehind (waits_on number old.links.items) (body_of key old) (body_of key new)) ⊎ (IsTakenBack (end_at (ends_in old.applications) key) ⊎ (reader_at number old.links.items ≡ None))
 
 -- ---- Over calls
@@ -185,7 +189,7 @@ IsLeft (Going number client waits) new = (new ≡ Going number client waits) ⊎
 -- Calls of which each lets all requests stay or start led from one relay to the next.
 abbrev pub AreCalls : code.Relay → List code.Relay → Type 0
 AreCalls r [] = Unit {0}
-AreCalls r (next ∷ more) = IsReached (desk_in r.desk) × AllGo r next × AreCalls next more
+AreCalls r (next ∷ more) = IsReached (pool_in r.pool) × AllGo r next × AreCalls next more
 
 -- the last one
 abbrev pub behind_all : code.Relay → List code.Relay → code.Relay

@@ -3,8 +3,8 @@ use Rattle.std.specs.Prelude.{◌≡◌, ◌⊎◌, ℕ, List, [], ◌∷◌, dr
 use Rattle.tds_front.specs.declared.fault.FrontFault.{FrontFault}
 use Rattle.tds_front.specs.declared.front.Fed.{Fed}
 use Rattle.tds_front.specs.Bytes.{fed}
-use Rattle.tds_relay.specs.Hall.{End, Open, Over, end_at}
-use Rattle.tds_relay.specs.House.{House, Step, Takes, CausesStep, MayAll, after, after_all}
+use Rattle.tds_relay.specs.Core.{End, Open, Over, end_at}
+use Rattle.tds_relay.specs.Machine.{Machine, Step, Takes, CausesStep, MayAll, after, after_all}
 use Rattle.tds_relay.specs.Promises.{Each}
 use Rattle.tds_relay.specs.Ties.{Application}
 
@@ -24,22 +24,22 @@ left_by bytes (Some (Open front withdrawn asks)) = drop (count_by (fed front byt
 left_by bytes end = bytes
 
 -- Steps take these bytes, each what the one before has left, up to these.
-abbrev pub AreTaken : ℕ → House → List Step → List ℕ → List ℕ → Type 0
+abbrev pub AreTaken : ℕ → Machine → List Step → List ℕ → List ℕ → Type 0
 AreTaken key h [] bytes left = bytes ≡ left
 AreTaken key h (Takes other more ∷ steps) bytes left =
-    (other ≡ key) × (more ≡ bytes) × AreTaken key (after h (Takes other more)) steps (left_by bytes (end_at h.hall.ends key)) left
+    (other ≡ key) × (more ≡ bytes) × AreTaken key (after h (Takes other more)) steps (left_by bytes (end_at h.core.ends key)) left
 AreTaken key h (step ∷ steps) bytes left = AreTaken key (after h step) steps bytes left
 
 -- By steps that it causes an application's bytes were taken, up to these; or it is to be closed.
-pub record Tells (key : ℕ) (old : House) (bytes left : List ℕ) (new : House) : Type 0 where
+pub record Tells (key : ℕ) (old : Machine) (bytes left : List ℕ) (new : Machine) : Type 0 where
   pub steps : List Step
   pub are : after_all old steps ≡ new
   pub may : MayAll old steps
   pub caused : Each (CausesStep (Application key)) steps
   pub rest : List ℕ
   pub takes : AreTaken key old steps bytes rest
-  pub all : (rest ≡ left) ⊎ IsDeaf (end_at new.hall.ends key)
+  pub all : (rest ≡ left) ⊎ IsDeaf (end_at new.core.ends key)
 
 -- Whatever was taken before, these bytes are taken behind it, up to these.
-abbrev pub TellsOn : ℕ → List ℕ → List ℕ → House → House → Type 0
-TellsOn key left rest old new = (first : House) (bytes : List ℕ) → Tells key first bytes left old → Tells key first bytes rest new
+abbrev pub TellsOn : ℕ → List ℕ → List ℕ → Machine → Machine → Type 0
+TellsOn key left rest old new = (first : Machine) (bytes : List ℕ) → Tells key first bytes left old → Tells key first bytes rest new

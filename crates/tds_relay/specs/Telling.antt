@@ -9,12 +9,12 @@ use Rattle.tds_front.specs.declared.front.Said.TheVariants as said
 use Rattle.tds_front.specs.Bytes.{fed}
 use Rattle.tds_wire.specs.declared.told.Token.{Token}
 use Rattle.tds_service.specs.Parts.{Part}
-use Rattle.tds_relay.specs.declared.desk.coming.What.{What}
-use Rattle.tds_relay.specs.Desk.{Sharing, owes_reset, whose}
-use Rattle.tds_relay.specs.Giving.{Visit, house_in}
-use Rattle.tds_relay.specs.Hall.{End, Open, Over, done_by, end_at, what_in}
-use Rattle.tds_relay.specs.House as house
-use Rattle.tds_relay.specs.House.{House, Manner, Step, Whole, Without, Withheld, after, tellings}
+use Rattle.tds_relay.specs.declared.pool.coming.What.{What}
+use Rattle.tds_relay.specs.Pool.{Sharing, owes_reset, whose}
+use Rattle.tds_relay.specs.Giving.{Visit, machine_in}
+use Rattle.tds_relay.specs.Core.{End, Open, Over, done_by, end_at, what_in}
+use Rattle.tds_relay.specs.Machine as machine
+use Rattle.tds_relay.specs.Machine.{Machine, Manner, Step, Whole, Without, Withheld, after, tellings}
 use Rattle.tds_relay.specs.Promises.{one_if}
 
 pub data Event : Type 0 where
@@ -43,22 +43,22 @@ asked_in bytes (Some (Open front withdrawn asks)) = asked (fed front bytes).brin
 asked_in bytes (Some (Over why)) = []
 
 abbrev pub heard_in : Bool → What → Manner → Part Token → List Event
-heard_in owed what (Whole tells) part = Hears (house.acknowledges what) (tellings owed (Whole tells) part) ∷ []
-heard_in owed what (Without tells bytes) part = Hears (house.acknowledges what) (tellings owed (Without tells bytes) part) ∷ []
+heard_in owed what (Whole tells) part = Hears (machine.acknowledges what) (tellings owed (Whole tells) part) ∷ []
+heard_in owed what (Without tells bytes) part = Hears (machine.acknowledges what) (tellings owed (Without tells bytes) part) ∷ []
 heard_in owed what Withheld part = []
 
 abbrev pub if_its : ℕ → Option ℕ → List Event → List Event
 if_its key None events = []
 if_its key (Some other) events = if other == key then events else []
 
-abbrev pub happens : ℕ → House → Step → List Event
-happens key h (house.Hands number header content part way manner) = if_its key (whose h.hall.desk number) (heard_in (owes_reset number h.hall.desk) (what_in (done_by h.hall.desk number part)) manner part)
-happens key h (house.Takes other bytes) = if_its key (Some other) (asked_in bytes (end_at h.hall.ends key))
+abbrev pub happens : ℕ → Machine → Step → List Event
+happens key h (machine.Hands number header content part way manner) = if_its key (whose h.core.pool number) (heard_in (owes_reset number h.core.pool) (what_in (done_by h.core.pool number part)) manner part)
+happens key h (machine.Takes other bytes) = if_its key (Some other) (asked_in bytes (end_at h.core.ends key))
 happens key h _ = []
 
 -- ---- Along steps
 
-abbrev pub happen : ℕ → House → List Step → List Event
+abbrev pub happen : ℕ → Machine → List Step → List Event
 happen key h [] = []
 happen key h (step ∷ steps) = happens key h step ++ happen key (after h step) steps
 
@@ -85,4 +85,4 @@ AsksJust asks (Some (Over why)) = Unit {0}
 
 -- from where an application has come
 abbrev pub happens_to : {sharing : Sharing} {key : ℕ} → Visit sharing key → List Event
-happens_to {sharing} {key} v = happen key (house_in v) v.since
+happens_to {sharing} {key} v = happen key (machine_in v) v.since

@@ -13,7 +13,7 @@ use Rattle.tds_relay.specs.declared.relay.places.Place.{Place}
 use Rattle.tds_relay.specs.declared.relay.places.Place.TheVariants.{Quiet, Holding, Waiting, Opening, Asking as Asks, Cancelling, Over}
 use Rattle.tds_relay.specs.declared.relay.places.PlaceOn.{PlaceOn}
 use Rattle.tds_relay.specs.declared.relay.places.PlaceOn.TheVariants as on
-use Rattle.tds_relay.specs.Desk.{Desk, owes_reset}
+use Rattle.tds_relay.specs.Pool.{Pool, owes_reset}
 use Rattle.tds_relay.specs.News.{holds_back}
 use Rattle.tds_relay.specs.Places.{held_by, holder, seated}
 use Rattle.tds_relay.specs.Reads.{link_at, waits_on}
@@ -21,7 +21,7 @@ use Rattle.tds_relay.specs.declared.application.TheConstants.{MOST_HELD}
 use Rattle.tds_relay.specs.declared.outgoing.TheConstants.{ACKNOWLEDGED, ATTENTION, BESIDE, PIECE}
 use Rattle.tds_relay.specs.declared.relay.Relay as code
 use Rattle.tds_relay.specs.Bounds.{waiting_for, waiting_in}
-use Rattle.tds_relay.specs.Ties.{desk_in}
+use Rattle.tds_relay.specs.Ties.{pool_in}
 
 -- ---- Where an application is
 
@@ -72,7 +72,7 @@ connection_place (Some false) held_by seat = Some on.Opening
 connection_place (Some true) (Some key) seat = Some (on.Held key)
 connection_place (Some true) None seat = option_map nobodys_place seat
 
-abbrev pub place_on : Desk → List Link → ℕ → Option PlaceOn
+abbrev pub place_on : Pool → List Link → ℕ → Option PlaceOn
 place_on d ls number = connection_place (has_login number ls) (holder d number) (seated d number)
 
 -- ---- How much of an application may be read, so that all of it fits
@@ -109,7 +109,7 @@ room_with waits (Some a) = if a.is_over then 0 else min (room_behind waits) (own
 
 -- what waits to be sent on the connection that it holds
 abbrev pub waits_where : ℕ → code.Relay → Option (List ℕ)
-waits_where key r = option_and_then (λ (number : ℕ). waits_on number r.links.items) (held_by (desk_in r.desk) key)
+waits_where key r = option_and_then (λ (number : ℕ). waits_on number r.links.items) (held_by (pool_in r.pool) key)
 
 abbrev pub room_at : ℕ → code.Relay → ℕ
 room_at key r = room_with (waits_where key r) (get r.applications key)
@@ -135,11 +135,11 @@ room_held l owes (Some a) = room_beside (may_grow a l owes) (PIECE - waiting_in 
 
 abbrev pub room_for : ℕ → Link → Option ℕ → code.Relay → ℕ
 room_for number l None r = PIECE
-room_for number l (Some key) r = room_held l (owes_reset number (desk_in r.desk)) (get r.applications key)
+room_for number l (Some key) r = room_held l (owes_reset number (pool_in r.pool)) (get r.applications key)
 
 abbrev pub room_from : ℕ → Option Link → code.Relay → ℕ
 room_from number None r = 0
-room_from number (Some l) r = room_for number l (holder (desk_in r.desk) number) r
+room_from number (Some l) r = room_for number l (holder (pool_in r.pool) number) r
 
 abbrev pub room_there : ℕ → code.Relay → ℕ
 room_there number r = room_from number (link_at number r.links.items) r
@@ -158,11 +158,11 @@ name_on number ls = option_and_then tag_in (link_at number ls)
 
 -- Where more may wait for an application, the connection that it holds may be read again.
 abbrev pub held_name : ℕ → code.Relay → Option ℕ
-held_name key r = option_and_then (λ (number : ℕ). name_on number r.links.items) (held_by (desk_in r.desk) key)
+held_name key r = option_and_then (λ (number : ℕ). name_on number r.links.items) (held_by (pool_in r.pool) key)
 
 -- Where more may wait on a connection, the application that holds it may be read again.
 abbrev pub holder_name : ℕ → code.Relay → Option ℕ
-holder_name number r = option_and_then (λ (key : ℕ). name_of (get r.applications key)) (holder (desk_in r.desk) number)
+holder_name number r = option_and_then (λ (key : ℕ). name_of (get r.applications key)) (holder (pool_in r.pool) number)
 
 -- There is a connection of this number.
 abbrev pub is_there : ℕ → List Link → Bool
@@ -170,9 +170,9 @@ is_there number ls = is_some (link_at number ls)
 
 -- ---- What the relay has done, and why it has closed a connection
 
--- Requests and cancels are the desk's.
+-- Requests and cancels are the pool's.
 abbrev pub counts_in : code.Relay → Counts
-counts_in r = record { requests = r.desk.figures.requests; cancels = r.desk.figures.cancels; cleanings = r.cleanings; failed = r.failed }
+counts_in r = record { requests = r.pool.figures.requests; cancels = r.pool.figures.cancels; cleanings = r.cleanings; failed = r.failed }
 
 -- He is told the same, and packets are as long, of which the logins acknowledge the same.
 pub record TellsTheSame (old new : code.Relay) : Type 0 where

@@ -1,27 +1,34 @@
--- That no request is forgotten which waits, and why it is turned away as its connection opens.
+-- That no request is forgotten which waits, and whom a call closes: who is turned away as its connection opens, or is lent one that doesn't take
+-- what it asks; and by a piece of what it says, or a packet.
+use Rattle.tds_front.specs.declared.front.Said.TheVariants as said
+use Rattle.tds_relay.specs.declared.application.Asking.TheVariants as asking
+use Rattle.tds_relay.specs.declared.pool.coming.What.TheVariants as whats
+use Rattle.tds_relay.specs.declared.relay.Relay as code
+use Rattle.tds_relay.specs.declared.pool.Pool as pools
+use Rattle.tds_relay.specs.Pool as pool
 use Rattle.std.specs.Prelude.{◌≡◌, ◌≢◌, ◌≤◌, ◌⊎◌, ◌++◌, ℕ, Bool, true, false, length, List, [], IsSome, Option, Some, None}
 use Rattle.tds_packet.specs.declared.status.Reset.TheVariants.{KeepTransaction}
 use Rattle.tds_client.specs.declared.message.MessageKind.{MessageKind}
 use Rattle.tds_front.specs.declared.front.Said.{Said}
-use Rattle.tds_front.specs.declared.front.Said.TheVariants as said
 use Rattle.tds_relay.specs.declared.application.Application.{Application}
-use Rattle.tds_relay.specs.declared.application.Asking.TheVariants as asking
-use Rattle.tds_relay.specs.declared.desk.coming.Heard.{Heard}
-use Rattle.tds_relay.specs.declared.desk.coming.What.TheVariants as whats
+use Rattle.tds_relay.specs.declared.pool.coming.Heard.{Heard}
 use Rattle.tds_relay.specs.declared.link.Link.{Link}
-use Rattle.tds_relay.specs.declared.relay.Relay as code
-use Rattle.tds_relay.specs.Bodies.{Body, Kept, body_of, last_of}
-use Rattle.tds_relay.specs.Closings.{IsWaiting, IsWho}
-use Rattle.tds_relay.specs.Desk.{find_key}
-use Rattle.tds_relay.specs.Fronts.{end_of, ends_in, told_by}
-use Rattle.tds_relay.specs.Posts.{posts_in}
-use Rattle.tds_relay.specs.Hall.{AsksFor, IfOpen, IsBegun, end_at, holder, is_in}
-use Rattle.tds_relay.specs.Reads.{open_at, opened_at, post_on}
-use Rattle.tds_relay.specs.Reasons.{HasNoRoom, HasTakenBack, IsLeftOpen, IsTurnedAway, IsTurnedAwayAt, IsUnheld, LosesFor, ResumesNot}
-use Rattle.tds_relay.specs.Sparing.{IsHeldBack, IsUnkept}
+use Rattle.tds_relay.specs.Bodies.{Body, Kept, body_of, last_of, Carries, HeedsAll, standing_in}
+use Rattle.tds_relay.specs.Closings.{IsWho, IsWaiting}
+use Rattle.tds_relay.specs.Pool.{find_key, Sharing, without}
+use Rattle.tds_relay.specs.Fronts.{end_of, ends_in, told_by, MovedOn, core_in, machine_in}
+use Rattle.tds_relay.specs.Queues.{queues_in}
+use Rattle.tds_relay.specs.Core.{AsksFor, IfOpen, IsBegun, end_at, holder, is_in}
+use Rattle.tds_relay.specs.Reads.{open_at, opened_at, queue_on, Opens, OpensOne, OpensOthers, Stays, StreamsAll, answer_at}
+use Rattle.tds_relay.specs.Reasons.{HasNoRoom, HasTakenBack, IsLeftOpen, IsTurnedAway, IsTurnedAwayAt, IsUnheld, LosesFor, ResumesNot, GivesReason, IsReadyThere, ItselfFor, LosesOn}
+use Rattle.tds_relay.specs.Sparing.{IsHeldBack, IsUnkept, AllGo, IsKept}
 use Rattle.tds_relay.specs.Taking.{IsDeaf}
-use Rattle.tds_relay.specs.Ties.{desk_in}
+use Rattle.tds_relay.specs.Ties.{pool_in, Cause, IsReached, Neither, Turns}
 use Rattle.tds_relay.specs.Told.{room_to_keep}
+use Rattle.tds_relay.specs.Coming.{StreamsAnew}
+use Rattle.tds_relay.specs.Few.{IsSeated}
+use Rattle.tds_relay.specs.Lent.{FirstKeeps, IsWithHolder, MayBeLent, OthersKeepAt}
+use Rattle.tds_relay.specs.Machine.{IsLedTo, Steps}
 
 -- It goes on, or waits for its connection to open, or for the acknowledgement of what its application took back.
 abbrev pub GoesOrWaits : ℕ → code.Relay → Type 0
@@ -33,9 +40,9 @@ Resumes key old new = AsksFor KeepTransaction (end_at (ends_in old.applications)
 
 -- Its application stands in the line; or is to be closed, or holds a connection.
 pub data StandsInLine (key : ℕ) (r : code.Relay) : Type 0 where
-  Stands : is_in key r.desk.line.items ≡ true → StandsInLine key r
+  Stands : is_in key r.pool.line.items ≡ true → StandsInLine key r
   Closes : IsDeaf (end_at (ends_in r.applications) key) → StandsInLine key r
-  Holds : IsSome (find_key key r.desk.holds.items) → StandsInLine key r
+  Holds : IsSome (find_key key r.pool.holds.items) → StandsInLine key r
 
 -- What was heard of a packet, if something was, acknowledges nothing.
 abbrev pub IsNotAcknowledged : Option Heard → Type 0
@@ -60,24 +67,23 @@ KeepsSaid _ taken old new = Unit {0}
 -- That of this number is open now, and the same waits on each.
 pub record IsOpened (number : ℕ) (old new : List Link) : Type 0 where
   pub opens : (other : ℕ) → open_at other new ≡ opened_at number other old
-  pub posts : (other : ℕ) → post_on other new ≡ post_on other old
+  pub queues : (other : ℕ) → queue_on other new ≡ queue_on other old
 
--- Who holds it is turned away there. Or one that waits may be lent a connection that doesn't take its request.
+-- Who holds it is turned away there.
 abbrev pub OpensFor : ℕ → code.Relay → ℕ → Type 0
 OpensFor number r other =
-    (IsWho (holder (desk_in r.desk) number) other × (links : List Link) × IsOpened number r.links.items links × IsTurnedAway other (end_at (ends_in r.applications) other) r.desk links (body_of other r))
-    ⊎ IsWaiting (desk_in r.desk).line other
+    IsWho (holder (pool_in r.pool) number) other × (links : List Link) × IsOpened number r.links.items links × IsTurnedAway other (end_at (ends_in r.applications) other) r.pool links (body_of other r)
 
 -- ---- As the code has it
 
 -- The same waits on each, and each that is open was so.
-pub record KeepsPosts (old new : List Link) : Type 0 where
-  pub posts : (number : ℕ) → post_on number new ≡ post_on number old
+pub record KeepsQueues (old new : List Link) : Type 0 where
+  pub queues : (number : ℕ) → queue_on number new ≡ queue_on number old
   pub opens : (number : ℕ) → IsSome (open_at number new) → IsSome (open_at number old)
 
 -- An application holds none; or it is turned away.
 abbrev pub IsUnheldOrTurnedAway : ℕ → code.Relay → Type 0
-IsUnheldOrTurnedAway key r = IsUnheld key r.desk ⊎ IsTurnedAwayAt key r
+IsUnheldOrTurnedAway key r = IsUnheld key r.pool ⊎ IsTurnedAwayAt key r
 
 -- ---- By a packet that has been handed on
 
@@ -86,10 +92,97 @@ abbrev pub ResumesAt : ℕ → Option Heard → code.Relay → ℕ → Type 0
 ResumesAt number None r other = ⊥
 ResumesAt number (Some heard) r other =
     (heard.what ≡ whats.Acknowledged) × HasTakenBack heard.key (ends_in r.applications)
-    × (r.outbox.items ≡ [] → ResumesNot number heard.key (told_by (Some heard) (ends_in r.applications)) r.desk r.links.items (body_of other r) other)
+    × (r.outbox.items ≡ [] → ResumesNot number heard.key (told_by (Some heard) (ends_in r.applications)) r.pool r.links.items (body_of other r) other)
 
 -- It closes this one; or what goes out by it to who holds the connection doesn't fit, where that stays.
 abbrev pub LosesAt : ℕ → Option Heard → code.Relay → ℕ → Type 0
 LosesAt number heard r other =
-    LosesFor number heard (desk_in r.desk) (ends_in r.applications) (posts_in r.applications) other
-    ⊎ ((IsWho (holder (desk_in r.desk) number) other × (IsLeftOpen heard → (r.outbox.items ≢ []) × HasNoRoom number r.outbox.items r.links.items)) ⊎ ResumesAt number heard r other)
+    LosesFor number heard (pool_in r.pool) (ends_in r.applications) (queues_in r.applications) other
+    ⊎ ((IsWho (holder (pool_in r.pool) number) other × (IsLeftOpen heard → (r.outbox.items ≢ []) × HasNoRoom number r.outbox.items r.links.items)) ⊎ ResumesAt number heard r other)
+
+-- ---- By a loan
+
+-- One that waits, and holds no connection, is lent one in turn, and turned away there: by the first one that it is lent, wherever steps led to
+-- the relay from a new one. Each that is open was so, and what waited there waits still; on this one nothing else does, unless who waits held it.
+pub record IsLentInVain (r : code.Relay) (other : ℕ) : Type 0 where
+  pub waits : IsWaiting (pool_in r.pool).line other
+  pub free : pools.Pool
+  pub first : (sharing : Sharing) → IsLedTo sharing (machine_in r) → find_key other free.holds.items ≡ None
+  pub at : code.Relay
+  pub lent : Turns pool.Serves (pool_in free) (pool_in at.pool) [] []
+  pub moved : MovedOn (core_in r) (core_in at)
+  pub goes : AllGo r at
+  pub opens : Opens r.links.items at.links.items
+  pub queues : IsReached (pool_in r.pool) → (number : ℕ) → MayBeLent number r.pool.line.items r.pool.holds.items r.links.items free.holds.items at.links.items
+  pub turned : IsTurnedAwayAt other at
+
+-- So it is behind what this causes, by which nobody is lent one: these wait then, the connections are so, and but on these the same waits, and who
+-- holds them does so still.
+pub record IsLentAfter (by : Cause) (line : List ℕ) (Links : List Link → List Link → Type 0) (But : ℕ → Type 0) (r : code.Relay) (other : ℕ) : Type 0 where
+  pub was : IsWaiting (pool_in r.pool).line other
+  pub mid : code.Relay
+  pub steps : Steps by (machine_in r) (machine_in mid)
+  pub waiting : mid.pool.line.items ≡ line
+  pub links : Links r.links.items mid.links.items
+  pub goes : AllGo r mid
+  pub keeps : IsReached (pool_in r.pool) → FirstKeeps But r mid
+  pub lent : IsLentInVain mid other
+
+-- behind an application that lets its connection go
+abbrev pub IsLentByParting : Cause → ℕ → code.Relay → ℕ → Type 0
+IsLentByParting by key r other = IsLentAfter by (without key r.pool.line.items) Stays (λ number. holder (pool_in r.pool) number ≡ Some key) r other
+
+-- Who holds a connection that is lost is closed; or one that waits is lent one in vain behind that.
+abbrev pub LosesOrLends : ℕ → code.Relay → ℕ → Type 0
+LosesOrLends number r other = IsWho (holder (pool_in r.pool) number) other ⊎ IsLentAfter Neither r.pool.line.items Stays (λ n. n ≡ number) r other
+
+-- Who holds one that opens is turned away there; or one that waits is lent one in vain behind that.
+abbrev pub OpensOrLends : ℕ → code.Relay → ℕ → Type 0
+OpensOrLends number r other = OpensFor number r other ⊎ IsLentAfter Neither r.pool.line.items (OpensOne number) (IsWithHolder number r) r other
+
+-- ---- By what an application says
+
+-- Its request isn't kept where the connection that it holds is ready for it.
+abbrev pub IsRightlyKept : ℕ → code.Relay → Type 0
+IsRightlyKept key r = IsKept (body_of key r) → ¬ IsReadyThere key (end_at (ends_in r.applications) key) r.pool r.links.items
+
+-- These bytes may have been taken up to these, as far as this says: its request's body follows them, and what goes out for what it takes back. No
+-- connection was opened or filled by them; what waited on one waits still, and more may, but on those that it doesn't hold. Where its request was
+-- kept for a cause, it is.
+pub record IsTakenTo (key : ℕ) (bytes left : List ℕ) (r mid : code.Relay) : Type 0 where
+  pub carries : Carries key (machine_in r) bytes left (body_of key r) (body_of key mid) (machine_in mid)
+  pub heeds : HeedsAll key (machine_in r) bytes left (standing_in key r) (standing_in key mid) (machine_in mid)
+  pub stays : Stays r.links.items mid.links.items
+  pub aside : IsReached (pool_in r.pool) → OthersKeepAt key r mid
+  pub right : IsRightlyKept key r → IsRightlyKept key mid
+
+-- Behind all of them one that waits is lent a connection in vain.
+pub record IsLentBehind (key : ℕ) (bytes : List ℕ) (r : code.Relay) (other : ℕ) : Type 0 where
+  pub mid : code.Relay
+  pub taken : IsTakenTo key bytes [] r mid
+  pub lent : IsLentInVain mid other
+
+-- By one piece of these, behind others; or behind them it is lent a connection in vain.
+pub data HasReason (key : ℕ) (bytes : List ℕ) (r : code.Relay) : Type 0 where
+  ByPiece : (mid : code.Relay) (left : List ℕ) → IsTakenTo key bytes left r mid → GivesReason left key mid → HasReason key bytes r
+  ByLoan : IsLentBehind key bytes r key → HasReason key bytes r
+
+-- An application's bytes close it for a reason that they have; of others only one that waited, and is lent a connection behind them in vain.
+abbrev pub ForReasonOrWaiting : ℕ → List ℕ → code.Relay → ℕ → Type 0
+ForReasonOrWaiting key bytes r other = ItselfFor key (HasReason key bytes r) other ⊎ ((other ≢ key) × IsWaiting (pool_in r.pool).line other × IsLentBehind key bytes r other)
+
+-- ---- By bytes that come
+
+-- They come behind others, by which none was opened or filled; what waited on one waits still, and more may. Or all have come, and one that waits
+-- is lent a connection in vain.
+pub data IsClosedByHearing (number : ℕ) (bytes : List ℕ) (r : code.Relay) (other : ℕ) : Type 0 where
+  ByPacket : (mid : code.Relay) (left : List ℕ)
+      → StreamsAnew number (answer_at number r.links.items) (open_at number r.links.items) (machine_in r) r.pool.service bytes left (answer_at number mid.links.items) (open_at number mid.links.items) (machine_in mid) mid.pool.service
+      → OpensOthers number r.links.items mid.links.items → LosesOn number left mid other → IsClosedByHearing number bytes r other
+  InLine : (mid : code.Relay)
+      → StreamsAll number (open_at number r.links.items) (machine_in r) r.pool.service bytes (open_at number mid.links.items) (machine_in mid) mid.pool.service
+      → OpensOthers number r.links.items mid.links.items → IsLentInVain mid other → IsClosedByHearing number bytes r other
+
+-- where the service has the connections that the relay has, as it has behind each call
+abbrev pub HeardFor : ℕ → List ℕ → code.Relay → ℕ → Type 0
+HeardFor number bytes r other = IsSeated r → IsClosedByHearing number bytes r other

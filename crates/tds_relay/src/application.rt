@@ -6,8 +6,8 @@ ghost use Rattle.tds_relay.specs.declared.application.TheConstants.{MOST_HELD};
 ghost use Rattle.tds_relay.specs.declared.outgoing.TheConstants.{PIECE};
 
 use crate::NoMemory;
-use crate::desk::What;
 use crate::outgoing::{BESIDE, Outgoing, PIECE};
+use crate::pool::What;
 use std::alloc::Global;
 use std::mem;
 use tds_client::MessageKind;
@@ -62,19 +62,19 @@ impl Application {
     ghost use Rattle.tds_relay.specs.Faults.{why_of};
     ghost use Rattle.tds_relay.specs.Fronts.{end_of, puts, withdraws};
     ghost use Rattle.tds_front.specs.Bytes.{fed, new_front};
-    ghost use Rattle.tds_relay.specs.Hall.{AsksFor, IfOpen, IsHere, Open, acknowledged, asks_by, closes_for, hears, is_at_end, lets_go, move_stage};
-    ghost use Rattle.tds_relay.specs.House.{hears_of_reset, is_said};
-    ghost use Rattle.tds_relay.specs.Posts.{tagged, nothing, post_of};
+    ghost use Rattle.tds_relay.specs.Core.{AsksFor, IfOpen, IsHere, Open, acknowledged, asks_by, closes_for, hears, is_at_end, lets_go, move_stage};
+    ghost use Rattle.tds_relay.specs.Machine.{hears_of_reset, is_said};
+    ghost use Rattle.tds_relay.specs.Queues.{tagged, nothing, queue_of};
     ghost use Rattle.tds_relay.specs.Parking.{has_no_request};
     ghost use Rattle.tds_relay.specs.Places.{begun_more};
     ghost use Rattle.tds_relay.specs.Reasons.{HasGoneOut, IsUnbegun};
     ghost use Rattle.tds_relay.specs.Told.{own_room, room_to_keep};
     ghost use Rattle.tds_relay.specs.Coming.{IsDoneWith};
-    ghost use Rattle.tds_relay.specs.declared.desk.coming.What.TheVariants.{Acknowledged, Goes};
+    ghost use Rattle.tds_relay.specs.declared.pool.coming.What.TheVariants.{Acknowledged, Goes};
 
     pub(crate) fn new(alloc: Global, tag: usize, size: PacketSize) -> Application
         ensures size { result.out.size ≡ size }
-        ensures post { post_of result ≡ tagged tag (nothing size) }
+        ensures queue { queue_of result ≡ tagged tag (nothing size) }
         ensures end { end_of result ≡ Open (new_front size) false None }
         ensures nothing { ((goes : Body) → body_in (Some result) goes ≡ Nowhere)
             × (result.begun ≡ 0) }
@@ -98,7 +98,7 @@ impl Application {
     /// Takes some of these bytes. A request that begins is counted, and asks for a reset itself or doesn't; of
     /// one that is taken back no reset is told.
     pub(crate) fn feed(&mut self, piece: &[u8]) -> Result<Fed, FrontFault>
-        ensures post { post_of self.new ≡ post_of self.old }
+        ensures queue { queue_of self.new ≡ queue_of self.old }
         ensures front { self.new.front ≡ (fed self.old.front piece.now).front }
         ensures brings { result ≡ (fed self.old.front piece.now).brings }
         ensures within { IfOk result (λ taken. taken.count ≤ length piece.now) }
@@ -170,7 +170,7 @@ impl Application {
         bytes: &[u8],
         whole: bool,
     ) -> Result<bool, NoMemory>
-        ensures post { post_of self.new ≡ post_of self.old }
+        ensures queue { queue_of self.new ≡ queue_of self.old }
         ensures end { end_of self.new ≡ end_of self.old }
         ensures body { IfOk result (λ is. is ≡ true → (self.new.is_over ≡ self.old.is_over)
             × (self.new.held.items ≡ self.old.held.items ++ bytes.now)) }
@@ -187,7 +187,7 @@ impl Application {
 
     /// A packet of its answer has come: it is told of the reset that it asked for, unless it took that back.
     pub(crate) fn goes_on(&mut self)
-        ensures post { post_of self.new ≡ post_of self.old }
+        ensures queue { queue_of self.new ≡ queue_of self.old }
         ensures end { end_of self.new ≡ hears (end_of self.old) }
         ensures body { (goes : Body) → body_in (Some self.new) goes ≡ body_in (Some self.old) goes }
     {
@@ -198,7 +198,7 @@ impl Application {
 
     /// What goes on of its request is done. One that waits hasn't been asked, and stays.
     fn end_request(&mut self)
-        ensures post { post_of self.new ≡ post_of self.old }
+        ensures queue { queue_of self.new ≡ queue_of self.old }
         ensures end { end_of self.new ≡ end_of self.old }
         ensures body { IsDoneWith (Some self.old) (Some self.new) }
     {
@@ -209,7 +209,7 @@ impl Application {
 
     /// Its request has its answer.
     pub(crate) fn answered(&mut self)
-        ensures post { post_of self.new ≡ post_of self.old }
+        ensures queue { queue_of self.new ≡ queue_of self.old }
         ensures end { end_of self.new ≡ move_stage rules.answered (hears (end_of self.old)) }
         ensures body { IsDoneWith (Some self.old) (Some self.new) }
     {
@@ -220,7 +220,7 @@ impl Application {
 
     /// Its attention is acknowledged; or what it took back is (true), and its next request may go on.
     pub(crate) fn acknowledged(&mut self) -> bool
-        ensures post { post_of self.new ≡ post_of self.old }
+        ensures queue { queue_of self.new ≡ queue_of self.old }
         ensures end { end_of self.new ≡ acknowledged (hears (end_of self.old)) }
         ensures body { IsDoneWith (Some self.old) (Some self.new) }
         ensures silent { result ≡ true → is_said Acknowledged (Some (end_of self.old)) ≡ false }
@@ -238,7 +238,7 @@ impl Application {
 
     /// Something of its request has gone on.
     pub(crate) fn went_on(&mut self)
-        ensures post { post_of self.new ≡ post_of self.old }
+        ensures queue { queue_of self.new ≡ queue_of self.old }
         ensures end { end_of self.new ≡ move_stage rules.went_on (end_of self.old) }
         ensures body { (goes : Body) → body_in (Some self.new) goes ≡ body_in (Some self.old) goes }
     {
@@ -247,7 +247,7 @@ impl Application {
 
     /// It took its request back, of which something has gone on.
     pub(crate) fn withdraw(&mut self)
-        ensures post { post_of self.new ≡ post_of self.old }
+        ensures queue { queue_of self.new ≡ queue_of self.old }
         ensures end { end_of self.new ≡ withdraws (end_of self.old) }
         ensures body { (goes : Body) → body_in (Some self.new) goes ≡ body_in (Some self.old) goes }
     {
@@ -256,7 +256,7 @@ impl Application {
 
     /// Its connection is let go, and with it what it took back there.
     pub(crate) fn let_go(&mut self)
-        ensures post { post_of self.new ≡ post_of self.old }
+        ensures queue { queue_of self.new ≡ queue_of self.old }
         ensures end { end_of self.new ≡ lets_go (end_of self.old) }
         ensures body { (goes : Body) → body_in (Some self.new) goes ≡ body_in (Some self.old) goes }
     {
@@ -265,7 +265,7 @@ impl Application {
 
     /// Nothing more of it is taken, for this. Whoever is to be closed already is so for what was first.
     pub(crate) fn close(&mut self, why: Option<FrontFault>)
-        ensures post { post_of self.new ≡ post_of self.old }
+        ensures queue { queue_of self.new ≡ queue_of self.old }
         ensures end { end_of self.new ≡ closes_for why (end_of self.old) }
         ensures tag { self.new.tag ≡ self.old.tag }
     {
@@ -377,7 +377,7 @@ impl Application {
     /// Nothing is kept of its request any more, which is there now. What was.
     pub(crate) fn take_held(&mut self, asking: Asking) -> Vec<u8>
         ensures held { result.items ≡ self.old.held.items }
-        ensures post { post_of self.new ≡ post_of self.old }
+        ensures queue { queue_of self.new ≡ queue_of self.old }
         ensures end { end_of self.new ≡ end_of self.old }
         ensures asking { self.new.asking ≡ asking }
         ensures body { (self.new.is_over ≡ self.old.is_over) × (self.new.held.items ≡ []) }
@@ -388,7 +388,7 @@ impl Application {
 
     /// The same, where that is wanted no more.
     pub(crate) fn forget(&mut self, asking: Asking)
-        ensures post { post_of self.new ≡ post_of self.old }
+        ensures queue { queue_of self.new ≡ queue_of self.old }
         ensures end { end_of self.new ≡ end_of self.old }
         ensures asking { self.new.asking ≡ asking }
         ensures body { (self.new.is_over ≡ self.old.is_over) × (self.new.held.items ≡ []) }

@@ -1,11 +1,11 @@
-//! What a desk promises, over any list of events, and a relay behind any calls. Each function does nothing
+//! What a pool promises, over any list of events, and a relay behind any calls. Each function does nothing
 //! when it runs: its contract is the law.
 ghost use Rattle.std.specs.Prelude.{◌≡◌, [], ◌∷◌, ◌+◌, ◌<◌, ◌≤◌, ◌++◌, ℕ, List, None, OnOk, Option};
 ghost use Rattle.std.specs.Prelude.{Some, false, vec_len};
 ghost use Rattle.tds_wire.specs.declared.told.Token.{Token};
 ghost use Rattle.tds_service.specs.Line.{Idle};
 ghost use Rattle.tds_service.specs.Service.{Lease, Seat, seat_numbered, step};
-ghost use Rattle.tds_relay.specs.Desk.{Desk, Event, Sharing, desk_after, new_desk, turn, whose};
+ghost use Rattle.tds_relay.specs.Pool.{Pool, Event, Sharing, pool_after, new_pool, turn, whose};
 ghost use Rattle.tds_relay.specs.Promises.{CaresFor, Each, IsAmong, IsHandedTo, LendsClean, LendsFirst};
 ghost use Rattle.tds_relay.specs.Promises.{NoneAstray, SaysOnce, TakesOne, comes_to_wait};
 ghost use Rattle.tds_front.specs.Exchanges.{place_after};
@@ -24,15 +24,15 @@ ghost use Rattle.tds_relay.specs.declared.outgoing.Outgoing.{Outgoing};
 ghost use Rattle.tds_listen.specs.declared.fault.ListenFault.{ListenFault};
 ghost use Rattle.tds_relay.specs.Faults.{IsMet, IsMetOn};
 ghost use Rattle.tds_relay.specs.Fronting.{AnswersOnce, done_on, happened};
-ghost use Rattle.tds_relay.specs.Fronts.{house_in};
+ghost use Rattle.tds_relay.specs.Fronts.{machine_in};
 ghost use Rattle.tds_relay.specs.Giving.{AreSaid, Gives, IsFrontOf, IsKept, ServersAnswerOnce, StaysAll};
 ghost use Rattle.tds_relay.specs.Giving.{ReadVisit, Visit, given_in, happens_in, pieces_of, sent_in};
 ghost use Rattle.tds_relay.specs.Giving.{waits_in};
-ghost use Rattle.tds_relay.specs.House.{Admits, House, IsLedTo, MayAll, Step, Steps};
-ghost use Rattle.tds_relay.specs.House.{new_house};
-ghost use Rattle.tds_relay.specs.Hall.{Ends};
+ghost use Rattle.tds_relay.specs.Machine.{Admits, Machine, IsLedTo, MayAll, Step, Steps};
+ghost use Rattle.tds_relay.specs.Machine.{new_machine};
+ghost use Rattle.tds_relay.specs.Core.{Ends};
 ghost use Rattle.tds_relay.specs.Law.{FollowOn, Wire, put_in, went_out};
-ghost use Rattle.tds_relay.specs.Posts.{Posts};
+ghost use Rattle.tds_relay.specs.Queues.{Queues};
 ghost use Rattle.tds_packet.specs.Reading.{Reading, joined};
 ghost use Rattle.tds_relay.specs.Reads.{AreReadIn, Call, Comes, Follow, FollowAt, Reads, bytes_in};
 ghost use Rattle.tds_relay.specs.Reads.{open_at, packets_in, stands_in};
@@ -40,13 +40,13 @@ ghost use Rattle.tds_relay.specs.Taking.{Tells};
 ghost use Rattle.tds_relay.specs.Telling.{IsToldOnce, happens_to};
 ghost use Rattle.tds_relay.specs.Sparing.{AllGo, AreCalls, IsLeft, StartsOn, behind_all};
 ghost use Rattle.tds_relay.specs.declared.relay.Relay.{Relay as Code};
-ghost use Rattle.tds_relay.specs.Walkers.{AllStand, IsReadTo, IsUnread, StandsAt};
+ghost use Rattle.tds_relay.specs.TokenParsers.{AllStand, IsReadTo, IsUnread, StandsAt};
 ghost use Rattle.tds_service.specs.declared.service.Service.{Service};
 ghost use Rattle.tds_wire.specs.declared.features.Features.{Features};
-ghost use Rattle.tds_wire.specs.Reading as walkers;
+ghost use Rattle.tds_wire.specs.Reading as parsers;
 ghost use Rattle.tds_relay.specs.Ties as causes;
 ghost use Rattle.tds_relay.specs.Ties.{Cause, Causes, Connection, Goes, IsNoConnection, IsReached};
-ghost use Rattle.tds_relay.specs.Ties.{Owns, desk_in};
+ghost use Rattle.tds_relay.specs.Ties.{Owns, pool_in};
 
 use crate::reading::reads_packets;
 use crate::{NoMemory, Relay};
@@ -58,57 +58,57 @@ use tds_wire::Token;
 /// something of a request out there; so none does during a cleaning.
 pub fn no_cancel_astray()
     ensures { (sharing : Sharing) (events : List Event) (event : Event)
-        → NoneAstray (desk_after (new_desk sharing) events) event }
+        → NoneAstray (pool_after (new_pool sharing) events) event }
 {}
 
 /// An attention goes out only in a call that an application causes, by what it says or by its end: on the
 /// connection that this one holds, with something of a request out there.
 pub fn own_cancels()
     ensures { (by : Cause) (sharing : Sharing) (events : List Event) (event : Event)
-        → Causes by event → Owns by (desk_after (new_desk sharing) events) event }
+        → Causes by event → Owns by (pool_after (new_pool sharing) events) event }
 {}
 
 /// Each connection is held by an application; or is being cleaned, by a request that is out; or has its
 /// attention out; or is idle, with no reset owed and no transaction open.
 pub fn no_orphan()
     ensures { (sharing : Sharing) (events : List Event)
-        → Each (CaresFor (desk_after (new_desk sharing) events).holds)
-        (desk_after (new_desk sharing) events).service.seats }
+        → Each (CaresFor (pool_after (new_pool sharing) events).holds)
+        (pool_after (new_pool sharing) events).service.seats }
 {}
 
 /// What comes on a connection is handed only to the application that it is lent to: during a cleaning,
 /// and behind an application's end, to nobody.
 pub fn handed_to_holder()
     ensures { (sharing : Sharing) (events : List Event) (number key : ℕ)
-        → whose (desk_after (new_desk sharing) events) number ≡ Some key
-        → IsHandedTo (desk_after (new_desk sharing) events) number key }
+        → whose (pool_after (new_pool sharing) events) number ≡ Some key
+        → IsHandedTo (pool_after (new_pool sharing) events) number key }
 {}
 
 /// A connection that somebody had before is lent only idle, with no reset owed and no transaction open.
 pub fn fresh()
     ensures { (sharing : Sharing) (events : List Event)
-        → LendsClean (desk_after (new_desk sharing) events)
-        (step {T = Token} (desk_after (new_desk sharing) events).service Lease).reply }
+        → LendsClean (pool_after (new_pool sharing) events)
+        (step {T = Token} (pool_after (new_pool sharing) events).service Lease).reply }
 {}
 
 /// Whoever is lent a connection is the first of those who wait, and nobody passes another in that line:
 /// who comes to wait stands last.
 pub fn first_come()
-    ensures first { (d : Desk) → LendsFirst d }
-    ensures order { (d : Desk) (event : Event)
-        → IsAmong (turn d event).desk.line (d.line ++ comes_to_wait event) }
+    ensures first { (d : Pool) → LendsFirst d }
+    ensures order { (d : Pool) (event : Event)
+        → IsAmong (turn d event).pool.line (d.line ++ comes_to_wait event) }
 {}
 
 /// A connection that is lost leaves the others, and who holds them, as they were.
 pub fn a_cut_takes_one()
-    ensures { (d : Desk) (number : ℕ) → TakesOne d number }
+    ensures { (d : Pool) (number : ℕ) → TakesOne d number }
 {}
 
 /// What an application asks goes on once: each call that says something of a request by its lease is the one
 /// of an event that says it for this application. No end, no loss and no cleaning says it again.
 pub fn never_asked_twice()
     ensures { (sharing : Sharing) (events : List Event) (event : Event)
-        → SaysOnce (desk_after (new_desk sharing) events) event }
+        → SaysOnce (pool_after (new_pool sharing) events) event }
 {}
 
 /// On each connection, what goes out and what comes is a lawful server's end (`tds_front`), where its
@@ -119,7 +119,7 @@ pub fn lawful_connections()
         → AnswersOnce false (done_on sharing number events)
         → IsLawful Ready (happened (done_on sharing number events)) }
     ensures ready { (sharing : Sharing) (number : ℕ) (events : List Event) (c : Seat)
-        → seat_numbered number (desk_after (new_desk sharing) events).service.seats ≡ Some c
+        → seat_numbered number (pool_after (new_pool sharing) events).service.seats ≡ Some c
         → c.line.stage ≡ Idle
         → place_after Ready (happened (done_on sharing number events)) ≡ Ready }
 {
@@ -140,15 +140,15 @@ pub fn bounds()
     ensures in_memory { (o : Outgoing) → vec_len o.bytes < o.size + 65536 }
 {}
 
-/// Each call of a relay leaves the desk where events lead that it may cause: its own contract says so, for
-/// any bytes. So where events led to the desk, they do again, and what is said here of desks holds behind any
+/// Each call of a relay leaves the pool where events lead that it may cause: its own contract says so, for
+/// any bytes. So where events led to the pool, they do again, and what is said here of pools holds behind any
 /// calls.
 pub fn any_bytes()
-    ensures { (by : Cause) (old new : Desk) → Goes by old new → IsReached old → IsReached new }
+    ensures { (by : Cause) (old new : Pool) → Goes by old new → IsReached old → IsReached new }
 {}
 
 /// What a call does is steps that it causes, one after the other: how the ends of the applications move with the
-/// desk, and what each application is given by that. So what waits for an application grows by what these give
+/// pool, and what each application is given by that. So what waits for an application grows by what these give
 /// it, in order, each whole, until one doesn't fit: a packet that comes on the connection that it is lent, as it
 /// came, without the news of a reset, or behind it, where its end hears it; or the acknowledgement of its own
 /// attention, where its end owes it that. Nothing else is given, and a packet that its end hears isn't withheld.
@@ -159,8 +159,9 @@ pub fn own_bytes(
     number: u64,
     came: &[u8],
 ) -> Result<(), NoMemory>
-    ensures { OnOk result ((mid : House) × Gives (causes.Application key) (house_in relay.old) mid
-        × Gives (Connection number) mid (house_in relay.new)) }
+    ensures { OnOk result ((mid : Machine)
+        × Gives (causes.Application key) (machine_in relay.old) mid
+        × Gives (Connection number) mid (machine_in relay.new)) }
 {
     relay.said(key, said)?;
     relay.came(number, came)
@@ -169,7 +170,7 @@ pub fn own_bytes(
 /// The bytes of an application that come in a call are taken by the call's steps, each piece what the one
 /// before has left, all of them; or the application is to be closed behind the call, or isn't there.
 pub fn bytes_that_came(relay: &mut Relay, key: usize, said: &[u8]) -> Result<(), NoMemory>
-    ensures { OnOk result (Tells key (house_in relay.old) said.now [] (house_in relay.new)) }
+    ensures { OnOk result (Tells key (machine_in relay.old) said.now [] (machine_in relay.new)) }
 {
     relay.said(key, said)
 }
@@ -179,8 +180,8 @@ pub fn bytes_that_came(relay: &mut Relay, key: usize, said: &[u8]) -> Result<(),
 /// one on which the server hasn't acknowledged yet what it took back; or the request was asked on the connection that
 /// it holds, and is being sent, and where all of it has come its end was sent. Or its application is to be closed.
 pub fn request_goes_on(relay: &mut Relay, key: usize, said: &[u8]) -> Result<(), NoMemory>
-    ensures { OnOk result (Asks key (house_in relay.old) said.now []
-        relay.new.links.items (house_in relay.new)) }
+    ensures { OnOk result (Asks key (machine_in relay.old) said.now []
+        relay.new.links.items (machine_in relay.new)) }
 {
     relay.said(key, said)
 }
@@ -189,11 +190,11 @@ pub fn request_goes_on(relay: &mut Relay, key: usize, said: &[u8]) -> Result<(),
 /// behind the others while its request waits, or put by the client of the connection that the application holds, and
 /// what goes out by that waits there, behind what waited; where the last of it has come, the end is put behind it.
 /// Before each piece and behind the last one a request that waits may be asked: then all that was kept of it is put
-/// so, once, by a client that begins a request of its kind. What is forgotten is nowhere then. By an attention that is
+/// so, by a client that begins a request of its kind. What is forgotten is nowhere then. By an attention that is
 /// handed on, what its client puts out for it waits there, once. Or the application is to be closed.
 pub fn body_goes_on(relay: &mut Relay, key: usize, said: &[u8]) -> Result<(), NoMemory>
-    ensures { IsReached (desk_in relay.old.desk) → OnOk result (Carries key (house_in relay.old)
-        said.now [] (body_of key relay.old) (body_of key relay.new) (house_in relay.new)) }
+    ensures { IsReached (pool_in relay.old.pool) → OnOk result (Carries key (machine_in relay.old)
+        said.now [] (body_of key relay.old) (body_of key relay.new) (machine_in relay.new)) }
 {
     relay.said(key, said)
 }
@@ -205,8 +206,8 @@ pub fn body_goes_on(relay: &mut Relay, key: usize, said: &[u8]) -> Result<(), No
 /// connection that isn't open nothing comes.
 pub fn packets_that_came(relay: &mut Relay, number: u64, came: &[u8]) -> Result<(), NoMemory>
     ensures { OnOk result (Comes number (open_at number relay.old.links.items)
-        (house_in relay.old) relay.old.desk.service came.now
-        (open_at number relay.new.links.items) (house_in relay.new) relay.new.desk.service) }
+        (machine_in relay.old) relay.old.pool.service came.now
+        (open_at number relay.new.links.items) (machine_in relay.new) relay.new.pool.service) }
 {
     relay.came(number, came)
 }
@@ -224,11 +225,11 @@ pub fn packets_over_calls()
     reads_packets();
 }
 
-/// Over any calls, from where the walker of a connection stands: each packet that comes on it is read from where the
-/// one before has left the walker, and each message anew, while the service has the connection. Each call leaves the
-/// walkers of all other connections where they stood: its own contract says so (`AllStand`).
+/// Over any calls, from where the parser of a connection stands: each packet that comes on it is read from where the
+/// one before has left the parser, and each message anew, while the service has the connection. Each call leaves the
+/// parsers of all other connections where they stood: its own contract says so (`AllStand`).
 pub fn read_over_calls()
-    ensures { (number : ℕ) (calls : List (Call number)) (from to : Service) (r : walkers.Reading)
+    ensures { (number : ℕ) (calls : List (Call number)) (from to : Service) (r : parsers.Reading)
         → FollowAt from calls to → StandsAt number r from
         → AreReadIn r calls × StandsAt number (stands_in r calls) to }
 {}
@@ -236,40 +237,40 @@ pub fn read_over_calls()
 /// Over any calls, and all that is sent in between: what an application is sent, and then what waits for it, are
 /// what waited and then what steps give it, in order, each whole; all of it, unless one didn't fit: then a front.
 pub fn own_bytes_over_calls()
-    ensures { (key : ℕ) (h : House) (steps : List Step) → MayAll h steps → IsKept key h steps }
+    ensures { (key : ℕ) (h : Machine) (steps : List Step) → MayAll h steps → IsKept key h steps }
 {}
 
-/// Each call of a relay leaves its house, which is its desk, the ends of its applications and what waits for each,
-/// where steps lead that may be: its own contract says so. So where steps led to the house, they do again, and
+/// Each call of a relay leaves its machine, which is its pool, the ends of its applications and what waits for each,
+/// where steps lead that may be: its own contract says so. So where steps led to the machine, they do again, and
 /// what is said here of steps, and of the moves that they are, holds behind any calls.
 pub fn any_calls()
-    ensures { (by : Cause) (sharing : Sharing) (old new : House) → Steps by old new
+    ensures { (by : Cause) (sharing : Sharing) (old new : Machine) → Steps by old new
         → IsLedTo sharing old → IsLedTo sharing new }
 {}
 
 /// From a new relay and over any calls, each packet that comes on a connection is read from where the one before has
-/// left the connection's walker, the first one by a walker that has read nothing: so it is of the steps of all calls
+/// left the connection's parser, the first one by a parser that has read nothing: so it is of the steps of all calls
 /// (`IsReadTo`).
 pub fn read_from_new()
     /// So it is of a new relay,
     ensures new { (sharing : Sharing) (most : ℕ) (features : Features) (s : Service)
         → ((number : ℕ) → IsUnread most features number s)
-        → IsReadTo sharing most features (new_house sharing) s }
+        → IsReadTo sharing most features (new_machine sharing) s }
     /// behind a call by which nothing comes on a connection,
     ensures called { (by : Cause) (sharing : Sharing) (most : ℕ) (features : Features)
-        (old new : House) (from to : Service)
+        (old new : Machine) (from to : Service)
         → IsNoConnection by → Steps by old new → AllStand from to
         → IsReadTo sharing most features old from → IsReadTo sharing most features new to }
     /// and behind one by which bytes come.
     ensures came { (number : ℕ) (sharing : Sharing) (most : ℕ) (features : Features)
-        (had now : Option Reading) (bytes : List ℕ) (old new : House) (from to : Service)
+        (had now : Option Reading) (bytes : List ℕ) (old new : Machine) (from to : Service)
         → Comes number had old from bytes now new to
         → IsReadTo sharing most features old from → IsReadTo sharing most features new to }
     /// An application that has come by these steps, and is there still, makes a visit of them.
-    ensures visit { (sharing : Sharing) (most key : ℕ) (features : Features) (h : House)
-        (s : Service) (before since : List Step) (ends : Ends) (posts : Posts)
+    ensures visit { (sharing : Sharing) (most key : ℕ) (features : Features) (h : Machine)
+        (s : Service) (before since : List Step) (ends : Ends) (queues : Queues)
         (led : IsReadTo sharing most features h s)
-        → led.steps ≡ before ++ Admits key ends posts ∷ since → StaysAll key since
+        → led.steps ≡ before ++ Admits key ends queues ∷ since → StaysAll key since
         → (v : ReadVisit sharing key) × (v.visit.before ≡ before) × (v.visit.since ≡ since) }
 {}
 
@@ -331,9 +332,9 @@ pub fn told_once()
 
 /// What is told of why an application is to be closed, or a connection, was met in a step of these, or before them.
 pub fn faults_are_met()
-    ensures application { (key : ℕ) (fault : FrontFault) (h : House) (steps : List Step)
+    ensures application { (key : ℕ) (fault : FrontFault) (h : Machine) (steps : List Step)
         → MayAll h steps → IsMet key fault h steps }
-    ensures connection { (number : ℕ) (fault : ListenFault) (h : House) (steps : List Step)
+    ensures connection { (number : ℕ) (fault : ListenFault) (h : Machine) (steps : List Step)
         → MayAll h steps → IsMetOn number fault h steps }
 {}
 
@@ -350,10 +351,10 @@ pub fn goes_out_over_calls()
 pub fn waits_once()
     /// Where it enters it has neither.
     ensures enters { (sharing : Sharing) (key : ℕ) (v : Visit sharing key)
-        → IsAway key (desk_after (new_desk sharing) (done_before v)) }
+        → IsAway key (pool_after (new_pool sharing) (done_before v)) }
     /// Since, each event by which it comes to wait is where it has neither.
     ensures since { (sharing : Sharing) (key : ℕ) (v : Visit sharing key)
-        → WaitsAway key (desk_after (new_desk sharing) (done_before v)) (done_since v) }
+        → WaitsAway key (pool_after (new_pool sharing) (done_before v)) (done_since v) }
 {
     each_alone::<Token>();
     line_by_history::<Token>();
@@ -361,8 +362,9 @@ pub fn waits_once()
 }
 
 /// Where connections come, open or are lost, and where applications leave, each application's request stays
-/// where it is, or its application is to be closed; or what was kept of it is put once, all of it as it was
-/// kept, by a client that begins a request of its kind. So it is over any such calls.
+/// where it is, or its application is to be closed; or what was kept of it is put, all of it as it was kept,
+/// by a client that begins a request of its kind: what stands before it there isn't said. So it is over any
+/// such calls.
 pub fn bodies_stay()
     ensures { (relay : Code) (more : List Code) (key : ℕ) → AreCalls relay more
         → IsLeft (body_of key relay) (body_of key (behind_all relay more)) }
@@ -371,7 +373,7 @@ pub fn bodies_stay()
 /// Where a connection opens, the request goes on that was kept for it: unless what its application took back
 /// isn't acknowledged there yet, or there is no connection of this number.
 pub fn starts_as_it_opens(relay: &mut Relay, number: u64) -> Result<(), NoMemory>
-    ensures starts { IsReached (desk_in relay.old.desk)
+    ensures starts { IsReached (pool_in relay.old.pool)
         → OnOk result (StartsOn number relay.old relay.new) }
     /// Each request stays where it is, or is put as it was kept, or its application is to be closed.
     ensures stays { OnOk result (AllGo relay.old relay.new) }

@@ -7,7 +7,6 @@
 #![tactic(auto)]
 
 mod application;
-mod desk;
 mod fault;
 mod index;
 pub mod laws;
@@ -16,13 +15,14 @@ mod links;
 mod news;
 mod order;
 mod outgoing;
+mod pool;
 mod reading;
 mod relay;
 pub mod sharing_laws;
 mod sorted;
 
-pub use desk::{Desk, Figures, Heard, Hold, Left, Mode, Renewed, Served, What};
 pub use order::Order;
+pub use pool::{Figures, Heard, Hold, Left, Mode, Pool, Renewed, Served, What};
 pub use relay::{Counts, Place, PlaceOn, Relay};
 
 /// The answer of a growth that was refused.

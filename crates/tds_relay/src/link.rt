@@ -8,7 +8,7 @@ use crate::news::Known;
 use crate::outgoing::Outgoing;
 use std::alloc::Global;
 use tds_packet::{Direction, Header, Kind, PacketReader, PacketSize, Status, put_sent};
-use tds_wire::{Features, Walker};
+use tds_wire::{Features, TokenParser};
 
 /// The most columns of a result.
 pub(crate) const COLUMNS: u16 = 4096;
@@ -43,13 +43,13 @@ pub(crate) struct Link {
 pub(crate) struct Answer {
     alloc: Global,
     size: PacketSize,
-    walker: Walker,
+    parser: TokenParser,
     known: Known,
 }
 
 impl Link {
     ghost use Rattle.tds_relay.specs.Lent.{IsMade};
-    ghost use Rattle.tds_relay.specs.Posts.{post_in};
+    ghost use Rattle.tds_relay.specs.Queues.{queue_in};
 
     pub(crate) fn new(
         alloc: Global,
@@ -61,13 +61,13 @@ impl Link {
         ensures number { IfOk result (λ link. link.number ≡ number) }
         ensures unread { IfOk result (λ link. link.reader.taken ≡ []) }
         ensures unnamed { IfOk result (λ link. link.tag ≡ None) }
-        ensures nothing { IfOk result (λ link. (post_in link.out).bytes ≡ []) }
+        ensures nothing { IfOk result (λ link. (queue_in link.out).bytes ≡ []) }
         ensures made { IfOk result (IsMade size features) }
     {
         let answer = Answer {
             alloc,
             size,
-            walker: Walker::new(alloc, COLUMNS, features)?,
+            parser: TokenParser::new(alloc, COLUMNS, features)?,
             known: Known::None,
         };
         Ok(Link {
@@ -87,13 +87,13 @@ impl Answer {
     ghost use Rattle.tds_service.specs.Packets.{behind_packet};
     ghost use Rattle.tds_wire.specs.Reading.{Reading};
     ghost use Rattle.tds_relay.specs.News.{held, holds_back, known_next};
-    ghost use Rattle.tds_relay.specs.Posts.{post_in, put};
+    ghost use Rattle.tds_relay.specs.Queues.{queue_in, put};
 
     /// Nothing has come of the message that comes next.
     pub(crate) fn restart(&mut self)
         ensures { self.new ≡ at_its_beginning self.old }
     {
-        self.walker.restart();
+        self.parser.restart();
         self.known = Known::None;
     }
 
@@ -117,7 +117,7 @@ impl Answer {
     ) -> Result<(), NoMemory>
         ensures cut { OnOk result ((sent : List ℕ)
             × IsCut (awaited owed self.old) header bytes.now sent
-            × (post_in on.new ≡ put sent (post_in on.old))) }
+            × (queue_in on.new ≡ put sent (queue_in on.old))) }
         ensures behind { OnOk result (IsCutTo (awaited owed self.old) (ends_in header)
             bytes.now self.new) }
     {
@@ -137,12 +137,12 @@ impl Answer {
             ≡ (if ends then kept.old.items ++ held self.old.known else kept.old.items)) }
         ensures known { OnOk result (self.new.known
             ≡ (if ends then known_next self.old.known else self.old.known)) }
-        ensures walker { OnOk result (self.new.walker ≡ behind_packet ends self.old.walker) }
+        ensures parser { OnOk result (self.new.parser ≡ behind_packet ends self.old.parser) }
         ensures size { self.new.size ≡ self.old.size }
     {
         if ends {
             self.known.end(kept)?;
-            self.walker.restart();
+            self.parser.restart();
         }
         Ok(())
     }
@@ -152,7 +152,7 @@ impl Answer {
         ensures kept { OnOk result (kept.new.items
             ≡ kept.old.items ++ passed_on ends self.old.known bytes.now) }
         ensures known { OnOk result (self.new.known ≡ known_behind ends self.old.known bytes.now) }
-        ensures walker { self.new.walker ≡ self.old.walker }
+        ensures parser { self.new.parser ≡ self.old.parser }
         ensures size { self.new.size ≡ self.old.size }
     {
         self.known.pass(bytes, kept)?;
@@ -165,17 +165,17 @@ impl Answer {
     /// Appends what goes on of these bytes.
     fn cut(&mut self, bytes: &[u8], kept: &mut Vec<u8>) -> Result<(), NoMemory>
         ensures kept { OnOk result (kept.new.items
-            ≡ kept.old.items ++ (left_of self.old.known self.old.walker bytes.now).bytes) }
+            ≡ kept.old.items ++ (left_of self.old.known self.old.parser bytes.now).bytes) }
         ensures known { OnOk result (self.new.known
-            ≡ (left_of self.old.known self.old.walker bytes.now).known) }
+            ≡ (left_of self.old.known self.old.parser bytes.now).known) }
         ensures stands { OnOk result ((next : Reading)
-            → (left_of self.old.known self.old.walker bytes.now).stands ≡ Some next
-            → self.new.walker ≡ next) }
+            → (left_of self.old.known self.old.parser bytes.now).stands ≡ Some next
+            → self.new.parser ≡ next) }
         ensures size { self.new.size ≡ self.old.size }
     {
         let mut rest = bytes;
         'tokens: while !rest.is_empty() {
-            let Ok(fed) = self.walker.feed(rest) else {
+            let Ok(fed) = self.parser.feed(rest) else {
                 // The service has refused this packet, so it isn't handed on at all.
                 break;
             };

@@ -5,8 +5,8 @@ ghost use Rattle.tds_relay.specs.Coming.{MayBeginAny};
 ghost use Rattle.tds_relay.specs.Cutting.{at_its_beginning};
 ghost use Rattle.tds_relay.specs.Lent.{KeepsAnswers};
 ghost use Rattle.tds_relay.specs.Linking.{ArePlaced};
-ghost use Rattle.tds_relay.specs.Posts.{without_first};
-ghost use Rattle.tds_relay.specs.Reads.{answer_at, link_at, post_on};
+ghost use Rattle.tds_relay.specs.Queues.{without_first};
+ghost use Rattle.tds_relay.specs.Reads.{answer_at, link_at, queue_on};
 ghost use Rattle.tds_relay.specs.Reads.{Sees, Stays, named_seen, open_at, opened_at, opened_seen, place_of};
 ghost use Rattle.tds_relay.specs.Reads.{seen_at, waits_on, without_link};
 ghost use Rattle.tds_relay.specs.Reasons.{HasNoRoom};
@@ -120,8 +120,8 @@ pub(crate) fn append_to(links: &mut Links, number: u64, bytes: &[u8]) -> Result<
     ensures read { Stays links.old.items links.new.items }
     ensures others { (other : ℕ) → other ≢ number
         → waits_on other links.new.items ≡ waits_on other links.old.items }
-    ensures posts { (other : ℕ) → other ≢ number
-        → post_on other links.new.items ≡ post_on other links.old.items }
+    ensures queues { (other : ℕ) → other ≢ number
+        → queue_on other links.new.items ≡ queue_on other links.old.items }
     ensures unfit { IfOk result (λ fits. fits ≡ false
         → waits_on number links.new.items ≡ waits_on number links.old.items) }
     ensures no_room { IfOk result (λ fits. fits ≡ false
@@ -134,8 +134,11 @@ pub(crate) fn append_to(links: &mut Links, number: u64, bytes: &[u8]) -> Result<
         return Ok(true);
     };
     let link = &mut links.list[place];
+    if !link.out.has_room(bytes) {
+        return Ok(false);
+    }
     link.out.append(bytes)?;
-    Ok(!link.out.is_full())
+    Ok(true)
 }
 
 /// Nothing has come of the message that comes next on a connection, as far as news are cut out of it.
@@ -144,8 +147,8 @@ pub(crate) fn restart(links: &mut Links, number: u64)
     ensures read { Stays links.old.items links.new.items }
     ensures waits { (other : ℕ)
         → waits_on other links.new.items ≡ waits_on other links.old.items }
-    ensures posts { (other : ℕ)
-        → post_on other links.new.items ≡ post_on other links.old.items }
+    ensures queues { (other : ℕ)
+        → queue_on other links.new.items ≡ queue_on other links.old.items }
     ensures begins { answer_at number links.new.items
         ≡ option_map at_its_beginning (answer_at number links.old.items) }
     ensures any { MayBeginAny links.old.items links.new.items }
@@ -185,10 +188,10 @@ pub(crate) fn forget_sent(links: &mut Links, number: u64, count: usize) -> bool
     ensures found { result ≡ is_there number links.old.items }
     ensures fewer { waits_on number links.new.items
         ≡ option_map (drop count) (waits_on number links.old.items) }
-    ensures posts { post_on number links.new.items
-        ≡ option_map (without_first count) (post_on number links.old.items) }
+    ensures queues { queue_on number links.new.items
+        ≡ option_map (without_first count) (queue_on number links.old.items) }
     ensures keeps { (other : ℕ) → other ≢ number
-        → post_on other links.new.items ≡ post_on other links.old.items }
+        → queue_on other links.new.items ≡ queue_on other links.old.items }
 {
     let Some(place) = place_in(links, number) else {
         return false;
@@ -206,8 +209,8 @@ pub(crate) fn set_open(links: &mut Links, number: u64)
         → seen_at other links.new.items ≡ opened_seen number other links.old.items }
     ensures waits { (other : ℕ)
         → waits_on other links.new.items ≡ waits_on other links.old.items }
-    ensures posts { (other : ℕ)
-        → post_on other links.new.items ≡ post_on other links.old.items }
+    ensures queues { (other : ℕ)
+        → queue_on other links.new.items ≡ queue_on other links.old.items }
     ensures many { length links.new.items ≡ length links.old.items }
     ensures answers { (other : ℕ)
         → answer_at other links.new.items ≡ answer_at other links.old.items }

@@ -43,13 +43,13 @@ pub(crate) struct Outgoing {
 
 impl Outgoing {
     ghost use Rattle.tds_relay.specs.Bounds.{news_length, waiting_in};
-    ghost use Rattle.tds_relay.specs.Posts.{nothing, post_in, put, put_news, without_first};
+    ghost use Rattle.tds_relay.specs.Queues.{fits, nothing, queue_in, put, put_news, without_first};
 
     pub(crate) fn new(alloc: Global, size: PacketSize) -> Outgoing
         ensures nothing { (result.bytes.items ≡ []) × (result.sent ≡ 0) }
         ensures size { result.size ≡ size }
         ensures open { result.is_full ≡ false }
-        ensures post { post_in result ≡ nothing size }
+        ensures queue { queue_in result ≡ nothing size }
     {
         Outgoing {
             alloc,
@@ -102,8 +102,15 @@ impl Outgoing {
         ATTENTION * acknowledgements
     }
 
+    /// Whether these bytes fit.
+    pub(crate) fn has_room(&self, bytes: &[u8]) -> bool
+        ensures { result ≡ fits (queue_in self.now) bytes.now }
+    {
+        !self.is_full && bytes.len() <= self.room()
+    }
+
     /// Appends bytes that are to be sent, all of them or none.
-    #[tactic(auto, unfolding(crate::specs::Posts::put))]
+    #[tactic(auto, unfolding(crate::specs::Queues::put))]
     pub(crate) fn append(&mut self, bytes: &[u8]) -> Result<(), NoMemory>
         ensures ok { OnOk result (self.new.bytes.items ≡ (if self.new.is_full
             then self.old.bytes.items else self.old.bytes.items ++ bytes.now)) }
@@ -114,8 +121,8 @@ impl Outgoing {
         ensures size { self.new.size ≡ self.old.size }
         ensures more { OnOk result (self.new.is_full ≡ false
             → waiting_in self.new ≡ waiting_in self.old + length bytes.now) }
-        ensures post { OnOk result (post_in self.new ≡ put bytes.now (post_in self.old)) }
-        ensures kept { OnErr result (post_in self.new ≡ post_in self.old) }
+        ensures queue { OnOk result (queue_in self.new ≡ put bytes.now (queue_in self.old)) }
+        ensures kept { OnErr result (queue_in self.new ≡ queue_in self.old) }
     {
         if self.is_full || bytes.len() > self.room() {
             self.is_full = true;
@@ -125,7 +132,7 @@ impl Outgoing {
     }
 
     /// Appends a packet, all of it or nothing.
-    #[tactic(auto, unfolding(crate::specs::Posts::put))]
+    #[tactic(auto, unfolding(crate::specs::Queues::put))]
     pub(crate) fn put_packet(&mut self, header: Header, content: &[u8]) -> Result<(), NoMemory>
         requires { header.length ≡ 8 + length content.now }
         ensures ok { OnOk result (self.new.bytes.items ≡ (if self.new.is_full
@@ -136,8 +143,8 @@ impl Outgoing {
             → waiting_in self.old + header.length ≤ self.old.size + PIECE
             → self.new.is_full ≡ false }
         ensures size { self.new.size ≡ self.old.size }
-        ensures post { OnOk result (post_in self.new
-            ≡ put (header_bytes header ++ content.now) (post_in self.old)) }
+        ensures queue { OnOk result (queue_in self.new
+            ≡ put (header_bytes header ++ content.now) (queue_in self.old)) }
     {
         if self.is_full || usize::from(header.length) > self.room() {
             self.is_full = true;
@@ -154,7 +161,7 @@ impl Outgoing {
         ensures size { self.new.size ≡ self.old.size }
         ensures more { OnOk result (self.new.is_full ≡ false
             → waiting_in self.new ≡ waiting_in self.old + news_length is_told) }
-        ensures post { OnOk result (post_in self.new ≡ put_news is_told (post_in self.old)) }
+        ensures queue { OnOk result (queue_in self.new ≡ put_news is_told (queue_in self.old)) }
     {
         if is_told { self.append(&NEWS) } else { Ok(()) }
     }
@@ -178,7 +185,7 @@ impl Outgoing {
         ensures size { self.new.size ≡ self.old.size }
         ensures full { self.new.is_full ≡ self.old.is_full }
         ensures fewer { waiting_in self.new ≡ waiting_in self.old - count }
-        ensures post { post_in self.new ≡ without_first count (post_in self.old) }
+        ensures queue { queue_in self.new ≡ without_first count (queue_in self.old) }
     {
         let sent = self.sent.saturating_add(count).min(self.bytes.len());
         if sent == self.bytes.len() {

@@ -9,20 +9,20 @@ ghost use Rattle.tds_relay.specs.Asking.{IsUnderway};
 ghost use Rattle.tds_relay.specs.Bodies.{AskAsBefore, Nowhere, body_of};
 ghost use Rattle.tds_relay.specs.Bounds.{waiting_for};
 ghost use Rattle.tds_relay.specs.Closings.{ClosesOnly, Nobody, register_in};
-ghost use Rattle.tds_relay.specs.Desk.{find_key, find_number, key_of, new_desk};
-ghost use Rattle.tds_relay.specs.Fronts.{Moved, ends_in, hall_in, house_in};
-ghost use Rattle.tds_relay.specs.Hall.{IfOpen, IsAway, IsBegun, IsHere, MayPart, change_end, end_at};
-ghost use Rattle.tds_relay.specs.Hall.{Open, lets_go};
-ghost use Rattle.tds_relay.specs.House.{Steps, new_house};
+ghost use Rattle.tds_relay.specs.Pool.{find_key, find_number, key_of, new_pool};
+ghost use Rattle.tds_relay.specs.Fronts.{Moved, ends_in, core_in, machine_in};
+ghost use Rattle.tds_relay.specs.Core.{IfOpen, IsAway, IsBegun, IsHere, MayPart, change_end, end_at};
+ghost use Rattle.tds_relay.specs.Core.{Open, lets_go};
+ghost use Rattle.tds_relay.specs.Machine.{Steps, new_machine};
 ghost use Rattle.tds_relay.specs.Places.{HasNoTransaction, begun_in, holder};
-ghost use Rattle.tds_relay.specs.Posts.{Enters, posts_in};
+ghost use Rattle.tds_relay.specs.Queues.{Enters, queues_in};
 ghost use Rattle.tds_relay.specs.Reads.{link_at, open_at, waits_on};
 ghost use Rattle.tds_relay.specs.Reasons.{CannotMove, HasGoneOut, HasTransaction};
 ghost use Rattle.tds_relay.specs.Sparing.{OthersRest};
-ghost use Rattle.tds_relay.specs.Ties.{Cause, CausesRequest, Goes, Neither, desk_in};
+ghost use Rattle.tds_relay.specs.Ties.{Cause, CausesRequest, Goes, Neither, pool_in};
 ghost use Rattle.tds_relay.specs.Told.{TellsTheSame, least_for, room_at, room_behind, room_there};
 ghost use Rattle.tds_relay.specs.Waiting.{StandsInLine};
-ghost use Rattle.tds_relay.specs.Walkers.{AllStand, IsUnread};
+ghost use Rattle.tds_relay.specs.TokenParsers.{AllStand, IsUnread};
 ghost use Rattle.tds_relay.specs.declared.application.Application.{Application};
 ghost use Rattle.tds_relay.specs.declared.link.TheConstants.{COLUMNS};
 ghost use Rattle.tds_relay.specs.declared.outgoing.TheConstants.{PIECE};
@@ -49,12 +49,12 @@ mod telling;
 
 use crate::NoMemory;
 use crate::application::Application;
-use crate::desk::{Desk, Mode};
 use crate::fault::Refused;
 use crate::link::Link;
 use crate::links::{Links, link_in};
 use crate::order::Order;
 use crate::outgoing::{BESIDE, PIECE};
+use crate::pool::{Mode, Pool};
 pub use places::{Counts, Place, PlaceOn};
 use slab::Slab;
 use std::alloc::{AllocError, Global};
@@ -73,13 +73,13 @@ pub struct Relay {
     alloc: Global,
     size: PacketSize,
     features: Features,
-    desk: Desk,
+    pool: Pool,
     /// How many connections there may be: `set_most` alone changes that.
     most: usize,
     applications: Slab<Application>,
     links: Links,
     orders: Vec<Order>,
-    /// Where the desk puts what is to be sent on a connection.
+    /// Where the pool puts what is to be sent on a connection.
     outbox: Vec<u8>,
     /// Connections that were let go or brought, and are cleaned; and those that nobody held which were closed instead.
     cleanings: u64,
@@ -98,26 +98,26 @@ impl Relay {
         size: PacketSize,
         features: Features,
     ) -> Result<Relay, NoMemory>
-        ensures desk { IfOk result (λ relay. desk_in relay.desk
-            ≡ new_desk (record { most = most; mode = mode })) }
-        ensures house { IfOk result (λ relay. house_in relay
-            ≡ new_house (record { most = most; mode = mode })) }
+        ensures pool { IfOk result (λ relay. pool_in relay.pool
+            ≡ new_pool (record { most = most; mode = mode })) }
+        ensures machine { IfOk result (λ relay. machine_in relay
+            ≡ new_machine (record { most = most; mode = mode })) }
         ensures unread { IfOk result (λ relay. (number : ℕ)
-            → IsUnread COLUMNS features number relay.desk.service) }
+            → IsUnread COLUMNS features number relay.pool.service) }
         ensures nothing { IfOk result (λ relay. (relay.links.items ≡ [])
             × (relay.orders.items ≡ []) × (relay.refused ≡ None)) }
         ensures sized { IfOk result (λ relay. (relay.size ≡ size) × (relay.features ≡ features)) }
-        ensures goes_out { IfOk result (λ relay. AllSized size relay.desk.service) }
+        ensures goes_out { IfOk result (λ relay. AllSized size relay.pool.service) }
         ensures most { IfOk result (λ relay. relay.most ≡ most) }
         ensures seated { IfOk result (λ relay. IsSeated relay) }
         ensures counts { IfOk result (λ relay. (relay.cleanings ≡ 0) × (relay.failed ≡ 0)) }
     {
-        let desk = Desk::new(alloc, mode, most, size, features)?;
+        let pool = Pool::new(alloc, mode, most, size, features)?;
         Ok(Relay {
             alloc,
             size,
             features,
-            desk,
+            pool,
             most,
             applications: Slab::new(alloc),
             links: Links::new(alloc),
@@ -131,21 +131,21 @@ impl Relay {
 
     /// For how long an application keeps the connection that it is lent: no call changes that.
     pub fn mode(&self) -> Mode
-        ensures { result ≡ (desk_in self.now.desk).mode }
+        ensures { result ≡ (pool_in self.now.pool).mode }
     {
-        self.desk.mode()
+        self.pool.mode()
     }
 
     /// An application has come that is logged in, which is called so. Answers its key.
     pub fn enter(&mut self, tag: usize) -> Result<usize, NoMemory>
-        ensures desk { self.new.desk ≡ self.old.desk }
+        ensures pool { self.new.pool ≡ self.old.pool }
         ensures size { IfOk result (λ key. IfSome (get self.new.applications key)
             (λ (a : Application). a.out.size ≡ self.old.size)) }
         ensures front { IfOk result (λ key. end_at (ends_in self.new.applications) key
             ≡ Some (Open (new_front self.old.size) false None)) }
-        ensures posts { IfOk result (λ key. Enters self.old.size tag key
-            (posts_in self.old.applications) (posts_in self.new.applications)) }
-        ensures steps { OnOk result (Steps Neither (house_in self.old) (house_in self.new)) }
+        ensures queues { IfOk result (λ key. Enters self.old.size tag key
+            (queues_in self.old.applications) (queues_in self.new.applications)) }
+        ensures steps { OnOk result (Steps Neither (machine_in self.old) (machine_in self.new)) }
         ensures links { self.new.links.items ≡ self.old.links.items }
         ensures ends { IfOk result (λ key. (other : ℕ) → other ≢ key
             → end_at (ends_in self.new.applications) other
@@ -166,8 +166,8 @@ impl Relay {
 
     /// What is to be done, in order. It is to be done before the next call.
     pub fn orders(&mut self) -> Vec<Order>
-        ensures desk { self.new.desk ≡ self.old.desk }
-        ensures kept { posts_in self.new.applications ≡ posts_in self.old.applications }
+        ensures pool { self.new.pool ≡ self.old.pool }
+        ensures kept { queues_in self.new.applications ≡ queues_in self.old.applications }
         ensures ends { ends_in self.new.applications ≡ ends_in self.old.applications }
         ensures links { self.new.links.items ≡ self.old.links.items }
         ensures same { self.new.applications ≡ self.old.applications }
@@ -191,7 +191,7 @@ impl Relay {
         if application.is_over {
             return 0;
         }
-        let room = match self.desk.hold_of(key) {
+        let room = match self.pool.hold_of(key) {
             Some(hold) => self.room_to(hold.number),
             None => PIECE,
         };
@@ -215,15 +215,15 @@ impl Relay {
         ensures most { result ≤ PIECE }
         ensures is { result ≡ room_there number self.now }
         ensures fits { (key : ℕ)
-            → key_of (find_number number (desk_in self.now.desk).holds) ≡ Some key
+            → key_of (find_number number (pool_in self.now.pool).holds) ≡ Some key
             → result ≤ PIECE - waiting_for (get self.now.applications key) }
         ensures least { IsSome (link_at number self.now.links.items)
-            → least_for (holder (desk_in self.now.desk) number) self.now ≤ result }
+            → least_for (holder (pool_in self.now.pool) number) self.now ≤ result }
     {
         let Some(link) = self.link(number) else {
             return 0;
         };
-        let Some(key) = self.desk.key_on(number) else {
+        let Some(key) = self.pool.key_on(number) else {
             return PIECE;
         };
         let Some(application) = self.applications.get(key) else {
@@ -231,7 +231,7 @@ impl Relay {
         };
         let room = application.out.piece();
         // Its packets may be set anew, or the news of a reset may go before them.
-        if application.reset.is_some() || link.answer.holds() || self.desk.owes_reset(number) {
+        if application.reset.is_some() || link.answer.holds() || self.pool.owes_reset(number) {
             room.saturating_sub(BESIDE)
         } else {
             room
@@ -254,15 +254,15 @@ impl Relay {
 
     /// How many applications wait for a connection.
     pub fn waiting(&self) -> usize
-        ensures { result ≡ length (desk_in self.now.desk).line }
+        ensures { result ≡ length (pool_in self.now.pool).line }
     {
-        self.desk.waiting()
+        self.pool.waiting()
     }
 
     /// An application has nothing more to do with the connection that it had.
     fn let_go(&mut self, key: usize)
-        ensures desk { self.new.desk ≡ self.old.desk }
-        ensures kept { posts_in self.new.applications ≡ posts_in self.old.applications }
+        ensures pool { self.new.pool ≡ self.old.pool }
+        ensures kept { queues_in self.new.applications ≡ queues_in self.old.applications }
         ensures ends { ends_in self.new.applications
             ≡ change_end key lets_go (ends_in self.old.applications) }
         ensures links { self.new.links.items ≡ self.old.links.items }
@@ -294,11 +294,11 @@ impl Relay {
     /// Whether an application may be parted from its connection: its request has begun, nothing of it has gone on,
     /// and it asks for a full reset, or for one that keeps its transaction where none is open.
     fn may_part(&self, key: usize) -> bool
-        ensures parts { result ≡ true → MayPart (hall_in self.now) key }
+        ensures parts { result ≡ true → MayPart (core_in self.now) key }
         ensures begun { result ≡ true
             → IfOpen IsBegun (end_at (ends_in self.now.applications) key) }
         ensures not { result ≡ false → CannotMove key
-            (end_at (ends_in self.now.applications) key) (desk_in self.now.desk) }
+            (end_at (ends_in self.now.applications) key) (pool_in self.now.pool) }
     {
         let Some(application) = self.applications.get(key) else {
             return false;
@@ -311,11 +311,11 @@ impl Relay {
 
     /// Whether a transaction is open on the connection that an application holds.
     fn has_transaction(&self, key: usize) -> bool
-        ensures none { result ≡ false → HasNoTransaction (desk_in self.now.desk) key }
-        ensures some { result ≡ true → HasTransaction (desk_in self.now.desk) key }
+        ensures none { result ≡ false → HasNoTransaction (pool_in self.now.pool) key }
+        ensures some { result ≡ true → HasTransaction (pool_in self.now.pool) key }
     {
-        match self.desk.hold_of(key) {
-            Some(hold) => self.desk.is_open_on(hold.number) == Some(true),
+        match self.pool.hold_of(key) {
+            Some(hold) => self.pool.is_open_on(hold.number) == Some(true),
             None => false,
         }
     }
@@ -323,30 +323,30 @@ impl Relay {
     /// An application's request waits for a connection, behind all others.
     fn wait(&mut self, key: usize) -> Result<(), NoMemory>
         ensures goes { OnOk result ((by : Cause) → CausesRequest by key
-            → Goes by (desk_in self.old.desk) (desk_in self.new.desk)) }
+            → Goes by (pool_in self.old.pool) (pool_in self.new.pool)) }
         ensures orders { self.new.orders.items ≡ self.old.orders.items }
-        ensures kept { posts_in self.new.applications ≡ posts_in self.old.applications }
+        ensures kept { queues_in self.new.applications ≡ queues_in self.old.applications }
         ensures moves { OnOk result ((by : Cause) → CausesRequest by key
             → IfOpen IsBegun (end_at (ends_in self.old.applications) key)
-            → Moved by (hall_in self.old) (hall_in self.new)) }
-        ensures underway { find_key key (desk_in self.old.desk).holds ≡ None
+            → Moved by (core_in self.old) (core_in self.new)) }
+        ensures underway { find_key key (pool_in self.old.pool).holds ≡ None
             → OnOk result ((whole : Bool)
-            → IsUnderway whole self.new.links.items key (hall_in self.new)) }
+            → IsUnderway whole self.new.links.items key (core_in self.new)) }
         ensures links { self.new.links.items ≡ self.old.links.items }
-        ensures stand { OnOk result (AllStand self.old.desk.service
-            self.new.desk.service) }
+        ensures stand { OnOk result (AllStand self.old.pool.service
+            self.new.pool.service) }
         ensures body { (other : ℕ) → body_of other self.new ≡ body_of other self.old }
         ensures lines { OnOk result (StandsInLine key self.new) }
         ensures spares { OnOk result ((number : ℕ)
-            → SparesOthers number (Some key) (hall_in self.old) (hall_in self.new)) }
+            → SparesOthers number (Some key) (core_in self.old) (core_in self.new)) }
         ensures counts { cleaned_in self.new ≡ cleaned_in self.old }
         ensures closes { ClosesOnly Nobody (register_in self.old) (register_in self.new) }
         ensures seated { IsSeated self.old → OnOk result (IsSeated self.new) }
-        ensures holds { OnOk result (self.new.desk.holds.items
-            ≡ self.old.desk.holds.items) }
+        ensures holds { OnOk result (self.new.pool.holds.items
+            ≡ self.old.pool.holds.items) }
     {
         if self.is_away(key) {
-            self.desk.wait(key)
+            self.pool.wait(key)
         } else {
             Ok(())
         }
@@ -355,10 +355,10 @@ impl Relay {
     /// Whether an application is taken from, holds no connection, and waits for none.
     #[tactic(auto, using(crate::proofs::steps::Underway::of_none, crate::proofs::steps::Underway::of_over))]
     fn is_away(&self, key: usize) -> bool
-        ensures away { result ≡ true → IsAway (hall_in self.now) key }
-        ensures underway { result ≡ false → find_key key (desk_in self.now.desk).holds ≡ None
+        ensures away { result ≡ true → IsAway (core_in self.now) key }
+        ensures underway { result ≡ false → find_key key (pool_in self.now.pool).holds ≡ None
             → (whole : Bool)
-            → IsUnderway whole self.now.links.items key (hall_in self.now) }
+            → IsUnderway whole self.now.links.items key (core_in self.now) }
         ensures lines { result ≡ false → StandsInLine key self.now }
     {
         let Some(application) = self.applications.get(key) else {
@@ -367,9 +367,9 @@ impl Relay {
         if application.is_over {
             return false;
         }
-        match self.desk.hold_of(key) {
+        match self.pool.hold_of(key) {
             Some(_) => false,
-            None => !self.desk.waits(key),
+            None => !self.pool.waits(key),
         }
     }
 

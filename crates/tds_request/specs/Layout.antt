@@ -13,9 +13,7 @@ use Rattle.tds_request.specs.Values.{IsBatchText, IsIsolation}
 -- Which message a request is: a batch (packet type 01), or a transaction manager request (packet type 0E). MS-TDS 2.2.3.1.1.
 abbrev pub kind_of_request : Request → RequestKind
 kind_of_request (requests.Batch units) = kinds.Batch
-kind_of_request (requests.Begin isolation) = kinds.Transaction
-kind_of_request (requests.Commit anew) = kinds.Transaction
-kind_of_request (requests.Rollback anew) = kinds.Transaction
+kind_of_request _ = kinds.Transaction
 
 -- The type of its packets (MS-TDS 2.2.3.1.1).
 abbrev pub packet_kind : RequestKind → Kind

@@ -47,10 +47,10 @@ comes_here s number part lease request answer items lent news i here y before af
       holder = ap lease_at found ∙ sym leased;
     }
 
--- ---- Where the walker stands
+-- ---- Where the parser stands
 
 reading_first : (test : Seat → Bool) (d : code.Seat) (cs : List code.Seat) (i : ℕ) → i < length cs → met test cs i ≡ true → ((k : ℕ) → k < i → met test cs k ≡ false)
-    → reading_by test cs ≡ Some ((get_or cs i d).connection.walker)
+    → reading_by test cs ≡ Some ((get_or cs i d).connection.parser)
 reading_first test d [] i lt here before = absurd (omega arith)
 reading_first test d (c ∷ cs) zero lt here before = rw here refl
 reading_first test d (c ∷ cs) (suc i) lt here before =
@@ -58,19 +58,19 @@ reading_first test d (c ∷ cs) (suc i) lt here before =
     rw first (reading_first test d cs i (omega arith) here (λ k h. before (suc k) (omega arith)))
 
 reading_set : (test : Seat → Bool) (y : code.Seat) (cs : List code.Seat) (i : ℕ) → i < length cs → ((k : ℕ) → k < i → met test cs k ≡ false) → test (seat_in y) ≡ true
-    → reading_by test (set cs i y) ≡ Some y.connection.walker
+    → reading_by test (set cs i y) ≡ Some y.connection.parser
 reading_set test y [] i lt before e = absurd (omega arith)
 reading_set test y (c ∷ cs) zero lt before e = rw e refl
 reading_set test y (c ∷ cs) (suc i) lt before e =
     let first : test (seat_in c) ≡ false = before 0 (omega arith) in
     rw first (reading_set test y cs i (omega arith) (λ k h. before (suc k) (omega arith)) e)
 
-pub reading_here : (test : Seat → Bool) (items lent : List code.Seat) (i : ℕ) (here : Here test items lent i) → reading_by test items ≡ Some here.seat.connection.walker
+pub reading_here : (test : Seat → Bool) (items lent : List code.Seat) (i : ℕ) (here : Here test items lent i) → reading_by test items ≡ Some here.seat.connection.parser
 reading_here test items lent i here =
-    reading_first test here.seat items i here.first.within here.first.here here.first.before ∙ ap (λ (x : code.Seat). Some x.connection.walker) (sym here.at)
+    reading_first test here.seat items i here.first.within here.first.here here.first.before ∙ ap (λ (x : code.Seat). Some x.connection.parser) (sym here.at)
 
 pub reading_behind : (number : ℕ) (items lent news : List code.Seat) (i : ℕ) (here : Here (has_number number) items lent i) (y : code.Seat)
-    → lent ≡ items → news ≡ set lent i y → y.number ≡ here.seat.number → reading_by (has_number number) news ≡ Some y.connection.walker
+    → lent ≡ items → news ≡ set lent i y → y.number ≡ here.seat.number → reading_by (has_number number) news ≡ Some y.connection.parser
 reading_behind number items lent news i here y same changed numbered =
     ap (reading_by (has_number number)) (changed ∙ ap (λ (cs : List code.Seat). set cs i y) same)
     ∙ reading_set (has_number number) y items i here.first.within here.first.before (ap (λ (n : ℕ). n == number) numbered ∙ meets_here (has_number number) items lent i here)

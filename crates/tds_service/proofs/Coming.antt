@@ -223,7 +223,7 @@ pub came_unawaited : (n : ℕ) (s next : ClientSession) (part : Part Token) (fau
 came_unawaited n s next part fault h is =
     subst (λ (x : ClientSession). Hears part (line_of n s) (line_of n x) (line.Fault (listens.Client fault)) []) (sym is) (unawaited_alike n s part fault h)
 
--- where the walker stands
+-- where the parser stands
 stands_in : (s : ClientSession) (f : Found) (next : ClientSession) (reading : Reading) (left : List ℕ) (some : Option Token)
     → moved_by s f ≡ Ok (record { told = some; session = next; reading = reading; rest = left }) → Stands f reading left
 stands_in s (Sees token r rest) next reading left some e = sees (signed Any s (sign_of token)) e

@@ -14,15 +14,15 @@ use Rattle.tds_service.specs.Table.{met, puts_by, reading_by, seat_in, without_c
 use Rattle.tds_service.specs.Ties.{full_in}
 use Rattle.tds_service.proofs.Tables.{Here, taken_set}
 
--- a seat with another connection, that has the same number and walker
+-- a seat with another connection, that has the same number and parser
 pub keeps_set : (n : ℕ) (d y : code.Seat) (cs : List code.Seat) (i : ℕ) → i < length cs → y.number ≡ (get_or cs i d).number
-    → y.connection.walker ≡ (get_or cs i d).connection.walker → reading_by (has_number n) (set cs i y) ≡ reading_by (has_number n) cs
-keeps_set n d y [] i lt number walker = absurd (omega arith)
-keeps_set n d y (c ∷ cs) zero lt number walker =
-    ap (λ (m : ℕ). if m == n then Some y.connection.walker else reading_by (has_number n) cs) number
-    ∙ ap (λ (r : Reading). if c.number == n then Some r else reading_by (has_number n) cs) walker
-keeps_set n d y (c ∷ cs) (suc i) lt number walker =
-    ap (λ (x : Option Reading). if c.number == n then Some c.connection.walker else x) (keeps_set n d y cs i (omega arith) number walker)
+    → y.connection.parser ≡ (get_or cs i d).connection.parser → reading_by (has_number n) (set cs i y) ≡ reading_by (has_number n) cs
+keeps_set n d y [] i lt number parser = absurd (omega arith)
+keeps_set n d y (c ∷ cs) zero lt number parser =
+    ap (λ (m : ℕ). if m == n then Some y.connection.parser else reading_by (has_number n) cs) number
+    ∙ ap (λ (r : Reading). if c.number == n then Some r else reading_by (has_number n) cs) parser
+keeps_set n d y (c ∷ cs) (suc i) lt number parser =
+    ap (λ (x : Option Reading). if c.number == n then Some c.connection.parser else x) (keeps_set n d y cs i (omega arith) number parser)
 
 -- one of another number
 pub keeps_other : (n : ℕ) (d y : code.Seat) (cs : List code.Seat) (i : ℕ) → i < length cs → y.number ≡ (get_or cs i d).number → n ≢ (get_or cs i d).number
@@ -33,7 +33,7 @@ keeps_other n d y (c ∷ cs) zero lt number other =
     let f : (y.number == n) ≡ false = ap (λ (m : ℕ). m == n) number ∙ e in
     rw e (rw f refl)
 keeps_other n d y (c ∷ cs) (suc i) lt number other =
-    ap (λ (x : Option Reading). if c.number == n then Some c.connection.walker else x) (keeps_other n d y cs i (omega arith) number other)
+    ap (λ (x : Option Reading). if c.number == n then Some c.connection.parser else x) (keeps_other n d y cs i (omega arith) number other)
 
 -- another is taken out
 pub keeps_taken : (n : ℕ) (d : code.Seat) (cs : List code.Seat) (i : ℕ) → i < length cs → n ≢ (get_or cs i d).number
@@ -43,7 +43,7 @@ keeps_taken n d (c ∷ cs) zero lt other = let e : (c.number == n) ≡ false = g
 keeps_taken n d (c ∷ cs) (suc i) lt other =
     let e : suc i + 1 ≡ suc (i + 1) = omega arith in
     ap (λ (k : ℕ). reading_by (has_number n) (take (suc i) (c ∷ cs) ++ drop k (c ∷ cs))) e
-    ∙ ap (λ (x : Option Reading). if c.number == n then Some c.connection.walker else x) (keeps_taken n d cs i (omega arith) other)
+    ∙ ap (λ (x : Option Reading). if c.number == n then Some c.connection.parser else x) (keeps_taken n d cs i (omega arith) other)
 
 -- one is added
 added_by : (b : Bool) (r s : Reading) (x y : Option Reading) → (x ≡ Some r → y ≡ Some r) → (if b then Some s else x) ≡ Some r → (if b then Some s else y) ≡ Some r
@@ -52,17 +52,17 @@ added_by false r s x y f e = f e
 
 pub keeps_added : (test : Seat → Bool) (r : Reading) (d : code.Seat) (cs : List code.Seat) → reading_by test cs ≡ Some r → reading_by test (cs ++ d ∷ []) ≡ Some r
 keeps_added test r d [] e = absurd (let u : ⊥ = cc in u)
-keeps_added test r d (c ∷ cs) e = added_by (test (seat_in c)) r c.connection.walker (reading_by test cs) (reading_by test (cs ++ d ∷ [])) (keeps_added test r d cs) e
+keeps_added test r d (c ∷ cs) e = added_by (test (seat_in c)) r c.connection.parser (reading_by test cs) (reading_by test (cs ++ d ∷ [])) (keeps_added test r d cs) e
 
 -- what is added is found where nothing was
 first_none : (b : Bool) (r s : Reading) (x y : Option Reading) → (x ≡ None → y ≡ Some s) → (if b then Some r else x) ≡ None → (if b then Some r else y) ≡ Some s
 first_none true r s x y f e = absurd (let u : ⊥ = cc in u)
 first_none false r s x y f e = f e
 
-pub reads_added : (test : Seat → Bool) (d : code.Seat) (cs : List code.Seat) → reading_by test cs ≡ None → test (seat_in d) ≡ true → reading_by test (cs ++ d ∷ []) ≡ Some d.connection.walker
+pub reads_added : (test : Seat → Bool) (d : code.Seat) (cs : List code.Seat) → reading_by test cs ≡ None → test (seat_in d) ≡ true → reading_by test (cs ++ d ∷ []) ≡ Some d.connection.parser
 reads_added test d [] none e = rw e refl
 reads_added test d (c ∷ cs) none e =
-    first_none (test (seat_in c)) c.connection.walker d.connection.walker (reading_by test cs) (reading_by test (cs ++ d ∷ [])) (λ f. reads_added test d cs f e) none
+    first_none (test (seat_in c)) c.connection.parser d.connection.parser (reading_by test cs) (reading_by test (cs ++ d ∷ [])) (λ f. reads_added test d cs f e) none
 
 -- ---- In a service
 

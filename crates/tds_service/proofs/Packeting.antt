@@ -103,7 +103,7 @@ behind c l k r reading bytes left before after toks ends new answer some h =
 
 -- ---- One token more
 
--- What the walker finds was heard.
+-- What the parser finds was heard.
 record Goes (c : Bool) (n : ℕ) (h : Heard) (items : List (Item Token)) (new : Line) (toks : List Token) : Type 0 where
   next : Heard
   heard : hear_items c h items ≡ Ok next

@@ -1,4 +1,4 @@
--- The part that a packet's data is, by the walker over them.
+-- The part that a packet's data is, by the parser over them.
 use Rattle.std.specs.Prelude.{◌≡◌, ℕ, Bool, true, false, List, [], ◌∷◌, ◌++◌, Ok, if◌then◌else◌}
 use Rattle.tds_wire.specs.declared.told.Token.{Token}
 use Rattle.tds_wire.specs.Reading.{Reading, is_between, restarted}
@@ -45,7 +45,7 @@ outcome_answer n outcomes.Finished = line.Finished n
 outcome_answer n outcomes.Acknowledged = line.Acked n
 outcome_answer n (outcomes.Fault fault) = line.Fault fault
 
--- Where the walker stands behind it.
+-- Where the parser stands behind it.
 abbrev pub behind_packet : Bool → Reading → Reading
 behind_packet false r = r
 behind_packet true r = restarted r
@@ -76,7 +76,7 @@ abbrev pub led_all : List Token → Tokens → Tokens
 led_all [] others = others
 led_all (token ∷ tokens) others = led_by token (led_all tokens others)
 
--- Some tokens of these bytes were heard: the line and the walker stand behind them, and these bytes are left.
+-- Some tokens of these bytes were heard: the line and the parser stand behind them, and these bytes are left.
 pub record HeardSome (c : Bool) (old : Line) (r : Reading) (bytes : List ℕ) (new : Line) (reading : Reading) (left : List ℕ) (before after : List Token) : Type 0 where
   pub tokens : List Token
   pub are : tokens_in r bytes ≡ led_all tokens (tokens_in reading left)

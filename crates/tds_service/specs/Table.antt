@@ -171,10 +171,10 @@ IsNewest number request s = (c : Seat) → find_by (has_number number) s.seats �
 abbrev pub ComesUntold : (s new : Service) → ℕ → Part Token → Option ℕ → ℕ → Answer → Type 0
 ComesUntold s new number part lease request answer = (tokens : List Token) × Comes s new number part lease request answer [] tokens
 
--- Where the walker of the connection of this number stands.
+-- Where the parser of the connection of this number stands.
 abbrev pub reading_by : (Seat → Bool) → List seats.Seat → Option Reading
 reading_by test [] = None
-reading_by test (c ∷ cs) = if test (seat_in c) then Some c.connection.walker else reading_by test cs
+reading_by test (c ∷ cs) = if test (seat_in c) then Some c.connection.parser else reading_by test cs
 
 abbrev pub reading_on : ℕ → services.Service → Option Reading
 reading_on number s = reading_by (has_number number) s.seats.items

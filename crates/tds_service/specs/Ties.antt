@@ -1,4 +1,4 @@
--- What the machine's words are in the code: a client is a line, what goes out are its packets' bytes, and what a walker finds in a
+-- What the machine's words are in the code: a client is a line, what goes out are its packets' bytes, and what a parser finds in a
 -- piece is a part.
 use Rattle.std.specs.Prelude.{◌≡◌, ℕ, ◌+◌, ◌==◌, Bool, true, List, [], ◌∷◌, ◌++◌, length, Option, Some, None, if◌then◌else◌}
 use Rattle.tds_packet.specs.declared.kind.Kind.{Kind}
@@ -122,13 +122,13 @@ abbrev pub items_of : Option Token → List (Item Token)
 items_of None = []
 items_of (Some token) = (record { sign = sign_of token; token = token }) ∷ []
 
--- What the walker finds in a piece: one token at most.
+-- What the parser finds in a piece: one token at most.
 abbrev pub part_of : Found → Part Token
 part_of (Sees token r rest) = record { items = items_of (Some token); close = Goes }
 part_of (Inside r) = record { items = []; close = Goes }
 part_of (Refuses refusal) = record { items = []; close = Fails refusal }
 
--- Where the walker stands behind it, and what is left of the piece.
+-- Where the parser stands behind it, and what is left of the piece.
 abbrev pub Stands : Found → Reading → List ℕ → Type 0
 Stands (Sees token r rest) reading left = (reading ≡ r) × (left ≡ rest)
 Stands (Inside r) reading left = (reading ≡ r) × (left ≡ [])

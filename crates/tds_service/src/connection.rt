@@ -24,14 +24,14 @@ use tds_client::{
 };
 use tds_listen::{Heard, ListenFault, hear_end, next, next_to, sign_of};
 use tds_packet::{PacketSize, Reset};
-use tds_wire::{Features, NoMemory, Token, Walker};
+use tds_wire::{Features, NoMemory, Token, TokenParser};
 
-/// One connection to any server of TDS 7.2 to 7.4: its client, the walker over what comes, and how
+/// One connection to any server of TDS 7.2 to 7.4: its client, the parser over what comes, and how
 /// many requests were asked on it, which are their numbers.
 #[derive(Drop)]
 pub struct Connection {
     client: Client,
-    walker: Walker,
+    parser: TokenParser,
     asked: u64,
 }
 
@@ -48,12 +48,12 @@ impl Connection {
         ensures line { IfOk result (λ connection. line_in connection ≡ line.new_line) }
         ensures client { IfOk result (λ connection. connection.client ≡ new_session size) }
         ensures sized { IfOk result (Sized size) }
-        ensures begins { IfOk result (λ connection. Begins most features connection.walker) }
+        ensures begins { IfOk result (λ connection. Begins most features connection.parser) }
     {
-        let walker = Walker::new(alloc, most, features)?;
+        let parser = TokenParser::new(alloc, most, features)?;
         Ok(Connection {
             client: Client::new(alloc, size),
-            walker,
+            parser,
             asked: 0,
         })
     }
@@ -81,7 +81,7 @@ impl Connection {
         ensures refused { IfErr result (λ refusal.
             answer_to (line_in self.old) (line.Mark reset) ≡ line.Refused refusal) }
         ensures err { OnErr result (self.new ≡ self.old) }
-        ensures walker { self.new.walker ≡ self.old.walker }
+        ensures parser { self.new.parser ≡ self.old.parser }
         ensures size { self.new.client.size ≡ self.old.client.size }
     {
         self.client.mark_reset(reset)
@@ -99,7 +99,7 @@ impl Connection {
         ensures refused { IfErr result (IsRefusal
             (refusal_in (answer_to (line_in self.old) line.Ask))) }
         ensures err { OnErr result (self.new ≡ self.old) }
-        ensures walker { self.new.walker ≡ self.old.walker }
+        ensures parser { self.new.parser ≡ self.old.parser }
         ensures size { self.new.client.size ≡ self.old.client.size }
     {
         let number = self.next_number()?;
@@ -142,7 +142,7 @@ impl Connection {
             (refusal_in (answer_to (line_in self.old) (line.Send false)))) }
         ensures err { OnErr result (self.new ≡ self.old) }
         ensures nothing { OnErr result (out.new.items ≡ out.old.items) }
-        ensures walker { self.new.walker ≡ self.old.walker }
+        ensures parser { self.new.parser ≡ self.old.parser }
         ensures size { self.new.client.size ≡ self.old.client.size }
     {
         self.client.put(bytes, out)
@@ -162,7 +162,7 @@ impl Connection {
             (refusal_in (answer_to (line_in self.old) (line.Send true)))) }
         ensures err { OnErr result (self.new ≡ self.old) }
         ensures nothing { OnErr result (out.new.items ≡ out.old.items) }
-        ensures walker { self.new.walker ≡ self.old.walker }
+        ensures parser { self.new.parser ≡ self.old.parser }
         ensures size { self.new.client.size ≡ self.old.client.size }
     {
         self.client.finish(out)
@@ -181,7 +181,7 @@ impl Connection {
             (refusal_in (answer_to (line_in self.old) line.Cancel))) }
         ensures err { OnErr result (self.new ≡ self.old) }
         ensures nothing { OnErr result (out.new.items ≡ out.old.items) }
-        ensures walker { self.new.walker ≡ self.old.walker }
+        ensures parser { self.new.parser ≡ self.old.parser }
         ensures size { self.new.client.size ≡ self.old.client.size }
     {
         self.client.cancel(out)
@@ -200,13 +200,13 @@ impl Connection {
     #[inline(always)]
     pub fn came(&mut self, piece: &[u8]) -> Result<Heard, ListenFault>
         ensures ok { IfOk result (λ heard. Hears
-            (part_of (next_token self.old.walker piece.now)) (line_in self.old)
+            (part_of (next_token self.old.parser piece.now)) (line_in self.old)
             (line_in self.new) line.More (listed heard.token)) }
         ensures fault { IfErr result (λ fault. Hears
-            (part_of (next_token self.old.walker piece.now)) (line_in self.old)
+            (part_of (next_token self.old.parser piece.now)) (line_in self.old)
             (line_in self.new) (line.Fault fault) []) }
-        ensures stands { IfOk result (λ heard. Stands (next_token self.old.walker piece.now)
-            self.new.walker (drop heard.count piece.now)) }
+        ensures stands { IfOk result (λ heard. Stands (next_token self.old.parser piece.now)
+            self.new.parser (drop heard.count piece.now)) }
         ensures within { IfOk result (λ heard. heard.count ≤ length piece.now) }
         ensures moves { IfOk result (λ heard. 0 < length piece.now → 0 < heard.count) }
         ensures size { self.new.client.size ≡ self.old.client.size }
@@ -214,7 +214,7 @@ impl Connection {
         if let Err(fault) = self.client.hear_sign(Rules::Any, Sign::Nothing) {
             return Err(ListenFault::Client(fault));
         }
-        match next(&mut self.client, &mut self.walker, piece) {
+        match next(&mut self.client, &mut self.parser, piece) {
             Ok(heard) => Ok(Heard {
                 count: heard.count,
                 token: unless_change(heard.token),
@@ -231,18 +231,18 @@ impl Connection {
         requires awaits { (cancelling : Bool)
             × ((line_in self.old).stage ≡ awaiting cancelling) }
         ensures ok { IfOk result (λ _. Hears
-            (part_of (next_token self.old.walker piece.now)) (line_in self.old)
+            (part_of (next_token self.old.parser piece.now)) (line_in self.old)
             (line_in self.new) line.More (told (items_of token.new))) }
         ensures fault { IfErr result (λ fault. Hears
-            (part_of (next_token self.old.walker piece.now)) (line_in self.old)
+            (part_of (next_token self.old.parser piece.now)) (line_in self.old)
             (line_in self.new) (line.Fault fault) []) }
-        ensures stands { IfOk result (λ count. Stands (next_token self.old.walker piece.now)
-            self.new.walker (drop count piece.now)) }
+        ensures stands { IfOk result (λ count. Stands (next_token self.old.parser piece.now)
+            self.new.parser (drop count piece.now)) }
         ensures within { IfOk result (λ count. count ≤ length piece.now) }
         ensures moves { IfOk result (λ count. 0 < length piece.now → 0 < count) }
         ensures size { self.new.client.size ≡ self.old.client.size }
     {
-        next_to(&mut self.client, &mut self.walker, piece, token)
+        next_to(&mut self.client, &mut self.parser, piece, token)
     }
 
     /// Passes the row that bytes begin with, where it is whole: how many bytes it has. Else nothing is done,
@@ -254,16 +254,16 @@ impl Connection {
         ensures within { result ≤ length piece.now }
         ensures same { result ≡ 0 → self.new ≡ self.old }
         ensures ok { 0 < result → (tokens : List Token) × Hears
-            (part_of (next_token self.old.walker piece.now)) (line_in self.old)
+            (part_of (next_token self.old.parser piece.now)) (line_in self.old)
             (line_in self.new) line.More tokens }
-        ensures stands { 0 < result → Stands (next_token self.old.walker piece.now)
-            self.new.walker (drop result piece.now) }
+        ensures stands { 0 < result → Stands (next_token self.old.parser piece.now)
+            self.new.parser (drop result piece.now) }
         ensures client { self.new.client ≡ self.old.client }
     {
-        if !self.walker.is_between() {
+        if !self.parser.is_between() {
             return 0;
         }
-        self.walker.pass_row(piece)
+        self.parser.pass_row(piece)
     }
 
     /// As `hear_next`; where the caller doesn't tell, a row that stands whole is passed, and not answered.
@@ -277,14 +277,14 @@ impl Connection {
         requires awaits { (cancelling : Bool)
             × ((line_in self.old).stage ≡ awaiting cancelling) }
         ensures ok { IfOk result (λ _. (tokens : List Token) × Hears
-            (part_of (next_token self.old.walker piece.now)) (line_in self.old)
+            (part_of (next_token self.old.parser piece.now)) (line_in self.old)
             (line_in self.new) line.More tokens
             × (noted tells (told (items_of token.new)) ≡ noted tells tokens)) }
         ensures fault { IfErr result (λ fault. Hears
-            (part_of (next_token self.old.walker piece.now)) (line_in self.old)
+            (part_of (next_token self.old.parser piece.now)) (line_in self.old)
             (line_in self.new) (line.Fault fault) []) }
-        ensures stands { IfOk result (λ count. Stands (next_token self.old.walker piece.now)
-            self.new.walker (drop count piece.now)) }
+        ensures stands { IfOk result (λ count. Stands (next_token self.old.parser piece.now)
+            self.new.parser (drop count piece.now)) }
         ensures within { IfOk result (λ count. count ≤ length piece.now) }
         ensures moves { IfOk result (λ count. 0 < length piece.now → 0 < count) }
         ensures size { self.new.client.size ≡ self.old.client.size }
@@ -325,22 +325,22 @@ impl Connection {
     ///
     /// The fault that breaks the connection.
     pub fn ended(&mut self) -> Result<Taken, ListenFault>
-        ensures ok { IfOk result (λ answer. Hears (end_at self.old.walker) (line_in self.old)
+        ensures ok { IfOk result (λ answer. Hears (end_at self.old.parser) (line_in self.old)
             (line_in self.new) (taken_answer self.old.asked answer) []) }
-        ensures fault { IfErr result (λ fault. Hears (end_at self.old.walker) (line_in self.old)
+        ensures fault { IfErr result (λ fault. Hears (end_at self.old.parser) (line_in self.old)
             (line_in self.new) (line.Fault fault) []) }
-        ensures anew { self.new.walker ≡ restarted self.old.walker }
+        ensures anew { self.new.parser ≡ restarted self.old.parser }
         ensures memory { result ≡ Ok Taken.NoMemory → ⊥ }
         ensures size { self.new.client.size ≡ self.old.client.size }
     {
-        hear_end(&mut self.client, &mut self.walker)
+        hear_end(&mut self.client, &mut self.parser)
     }
 
     /// The connection is lost: it is broken, unless it is broken already.
     pub fn lost(&mut self)
         ensures does { (out : List ℕ)
             → Does line.Lose (line_in self.old) (line_in self.new) line.Lost out out }
-        ensures walker { self.new.walker ≡ self.old.walker }
+        ensures parser { self.new.parser ≡ self.old.parser }
         ensures size { self.new.client.size ≡ self.old.client.size }
     {
         self.client.lost();

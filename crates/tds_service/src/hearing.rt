@@ -47,11 +47,11 @@ fn hear_tokens(
     requires room { tells ≡ true → (line_in connection.old).stage ≡ line.Reading
         → vec_len told.old + length bytes.now ≤ vec_capacity told.old }
     ensures ok { OnOk result ((cancelling : Bool) × (tokens : List Token)
-        × HeardSome cancelling (line_in connection.old) connection.old.walker bytes.now
-        (line_in connection.new) connection.new.walker [] [] tokens
+        × HeardSome cancelling (line_in connection.old) connection.old.parser bytes.now
+        (line_in connection.new) connection.new.parser [] [] tokens
         × (told.new.items ≡ told.old.items ++ noted tells tokens)) }
     ensures fault { IfErr result (λ fault. (ends : Bool)
-        → Hears (packet_part connection.old.walker bytes.now ends) (line_in connection.old)
+        → Hears (packet_part connection.old.parser bytes.now ends) (line_in connection.old)
         (line_in connection.new) (line.Fault fault) []) }
     ensures front { take (vec_len told.old) told.new.items ≡ told.old.items }
     ensures size { connection.new.client.size ≡ connection.old.client.size }
@@ -94,18 +94,18 @@ pub(crate) fn hear(
     requires { tells ≡ true → (line_in connection.old).stage ≡ line.Reading
         → vec_len told.old + length bytes.now ≤ vec_capacity told.old }
     ensures ok { IfOk result (λ answer. Hears
-        (packet_part connection.old.walker bytes.now ends) (line_in connection.old)
+        (packet_part connection.old.parser bytes.now ends) (line_in connection.old)
         (line_in connection.new) (taken_answer connection.old.asked answer)
         (told_of_part (line_in connection.old)
-        (packet_part connection.old.walker bytes.now ends))) }
+        (packet_part connection.old.parser bytes.now ends))) }
     ensures told { OnOk result (told.new.items ≡ told.old.items
         ++ noted tells (told_of_part (line_in connection.old)
-        (packet_part connection.old.walker bytes.now ends))) }
+        (packet_part connection.old.parser bytes.now ends))) }
     ensures stands { OnOk result ((r : Reading)
-        × ((tokens_in connection.old.walker bytes.now).stop ≡ Stands r)
-        × (connection.new.walker ≡ behind_packet ends r)) }
+        × ((tokens_in connection.old.parser bytes.now).stop ≡ Stands r)
+        × (connection.new.parser ≡ behind_packet ends r)) }
     ensures fault { IfErr result (λ fault. Hears
-        (packet_part connection.old.walker bytes.now ends) (line_in connection.old)
+        (packet_part connection.old.parser bytes.now ends) (line_in connection.old)
         (line_in connection.new) (line.Fault fault) []) }
     ensures untold { OnErr result (told.new.items ≡ told.old.items) }
     ensures size { connection.new.client.size ≡ connection.old.client.size }
@@ -141,16 +141,16 @@ pub(crate) fn hear_packet(
 ) -> Outcome
     requires { tells ≡ true → (line_in connection.old).stage ≡ line.Reading
         → vec_len told.old + length bytes.now ≤ vec_capacity told.old }
-    ensures hears { Hears (packet_part connection.old.walker bytes.now ends)
+    ensures hears { Hears (packet_part connection.old.parser bytes.now ends)
         (line_in connection.old) (line_in connection.new)
         (outcome_answer connection.old.asked result)
         (told_of_part (line_in connection.old)
-        (packet_part connection.old.walker bytes.now ends)) }
+        (packet_part connection.old.parser bytes.now ends)) }
     ensures told { told.new.items ≡ told.old.items ++ noted tells
         (told_of_part (line_in connection.old)
-        (packet_part connection.old.walker bytes.now ends)) }
-    ensures reads { Reads result ends (tokens_in connection.old.walker bytes.now).stop
-        connection.new.walker }
+        (packet_part connection.old.parser bytes.now ends)) }
+    ensures reads { Reads result ends (tokens_in connection.old.parser bytes.now).stop
+        connection.new.parser }
     ensures size { connection.new.client.size ≡ connection.old.client.size }
 {
     match hear(connection, bytes, ends, tells, told) {

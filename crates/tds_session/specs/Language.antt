@@ -28,15 +28,13 @@ two_words w x =
 
 -- a rows statement of its two numbers, if there are both
 abbrev pub rows_of : Option ℕ → Option ℕ → Option Statement
-rows_of None count = None
-rows_of (Some first) None = None
 rows_of (Some first) (Some count) = Some (statement.Rows first count)
+rows_of _ _ = None
 
 -- a set statement of its key and value, if there are both
 abbrev pub set_of : Option ℕ → Option ℤ → Option Statement
-set_of None value = None
-set_of (Some key) None = None
 set_of (Some key) (Some value) = Some (statement.Set key value)
+set_of _ _ = None
 
 -- rows and set
 abbrev pub three_words : List ℕ → List ℕ → List ℕ → Option Statement
@@ -47,11 +45,10 @@ three_words w x y =
 
 -- the statement of a list of words
 abbrev pub of_words : List (List ℕ) → Option Statement
-of_words [] = None
 of_words (w ∷ []) = one_word w
 of_words (w ∷ x ∷ []) = two_words w x
 of_words (w ∷ x ∷ y ∷ []) = three_words w x y
-of_words (w ∷ x ∷ y ∷ z ∷ ws) = None
+of_words _ = None
 
 -- the statement that a text without a semicolon spells
 abbrev pub statement_of : List ℕ → Option Statement
@@ -59,9 +56,8 @@ statement_of text = of_words (pieces 32 text)
 
 -- an element before the rest, if none is missing
 abbrev pub with_first : {A : Type 0} → Option A → Option (List A) → Option (List A)
-with_first None xs = None
-with_first (Some x) None = None
 with_first (Some x) (Some xs) = Some (x ∷ xs)
+with_first _ _ = None
 
 -- all of them, if none is missing
 abbrev pub each_of : {A : Type 0} → List (Option A) → Option (List A)

@@ -55,9 +55,8 @@ number_within low high us = such (is_within low high) (number_of us)
 
 -- the number after a minus sign; there is no minus zero
 abbrev pub minus : Option ℕ → Option ℤ
-minus None = None
-minus (Some zero) = None
 minus (Some (suc n)) = Some (negsuc n)
+minus _ = None
 
 -- the number that units spell, perhaps with a minus sign
 abbrev pub signed_of : List ℕ → Option ℤ
@@ -71,6 +70,5 @@ fits_i32 (negsuc n) = nat_le n 2147483647
 
 -- the key that units spell: one letter from a to z
 abbrev pub key_of : List ℕ → Option ℕ
-key_of [] = None
 key_of (u ∷ []) = such (is_within 97 122) (Some u)
-key_of (u ∷ v ∷ us) = None
+key_of _ = None

@@ -1,4 +1,4 @@
--- What a walker finds is what the layout says.
+-- What a parser finds is what the layout says.
 use Rattle.std.proofs.Common.{◌≡◌, refl, sym, ◌∙◌, ap, rules, arith, ℕ, zero, suc, ◌+◌, ◌-◌, ◌<◌, ◌≤◌, ◌==◌, false, List, [], ◌∷◌, ◌++◌, length, Option, Some, IfSome, subst, append_assoc, append-nil}
 use Rattle.std.proofs.lemmas.List.{length-take}
 use Rattle.tds_wire.specs.declared.features.Features.{Features}
@@ -25,7 +25,7 @@ reads : (r : Reading) (piece : List ℕ) → IsPlain r
     → token_at r.walk.most r.walk.features (record { kind = r.walk.at.kind; columns = r.walk.columns }) piece ≡ read_token r.walk.columns piece
 reads r piece p = rw p.most (rw p.features (any_kind 4096 plain r.walk.at.kind r.walk.columns piece))
 
--- what the walker finds, as the layout has it
+-- what the parser finds, as the layout has it
 found : (r : Reading) (piece : List ℕ) (f : Found) → IsPlain r → outcome_of (next_token r piece) ≡ laid_out r piece → f ≡ next_token r piece
     → outcome_of f ≡ laid_by r piece (read_token r.walk.columns piece)
 found r piece f p law e = ap outcome_of e ∙ (law ∙ ap (laid_by r piece) (reads r piece p))

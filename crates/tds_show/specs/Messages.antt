@@ -14,7 +14,7 @@ use Rattle.tds_wire.specs.Told.{told_of}
 abbrev pub plain : Features
 plain = record { encryption = false; ranks = false }
 
--- a walker over answers after such a login, of results with 4,096 columns at most
+-- a parser over answers after such a login, of results with 4,096 columns at most
 pub record IsPlain (r : Reading) : Type 0 where
   pub most : r.walk.most ≡ 4096
   pub features : r.walk.features ≡ plain

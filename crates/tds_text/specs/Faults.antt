@@ -4,8 +4,8 @@ use Rattle.tds_text.specs.declared.rendering.fault.RenderFault.{RenderFault}
 use Rattle.tds_text.specs.declared.rendering.fault.RenderFault.TheVariants as render
 use Rattle.tds_text.specs.declared.hexadecimal.WordFault.{WordFault}
 use Rattle.tds_text.specs.declared.hexadecimal.WordFault.TheVariants as word
-use Rattle.tds_text.specs.declared.words.LineFault.{LineFault}
-use Rattle.tds_text.specs.declared.words.LineFault.TheVariants as line
+use Rattle.tds_text.specs.declared.arguments.LineFault.{LineFault}
+use Rattle.tds_text.specs.declared.arguments.LineFault.TheVariants as line
 use Rattle.tds_text.specs.declared.schedule.fault.ScheduleFault.{ScheduleFault}
 use Rattle.tds_text.specs.declared.schedule.fault.ScheduleFault.TheVariants as schedule
 

@@ -2,17 +2,17 @@
 //! command line that asks for it. Nothing here plays.
 #![tactic(auto)]
 
+mod arguments;
 mod hexadecimal;
 mod rendering;
 mod schedule;
-mod words;
 
+pub use arguments::{Command, LineFault, read_words};
 pub use hexadecimal::{WordFault, word_bytes};
 pub use rendering::{
     RenderFault, put_hex2, put_hex4, put_token_line, put_units, render, write_whole,
 };
 pub use schedule::{ScheduleFault, read_schedule, right_or_wrong_somewhere};
-pub use words::{Command, LineFault, read_words};
 
 /// The answer of a growth that was refused.
 pub type NoMemory = std::alloc::AllocError;

@@ -150,23 +150,14 @@ Ranged (tokens.Done status cur_cmd rows) = (status < 2 ^ 16) × (cur_cmd < 2 ^ 1
 
 -- A COLMETADATA tells how many values a row has, a DONE ends that, and every other token keeps it.
 abbrev pub columns_after : Option ℕ → Token → Option ℕ
-columns_after columns (tokens.Info m) = columns
-columns_after columns (tokens.Error m) = columns
-columns_after columns (tokens.ReturnStatus v) = columns
 columns_after columns (tokens.Columns cs) = Some (length cs)
-columns_after columns (tokens.Row vs) = columns
-columns_after columns (tokens.Env e) = columns
 columns_after columns (tokens.Done status cur_cmd rows) = None
+columns_after columns _ = columns
 
 -- A row has as many values as there are columns.
 abbrev pub Under : Option ℕ → Token → Type 0
-Under columns (tokens.Info m) = Unit {0}
-Under columns (tokens.Error m) = Unit {0}
-Under columns (tokens.ReturnStatus v) = Unit {0}
-Under columns (tokens.Columns cs) = Unit {0}
 Under columns (tokens.Row vs) = columns ≡ Some (length vs)
-Under columns (tokens.Env e) = Unit {0}
-Under columns (tokens.Done status cur_cmd rows) = Unit {0}
+Under columns _ = Unit {0}
 
 -- ---- The token
 
@@ -186,20 +177,10 @@ IsTokens columns (token ∷ others) bytes after =
 
 -- Whether it is an ENVCHANGE.
 abbrev pub is_env : Token → Bool
-is_env (tokens.Info m) = false
-is_env (tokens.Error m) = false
-is_env (tokens.ReturnStatus v) = false
-is_env (tokens.Columns cs) = false
-is_env (tokens.Row vs) = false
 is_env (tokens.Env e) = true
-is_env (tokens.Done status cur_cmd rows) = false
+is_env _ = false
 
 -- Whether it is a row.
 abbrev pub is_row : Token → Bool
-is_row (tokens.Info m) = false
-is_row (tokens.Error m) = false
-is_row (tokens.ReturnStatus v) = false
-is_row (tokens.Columns cs) = false
 is_row (tokens.Row vs) = true
-is_row (tokens.Env e) = false
-is_row (tokens.Done status cur_cmd rows) = false
+is_row _ = false

@@ -16,12 +16,9 @@ units_bytes units = flat_map (λ unit. to_le_bytes w16 unit) units
 
 -- The signed numbers that lie in these bytes, four bytes each, the low byte first.
 abbrev pub ints_of : List ℕ → List ℤ
-ints_of [] = []
-ints_of (a ∷ []) = []
-ints_of (a ∷ b ∷ []) = []
-ints_of (a ∷ b ∷ c ∷ []) = []
 ints_of (a ∷ b ∷ c ∷ d ∷ bytes) =
     cast_signed w32 (from_le_bytes w32 (a ∷ b ∷ c ∷ d ∷ [])) ∷ ints_of bytes
+ints_of _ = []
 
 -- How many values a row has, where that is known: 1 to 16.
 abbrev pub AreColumns : Option ℕ → Type 0

@@ -8,24 +8,14 @@ use Rattle.tds_token.specs.declared.token.Token.TheVariants as tokens
 -- The tokens that are told to the caller: all but the ENVCHANGEs, in their order.
 abbrev pub told : List Token → List Token
 told [] = []
-told (tokens.Info m ∷ others) = tokens.Info m ∷ told others
-told (tokens.Error m ∷ others) = tokens.Error m ∷ told others
-told (tokens.ReturnStatus v ∷ others) = tokens.ReturnStatus v ∷ told others
-told (tokens.Columns cs ∷ others) = tokens.Columns cs ∷ told others
-told (tokens.Row vs ∷ others) = tokens.Row vs ∷ told others
 told (tokens.Env e ∷ others) = told others
-told (tokens.Done status cur_cmd rows ∷ others) = tokens.Done status cur_cmd rows ∷ told others
+told (token ∷ others) = token ∷ told others
 
 -- The ENVCHANGEs, in their order.
 abbrev pub changes_of : List Token → List EnvChange
 changes_of [] = []
-changes_of (tokens.Info m ∷ others) = changes_of others
-changes_of (tokens.Error m ∷ others) = changes_of others
-changes_of (tokens.ReturnStatus v ∷ others) = changes_of others
-changes_of (tokens.Columns cs ∷ others) = changes_of others
-changes_of (tokens.Row vs ∷ others) = changes_of others
 changes_of (tokens.Env e ∷ others) = e ∷ changes_of others
-changes_of (tokens.Done status cur_cmd rows ∷ others) = changes_of others
+changes_of (_ ∷ others) = changes_of others
 
 -- What the end of a reset makes of the descriptor. A plain reset ends the transaction, and one
 -- that skips it (RESETCONNECTIONSKIPTRAN, MS-TDS 2.2.3.1.2) keeps it. Where no reset was asked

@@ -15,7 +15,7 @@ pub record IsReadyValue (p : TdsWire) : Type 0 where
   pub head : p.head_count ≡ 0
   pub passed : p.passed ≡ 0
 
--- The next token of the walker that it is is this one, and behind its bytes the new value is the walker.
+-- The next token of the parser that it is is this one, and behind its bytes the new value is the parser.
 abbrev pub TakesToken : Memory → TdsWire → TdsWire → Token → ℕ → List ℕ → Type 0
 TakesToken memory old new token n piece =
     (r : Reading) → reading_from old memory ≡ Some r

@@ -14,7 +14,7 @@ use Rattle.tds_walk.specs.declared.walk.TdsWire.{TdsWire}
 use Rattle.tds_walk.specs.Wire.{◌>>=◌, truth, walk_from}
 use Rattle.tds_walk.specs.WireTokens.{Shows}
 
--- The walker that the value is, beside its memory. None where it is no walk's.
+-- The parser that the value is, beside its memory. None where it is no walk's.
 abbrev pub reading_from : TdsWire → Memory → Option Reading
 reading_from walk memory = walk_from walk >>= λ w. Some (reading_of w memory)
 

@@ -1,4 +1,4 @@
--- How a message's bytes are cut doesn't matter to a walker, and it sees what the layout says.
+-- How a message's bytes are cut doesn't matter to a parser, and it sees what the layout says.
 use Rattle.std.proofs.Common.{◌≡◌, ◌∙◌, ◌≤◌, ◌<◌, ℕ, suc, ◌+◌, ◌-◌, List, [], ◌∷◌, ◌++◌, length, take, get_or, Option, Some, None, refl, sym, ap, arith}
 use Rattle.std.proofs.lemmas.List.{length-append, take-append-le, get_or-append-add}
 use Rattle.std.proofs.Math.Seq.{take-append-add}

@@ -1,4 +1,4 @@
--- A field of the layout is what the walker passes: numbers, runs of bytes, names.
+-- A field of the layout is what the parser passes: numbers, runs of bytes, names.
 use Rattle.std.proofs.Common.{◌≡◌, lit<, refl, ◌∙◌, ap, rules, arith, ℕ, zero, suc, ◌+◌, ◌-◌, ◌*◌, ◌<◌, ◌≤◌, ◌==◌, nat_lt, true, false, List, [], ◌∷◌, length}
 use Rattle.std.proofs.lemmas.Bool.{lt-ltb}
 use Rattle.tds_wire.specs.declared.fault.WireFault.{WireFault}

@@ -1,4 +1,4 @@
--- A walker passes exactly what the layout says is a token.
+-- A parser passes exactly what the layout says is a token.
 use Rattle.std.proofs.Common.{◌≡◌, refl, sym, ◌∙◌, ap, rules, arith, ℕ, zero, suc, ◌-◌, ◌%◌, ◌≤◌, ◌==◌, Bool, true, false, List, [], ◌∷◌, length, if◌then◌else◌}
 use Rattle.tds_wire.specs.declared.fault.WireFault.TheVariants.{UnknownToken}
 use Rattle.tds_wire.specs.declared.due.Field.TheVariants as field
@@ -103,7 +103,7 @@ unfolding onward step token_at
 token_from w [] m d = refl
 token_from w (byte ∷ rest) m d = begun_seen (with_kind (ended w) byte) byte rest m d
 
--- a walker between two tokens passes what the layout says is one, and no other bytes
+-- a parser between two tokens passes what the layout says is one, and no other bytes
 pub token_seen : (w : Walk) (bytes : List ℕ) → w.at.due ≡ Token → length w.columns ≤ 4096 → length w.nulls ≡ 512
     → seen (onward w bytes) ≡ token_at w.most w.features (seen_of w) bytes
 token_seen w bytes h m d = ap (λ (x : Walk). seen (onward x bytes)) (sym (ap (with_due w) (sym h))) ∙ token_from w bytes m d

@@ -165,7 +165,7 @@ row_over w i bytes e some =
     ∙ (ap (λ (j : ℕ). Over (ended (so_far w j)) bytes) e
     ∙ ap (λ (x : Inside). Over (ended (with_inside (with_kind w 0xD1) x)) bytes) (inside_last w (length w.columns) some)))
 
--- ---- The walker behind a row
+-- ---- The parser behind a row
 
 front_length : (n : ℕ) (piece : List ℕ) → n ≤ length piece → length (front_of piece (drop n piece)) ≡ n
 front_length n piece h =
@@ -195,7 +195,7 @@ pub row_passed : (r : Reading) (n : ℕ) (piece : List ℕ) → IsReady r → n 
 row_passed r n piece ready few counted over =
     sees_row r n piece ready few over ∙ ap (λ (t : AnyToken). Sees t (past_row r n) (drop n piece)) (token_is r n piece ready few counted)
 
--- a walker that is ready, moved by a row: it was before a token
+-- a parser that is ready, moved by a row: it was before a token
 abbrev moved : Reading → ℕ → ℕ → Reading
 moved r i start = record r { walk = record r.walk { at = record r.walk.at { kind = 0xD1; inside = inside.Row i } }; start = start }
 

@@ -1,4 +1,4 @@
--- A walk beside memory that is lent to it, as what a walker over an answer's bytes is.
+-- A walk beside memory that is lent to it, as what a parser over an answer's bytes is.
 use Rattle.std.specs.Prelude.{ℕ, List, take}
 use Rattle.tds_wire.specs.declared.head.Head.{Head}
 use Rattle.tds_wire.specs.declared.lent.LentWalk.{LentWalk}

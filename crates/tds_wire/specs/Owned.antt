@@ -1,5 +1,5 @@
--- A walker that owns its memory.
-use Rattle.tds_wire.specs.declared.walker.Walker.TheInside.{Inside}
+-- A parser that owns its memory.
+use Rattle.tds_wire.specs.declared.parser.TokenParser.TheInside.{Inside}
 use Rattle.tds_wire.specs.Lent.{reading_of}
 use Rattle.tds_wire.specs.Reading.{Reading}
 

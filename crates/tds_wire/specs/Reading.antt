@@ -1,4 +1,4 @@
--- A walker over an answer's bytes: where its cursor is, where in the message, and the first bytes of the token that it is in.
+-- A parser over an answer's bytes: where its cursor is, where in the message, and the first bytes of the token that it is in.
 use Rattle.std.specs.Prelude.{◌≡◌, ℕ, ◌-◌, ◌==◌, ◌&&◌, Bool, true, false, List, [], ◌++◌, length, take, drop, get_or, Option, Some, None, Result, Ok, Err}
 use Rattle.tds_wire.specs.declared.due.Standing.{Standing}
 use Rattle.tds_wire.specs.declared.due.Standing.TheVariants.{Between, Going, Failing}
@@ -36,7 +36,7 @@ token_with r kind last = record {
   told = told_of kind r.start (added r.passed (length last)) (kept r.head last);
 }
 
--- the walker behind it, and inside it
+-- the parser behind it, and inside it
 abbrev pub behind : Reading → Walk → List ℕ → Reading
 behind r w last = record { walk = w; head = []; start = added r.start (added r.passed (length last)); passed = 0; refused = None }
 
@@ -104,7 +104,7 @@ is_whole (Some refusal) = false
 abbrev pub is_between : Reading → Bool
 is_between r = is_whole r.refused && (stands_between (standing r.walk.at.due) && ((length r.head == 0) && (r.passed == 0)))
 
--- A walker between two tokens has passed nothing of the next one.
+-- A parser between two tokens has passed nothing of the next one.
 pub record IsReady (r : Reading) : Type 0 where
   pub walk : IsBetween r.walk
   pub head : r.head ≡ []

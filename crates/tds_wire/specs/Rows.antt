@@ -18,7 +18,7 @@ Passes s n bytes = (w : Walk) → to_end (with_due w (value_due s)) bytes ≡ to
 abbrev pub behind_row : Walk → Walk
 behind_row w = record w { at = record w.at { due = Token; kind = 0xD1; inside = inside.Row (length w.columns - 1) } }
 
--- the walker behind one of so many bytes
+-- the parser behind one of so many bytes
 abbrev pub past_row : Reading → ℕ → Reading
 past_row r n = record r { walk = behind_row r.walk; start = added r.start n }
 

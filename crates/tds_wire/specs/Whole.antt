@@ -11,11 +11,11 @@ use Rattle.tds_wire.specs.Walking.{Walk, with_kind}
 abbrev pub IsWhole : ℕ → List ℕ → Type 0
 IsWhole n bytes = (w : Walk) → w.at.due ≡ Token → onward w bytes ≡ Over (with_kind w (get_or bytes 0 0)) (drop n bytes)
 
--- the walker behind it
+-- the parser behind it
 abbrev pub behind_whole : Reading → List ℕ → ℕ → Reading
 behind_whole r bytes n = record { walk = with_kind r.walk (get_or bytes 0 0); head = []; start = added r.start n; passed = 0; refused = None }
 
--- to each walker that is ready and starts here, the next token is this one, of so many bytes
+-- to each parser that is ready and starts here, the next token is this one, of so many bytes
 abbrev pub IsNext : ℕ → ℕ → Option AnyToken → List ℕ → Type 0
 IsNext start n token bytes =
     (r : Reading) → IsReady r → r.start ≡ start → found_with (Ok n) token (behind_whole r bytes n) bytes ≡ next_token r bytes

@@ -8,7 +8,7 @@ pub fn cuts_do_not_matter()
         → then_found (next_token r first) second ≡ next_token r (first ++ second) }
 {}
 
-/// A walker between two tokens passes what the layout says is the next token, and no other bytes, and
+/// A parser between two tokens passes what the layout says is the next token, and no other bytes, and
 /// tells what its first bytes say; it wants more exactly where the layout's bytes end first; and it
 /// refuses what the layout refuses, at its byte.
 pub fn tokens_are_passed()

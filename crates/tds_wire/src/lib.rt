@@ -11,11 +11,11 @@ mod head;
 mod laws;
 mod lent;
 mod memory;
+mod parser;
 mod rows;
 mod shape;
 mod told;
 mod types;
-mod walker;
 mod whole;
 
 pub use cursor::Cursor;
@@ -29,10 +29,10 @@ pub use head::Head;
 pub use laws::{cuts_do_not_matter, tokens_are_passed};
 pub use lent::{Fed, LentWalk};
 pub use memory::{Column, Memory};
+pub use parser::TokenParser;
 pub use rows::{row_token, whole_row};
 pub use shape::Shape;
 pub use told::{Change, ChangeValue, Done, Message, Place, SessionState, Token, Told};
-pub use walker::Walker;
 pub use whole::whole_token;
 
 /// The answer of a growth that was refused.

@@ -67,9 +67,7 @@ OwnTransaction w = OfEachRequest RanInOwn w
 -- The transactions that changes begin, and those that entries towards the client tell of.
 abbrev pub begun_by : EnvChange → List ℕ
 begun_by (change.Begin d) = d ∷ []
-begun_by (change.Commit d) = []
-begun_by (change.Rollback d) = []
-begun_by change.ResetDone = []
+begun_by _ = []
 
 abbrev pub begun_in : Down → List ℕ
 begun_in (Step r place s) = flat_map begun_by (changes_of s.tokens)

@@ -28,8 +28,7 @@ packet_of q bits body =
 -- The bit of a mark (MS-TDS 2.2.3.1.2) stands on a request's first packet alone.
 abbrev pub first_bit : Out → Option Reset → ℕ
 first_bit NotBegun mark = reset_bit mark
-first_bit (Begun n) mark = 0
-first_bit (Whole n) mark = 0
+first_bit _ mark = 0
 
 -- The next packet of a request that carries some of its bytes, with these further status bits.
 abbrev pub next_packet : Record → ℕ → List ℕ → Packet
@@ -53,8 +52,7 @@ sends_by false room q c = record c {
 abbrev pub sends : ℕ → Record → Connection → Connection
 sends room q c = sends_by (sends_last room q) room q c
 
--- The packet that says that no more of a request will come: end of message, and ignore this message
--- (MS-TDS 2.2.3.1.2).
+-- No more of a request will come: end of message, and ignore this message (MS-TDS 2.2.3.1.2).
 abbrev pub drop_packet : Record → Packet
 drop_packet q = packet_of q 0x03 []
 
@@ -62,8 +60,6 @@ drop_packet q = packet_of q 0x03 []
 -- With no packet out nothing goes out. Else its attention does, behind the word to drop it where
 -- some of it was not out yet.
 abbrev pub cancels_by : Phase → Record → Connection → Connection
-cancels_by Settled q c = c
-cancels_by Cancelling q c = c
 cancels_by Asked q c = record c { current = Some (cancelled q) }
 cancels_by Sending q c = record c {
   to_server = append (Attention q.number) (append (Drop q.number (drop_packet q)) c.to_server);
@@ -73,6 +69,7 @@ cancels_by Reading q c = record c {
   to_server = append (Attention q.number) c.to_server;
   current = Some (cancelled q);
 }
+cancels_by _ q c = c
 
 abbrev pub cancels_in : Option Record → Connection → Connection
 cancels_in None c = c
@@ -86,5 +83,4 @@ abbrev pub cancel_outcome : Phase → CancelOutcome
 cancel_outcome Settled = cancel.Nothing
 cancel_outcome Cancelling = cancel.Already
 cancel_outcome Asked = cancel.Unsent
-cancel_outcome Sending = cancel.Asked
-cancel_outcome Reading = cancel.Asked
+cancel_outcome _ = cancel.Asked

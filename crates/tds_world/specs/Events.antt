@@ -66,8 +66,7 @@ about setup w (event.Work n) = by_number w n
 about setup w (event.ToServer n count) = by_number w n
 about setup w (event.ToClient n count) = by_number w n
 about setup w (event.Cut n) = by_number w n
-about setup w event.RestartServer = Missing refusal.UnknownConnection
-about setup w event.RestartClient = Missing refusal.UnknownConnection
+about setup w _ = Missing refusal.UnknownConnection
 
 -- What an event does to its connection, which has number n.
 abbrev pub acts : Setup → Answers → World → Event → ℕ → Connection → Acted
@@ -92,8 +91,7 @@ acts setup answers w (event.ToServer _ count) n c =
 acts setup answers w (event.ToClient _ count) n c =
     Does (outcome.ToClient (min count (down_underway c))) (to_client count c)
 acts setup answers w (event.Cut _) n c = Does outcome.Cut (cut c)
-acts setup answers w event.RestartServer n c = Refuses refusal.UnknownConnection
-acts setup answers w event.RestartClient n c = Refuses refusal.UnknownConnection
+acts setup answers w _ n c = Refuses refusal.UnknownConnection
 
 -- What the world notes of an event beside its connection, which has number n and had heard this
 -- descriptor: leases and tickets that begin and end, and where a request was asked.

@@ -44,9 +44,7 @@ IsNext a before (Attention r) = Unit {0}
 -- What has come of a message behind an entry.
 abbrev pub came_with : List ℕ → Up → List ℕ
 came_with before (Part r p) = before ++ p.body
-came_with before (End r a p) = []
-came_with before (Drop r p) = []
-came_with before (Attention r) = []
+came_with before _ = []
 
 -- What is still to be sent behind these bytes, of a request that isn't cancelled.
 abbrev pub IsLeft : Asking → Bool → Out → List ℕ → List ℕ → Type 0

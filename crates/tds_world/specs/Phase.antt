@@ -21,11 +21,9 @@ abbrev pub phase_by : Fate → Out → Phase
 phase_by Open NotBegun = Asked
 phase_by Open (Begun n) = Sending
 phase_by Open (Whole n) = Reading
-phase_by Finished out = Settled
-phase_by Cancelled NotBegun = Settled
 phase_by Cancelled (Begun n) = Cancelling
 phase_by Cancelled (Whole n) = Cancelling
-phase_by Acknowledged out = Settled
+phase_by _ _ = Settled
 
 abbrev pub phase_of : Record → Phase
 phase_of q = phase_by q.fate q.out
@@ -37,18 +35,14 @@ phase_in (Some q) = phase_of q
 
 abbrev pub is_settled : Phase → Bool
 is_settled Settled = true
-is_settled Asked = false
-is_settled Sending = false
-is_settled Reading = false
-is_settled Cancelling = false
+is_settled _ = false
 
 -- The state of a connection's client, by the phase of the newest request.
 abbrev pub state_of : Phase → ClientView
 state_of Settled = view.Idle
-state_of Asked = view.Sending
-state_of Sending = view.Sending
 state_of Reading = view.Reading
 state_of Cancelling = view.Cancelling
+state_of _ = view.Sending
 
 -- What a report says of a request: finished and acknowledged, and then whether its connection was
 -- cut and its phase.

@@ -29,10 +29,7 @@ pub data Acted : Type 0 where
 -- Whether a connection is free.
 abbrev pub is_free : Standing → Bool
 is_free (In place.Free) = true
-is_free (In (place.Leased lease)) = false
-is_free (In (place.Kept ticket)) = false
-is_free (In place.Draining) = false
-is_free Cut = false
+is_free _ = false
 
 abbrev pub first_of : Bool → ℕ → Option ℕ → Option ℕ
 first_of true n later = Some n
@@ -113,9 +110,8 @@ abbrev pub abandons : Connection → Acted
 abandons c = abandons_at c.standing c
 
 abbrev pub is_full : Option Reset → Bool
-is_full None = false
 is_full (Some Full) = true
-is_full (Some KeepTransaction) = false
+is_full _ = false
 
 -- A lease becomes a ticket: on an idle connection, whose client heard of a transaction that no full
 -- reset is to end.

@@ -32,17 +32,14 @@ pub data Fate : Type 0 where
   Acknowledged : Fate
 
 abbrev pub is_finished : Fate → Bool
-is_finished Open = false
 is_finished Finished = true
-is_finished Cancelled = false
-is_finished Acknowledged = false
+is_finished _ = false
 
 -- Whatever is acknowledged was cancelled.
 abbrev pub is_cancelled : Fate → Bool
-is_cancelled Open = false
-is_cancelled Finished = false
 is_cancelled Cancelled = true
 is_cancelled Acknowledged = true
+is_cancelled _ = false
 
 -- A request, and all that is known of it.
 pub record Record : Type 0 where
@@ -84,10 +81,9 @@ runs before s q = record q { ran = Some (ran_in q.ran s.reset before s.after) }
 
 -- A step arrived. The last one finishes a request that wasn't cancelled.
 abbrev pub stepped : Bool → Fate → Fate
-stepped last Open = if last then Finished else Open
-stepped last Finished = if last then Finished else Open
 stepped last Cancelled = Cancelled
 stepped last Acknowledged = Acknowledged
+stepped last _ = if last then Finished else Open
 
 -- This step of it arrived: its tokens are given to the caller, and the last step finishes it,
 -- unless it was cancelled.

@@ -91,18 +91,16 @@ asked_by e r o = []
 
 -- The requests that were asked, in their order: those of the events that the report says so of.
 abbrev pub asked_in : List Event → List EventReport → List Ask
-asked_in [] rs = []
-asked_in (e ∷ es) [] = []
 asked_in (e ∷ es) (r ∷ rs) = asked_by e r r.outcome ++ asked_in es rs
+asked_in _ _ = []
 
 -- There is a request report for each request that was asked, in their order, P holds of the two, and
 -- the numbers of the requests are those from this one on.
 abbrev pub OfEachAskFrom : ℕ → (Ask → RequestReport → Type 0) → List Ask → List RequestReport → Type 0
 OfEachAskFrom number P [] [] = Unit {0}
-OfEachAskFrom number P [] (r ∷ rs) = ⊥
-OfEachAskFrom number P (a ∷ asks) [] = ⊥
 OfEachAskFrom number P (a ∷ asks) (r ∷ rs) =
     (a.number ≡ number) × P a r × OfEachAskFrom (suc number) P asks rs
+OfEachAskFrom number P _ _ = ⊥
 
 abbrev pub OfEachAsk : (Ask → RequestReport → Type 0) → List Event → Report → Type 0
 OfEachAsk P events r = OfEachAskFrom 1 P (asked_in events r.events) r.requests
@@ -171,8 +169,7 @@ ShowsOwnTransaction events r = OfEachAsk ShowsRunInOwn events r
 -- The session in which the first request of a lease ran, if one did.
 abbrev pub first_by : Bool → Option SessionState → Option SessionState → Option SessionState
 first_by true (Some s) later = Some s
-first_by true None later = later
-first_by false ran later = later
+first_by _ _ later = later
 
 abbrev pub first_run : ℕ → List RequestReport → Option SessionState
 first_run lease [] = None
@@ -181,9 +178,8 @@ first_run lease (r ∷ rs) = first_by (r.lease == lease) r.ran (first_run lease 
 -- The session that a lease finds, by how it came by its connection: a fresh one, or for a lease that
 -- came from a ticket one without settings.
 abbrev pub StartsBy : Opened → SessionState → Type 0
-StartsBy opened.New s = IsFresh s
-StartsBy opened.Reused s = IsFresh s
 StartsBy opened.Resumed s = s.settings ≡ no_settings
+StartsBy _ s = IsFresh s
 
 abbrev pub StartsIfLeased : List RequestReport → Outcome → Type 0
 StartsIfLeased rs (outcome.Leased lease conn opened) =
@@ -220,9 +216,8 @@ KeepsIfResumed r e o = Unit {0}
 -- P holds of each event and its outcome.
 abbrev pub OfEachOutcome : (Event → Outcome → Type 0) → List Event → List EventReport → Type 0
 OfEachOutcome P [] [] = Unit {0}
-OfEachOutcome P [] (r ∷ rs) = ⊥
-OfEachOutcome P (e ∷ es) [] = ⊥
 OfEachOutcome P (e ∷ es) (r ∷ rs) = P e r.outcome × OfEachOutcome P es rs
+OfEachOutcome P _ _ = ⊥
 
 abbrev pub ShowsKeptTransaction : List Event → Report → Type 0
 ShowsKeptTransaction events r = OfEachOutcome (KeepsIfResumed r) events r.events
@@ -232,12 +227,9 @@ abbrev pub IsCancelled : RequestStatus → Type 0
 IsCancelled status.Cancelling = Unit {0}
 IsCancelled status.Acknowledged = Unit {0}
 IsCancelled status.Unsent = Unit {0}
-IsCancelled status.Open = ⊥
-IsCancelled status.Finished = ⊥
-IsCancelled status.Lost = ⊥
+IsCancelled _ = ⊥
 
--- Each request that is reported is reported later too, and with the same tokens where it was
--- cancelled.
+-- Each request that is reported is reported later too, with the same tokens where it was cancelled.
 abbrev pub GivesNoMore : List RequestReport → List RequestReport → Type 0
 GivesNoMore [] later = Unit {0}
 GivesNoMore (r ∷ rs) [] = ⊥

@@ -20,10 +20,8 @@ use Rattle.tds_world.specs.World.{World}
 -- No packet of a request comes to a server while an answer is due. An attention may come at any
 -- time.
 abbrev pub ServerExpects : Connection → Up → Type 0
-ServerExpects c (Part r p) = c.due ≡ []
-ServerExpects c (End r a p) = c.due ≡ []
-ServerExpects c (Drop r p) = c.due ≡ []
 ServerExpects c (Attention r) = Unit {0}
+ServerExpects c _ = c.due ≡ []
 
 -- No answer comes to a client that is idle or sending, and no acknowledgement to one that asked for
 -- none.
@@ -36,10 +34,8 @@ ClientExpects view.Cancelling e = Unit {0}
 
 -- The end of a reset clears the mark, and no other change does.
 abbrev pub marked_after : EnvChange → Option Reset → Option Reset
-marked_after (change.Begin d) mark = mark
-marked_after (change.Commit d) mark = mark
-marked_after (change.Rollback d) mark = mark
 marked_after change.ResetDone mark = None
+marked_after _ mark = mark
 
 -- Changes, one after the other, each apply to the descriptor heard, and the end of a reset meets a
 -- mark: from this mark and descriptor the client comes to those.

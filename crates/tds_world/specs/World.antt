@@ -43,8 +43,7 @@ abbrev pub put_numbered : {A : Type 0} → ℕ → A → List A → List A
 put_numbered zero x xs = xs
 put_numbered (suc n) x xs = put n x xs
 
--- A lease or ticket that is given now: on connection n, which has heard this descriptor, from this
--- ticket.
+-- A lease or ticket that is given now, on connection n, which has heard this, from this ticket.
 abbrev pub holding : ℕ → ℕ → Option ℕ → Holding
 holding n heard ticket = record { conn = n; over = false; resumed = ticket; descriptor = heard }
 

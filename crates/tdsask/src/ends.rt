@@ -8,7 +8,7 @@ use tds_ends::{ClientEnd, RequestStatus};
 use tds_listen::{hear_end, next};
 use tds_packet::{Direction, Kind, PacketReader, PacketSize};
 use tds_text::put_token_line;
-use tds_wire::{Features, Token, Told, Walker};
+use tds_wire::{Features, Token, TokenParser, Told};
 
 /// The most columns that are known of an answer.
 const COLUMNS: u16 = 4096;
@@ -32,7 +32,7 @@ pub enum End {
 pub struct AnyEnd {
     client: Client,
     reader: PacketReader,
-    walker: Walker,
+    parser: TokenParser,
 }
 
 impl Heard {
@@ -110,7 +110,7 @@ impl AnyEnd {
         Ok(AnyEnd {
             client: Client::new(alloc, size),
             reader: PacketReader::new(alloc, size, Direction::ToClient)?,
-            walker: Walker::new(alloc, COLUMNS, features)?,
+            parser: TokenParser::new(alloc, COLUMNS, features)?,
         })
     }
 
@@ -146,7 +146,7 @@ impl AnyEnd {
             if rest.is_empty() {
                 break;
             }
-            let step = match next(&mut self.client, &mut self.walker, rest) {
+            let step = match next(&mut self.client, &mut self.parser, rest) {
                 Ok(step) => step,
                 Err(fault) => bail!("the client stopped: {fault:?}"),
             };
@@ -158,7 +158,7 @@ impl AnyEnd {
         if !packet.header.status.ends() {
             return Ok(Some(Taken::More));
         }
-        match hear_end(&mut self.client, &mut self.walker) {
+        match hear_end(&mut self.client, &mut self.parser) {
             Ok(taken) => Ok(Some(taken)),
             Err(fault) => bail!("the client stopped: {fault:?}"),
         }

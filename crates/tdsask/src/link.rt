@@ -16,7 +16,7 @@ pub struct Link {
 }
 
 impl Link {
-    /// Connects to the first address of this word that answers within the limit.
+    /// Connects to the first address of this argument that answers within the limit.
     pub fn connect(rt: &HostRuntime, address: &str, limit: Duration) -> anyhow::Result<Link> {
         let stream = connected(rt, address, limit)?;
         stream.set_nodelay(true)?;
@@ -71,7 +71,7 @@ impl Link {
     }
 }
 
-/// A stream to the first address of this word that answers within the limit.
+/// A stream to the first address of this argument that answers within the limit.
 fn connected(rt: &HostRuntime, address: &str, limit: Duration) -> anyhow::Result<TcpStream> {
     let mut last = None;
     for address in address.to_socket_addrs(rt)? {

@@ -1,26 +1,26 @@
-//! A client by words: it asks a server for what each word says, in order, and prints what it is told.
+//! A client by arguments: it asks a server for what each argument says, in order, and prints what it is told.
 #![tactic(auto)]
 
+mod arguments;
 mod asking;
 mod ends;
 mod link;
-mod words;
 
 use anyhow::{Context, bail};
+use arguments::{Asked, Step, read_asked};
 use asking::Asker;
 use link::Link;
 use std::process::ExitCode;
 use std::time::Duration;
 use std::{env, io};
-use words::{Asked, Step, read_asked};
 
-/// What is printed where the words are wrong.
-const USAGE: &str = "usage: tdsask ADDRESS WORD.. (tdsask --help lists the words)";
+/// What is printed where the arguments are wrong.
+const USAGE: &str = "usage: tdsask ADDRESS ARGUMENT.. (tdsask --help lists the arguments)";
 
 const HELP: &str = "\
-A client by words: it asks a server for what each word says, in order, and prints what it is told
+A client by arguments: it asks a server for what each argument says, in order, and prints what it is told
 
-Usage: tdsask ADDRESS WORD..
+Usage: tdsask ADDRESS ARGUMENT..
 
   ADDRESS           where to connect, as 127.0.0.1:1433 or localhost:1433
   TEXT              a batch of this text
@@ -50,8 +50,8 @@ fn main(rt: HostRuntime) -> ExitCode {
 }
 
 fn run(rt: &HostRuntime) -> anyhow::Result<()> {
-    let words = given_words(rt)?;
-    let [first, rest @ ..] = words.as_slice() else {
+    let arguments = given_arguments(rt)?;
+    let [first, rest @ ..] = arguments.as_slice() else {
         bail!("{USAGE}");
     };
     match first.as_str() {
@@ -65,21 +65,21 @@ fn print(rt: &HostRuntime, text: &str) -> anyhow::Result<()> {
     print!(rt; "{text}").context("output")
 }
 
-/// Asks there for what the words say.
-fn ask_for(rt: &HostRuntime, address: &str, words: &[String]) -> anyhow::Result<()> {
-    match read_asked(rt.alloc(), words)? {
+/// Asks there for what the arguments say.
+fn ask_for(rt: &HostRuntime, address: &str, arguments: &[String]) -> anyhow::Result<()> {
+    match read_asked(rt.alloc(), arguments)? {
         Some(asked) => ask_all(rt, address, &asked).context(address),
         None => bail!("{USAGE}"),
     }
 }
 
-/// The words of the command line behind the program's name.
-fn given_words(rt: &HostRuntime) -> io::Result<Vec<String>> {
-    let mut words = Vec::new(rt.alloc());
-    for word in env::args(rt)?.skip(1) {
-        words.push(word)?;
+/// The arguments of the command line behind the program's name.
+fn given_arguments(rt: &HostRuntime) -> io::Result<Vec<String>> {
+    let mut arguments = Vec::new(rt.alloc());
+    for argument in env::args(rt)?.skip(1) {
+        arguments.push(argument)?;
     }
-    Ok(words)
+    Ok(arguments)
 }
 
 /// Logs in there, does all steps, and prints what comes of them.
@@ -99,7 +99,7 @@ fn take_steps(rt: &HostRuntime, asker: &mut Asker, steps: &[Step]) -> anyhow::Re
     Ok(())
 }
 
-/// Does what a word says, and gives the lines of a request.
+/// Does what an argument says, and gives the lines of a request.
 fn take_step(rt: &HostRuntime, asker: &mut Asker, step: &Step) -> anyhow::Result<String> {
     match step {
         Step::Ask(request) => asker.ask(rt, request),

@@ -85,8 +85,13 @@ fn run_command(rt: &HostRuntime, command: Command) -> Result<u8, ProgramFault> {
             let output = &mut output;
             Ok(run_loopback(alloc, &mut file, &mut carrier, output, &mut errors))
         }
-        Command::Show(word) => Ok(run_show(alloc, word.as_str(), &mut output, &mut errors)),
-        Command::Tokens(word) => Ok(run_tokens(alloc, word.as_str(), &mut output, &mut errors)),
+        Command::Show(argument) => Ok(run_show(alloc, argument.as_str(), &mut output, &mut errors)),
+        Command::Tokens(argument) => Ok(run_tokens(
+            alloc,
+            argument.as_str(),
+            &mut output,
+            &mut errors,
+        )),
         Command::Vectors => Ok(run_vectors(alloc, &mut output, &mut errors)),
     }
 }

@@ -2,7 +2,7 @@
 
 use crate::program::Program;
 use relay_sockets::Role;
-use relay_status::{Asker, Door};
+use relay_status::{Door, StatusClient};
 use socket_places::Link;
 use std::io::{self, ErrorKind};
 use std::net::SocketAddr;
@@ -15,7 +15,7 @@ impl Program {
     /// are known.
     pub fn accept(&mut self) -> io::Result<()> {
         self.leaves_some = true;
-        if !self.house.is_ready() {
+        if !self.event_loop.is_ready() {
             return Ok(());
         }
         for _ in 0..MOST {
@@ -27,7 +27,7 @@ impl Program {
                 }
             };
             if self.ending.is_none() {
-                self.house.admit(stream, from)?;
+                self.event_loop.admit(stream, from)?;
             }
         }
         Ok(())
@@ -35,7 +35,7 @@ impl Program {
 
     /// Accepts all who ask what it does.
     pub fn accept_askers(&mut self) -> io::Result<()> {
-        let (alloc, now) = (self.house.alloc, self.house.now());
+        let (alloc, now) = (self.event_loop.alloc, self.event_loop.now());
         for _ in 0..MOST {
             let Some(listener) = &self.stats else {
                 return Ok(());
@@ -43,8 +43,8 @@ impl Program {
             let Ok((stream, from)) = listener.accept() else {
                 return Ok(());
             };
-            let role = Role::Asker(Asker::new(alloc, door_of(&stream, from)));
-            let sockets = &mut self.house.members.sockets;
+            let role = Role::StatusClient(StatusClient::new(alloc, door_of(&stream, from)));
+            let sockets = &mut self.event_loop.state.sockets;
             if let Some(key) = sockets.take_in(stream, role, Vec::new(alloc), now)? {
                 if let Some(socket) = sockets.get_mut(key) {
                     socket.peer = from;

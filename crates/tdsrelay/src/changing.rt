@@ -2,7 +2,7 @@
 
 use crate::program::Program;
 use relay_groups::Group;
-use relay_settings::{Asked, read_words};
+use relay_settings::{Asked, read_arguments};
 use relay_sockets::Role;
 use relay_status::put_answer;
 use std::fs::Files;
@@ -13,7 +13,7 @@ impl Program {
     /// Pauses a group: none of its applications is lent a connection, and free ones are closed. False where
     /// there is no such group. Who asks for it has this key.
     pub fn pause(&mut self, number: u64, by: usize) -> bool {
-        let now = self.house.now();
+        let now = self.event_loop.now();
         match self.group_of_number(number) {
             Some((_, group)) => {
                 group.goes_on = false;
@@ -23,9 +23,9 @@ impl Program {
             }
             None => return false,
         }
-        self.house.members.sockets.touch_all();
-        self.house
-            .members
+        self.event_loop.state.sockets.touch_all();
+        self.event_loop
+            .state
             .say_order(number, "is paused, by POST /pause", by);
         true
     }
@@ -37,15 +37,15 @@ impl Program {
         };
         group.goes_on = true;
         self.resumed.push(key)?;
-        self.house
-            .members
+        self.event_loop
+            .state
             .say_order(number, "goes on, by POST /resume", by);
         Ok(true)
     }
 
     fn group_of_number(&mut self, number: u64) -> Option<(usize, &mut Group)> {
-        let key = self.house.members.groups.key_of(number)?;
-        let group = self.house.members.groups.get_mut(key)?;
+        let key = self.event_loop.state.groups.key_of(number)?;
+        let group = self.event_loop.state.groups.get_mut(key)?;
         Some((key, group))
     }
 
@@ -55,11 +55,11 @@ impl Program {
         if self.resumed.is_empty() {
             return Ok(());
         }
-        let resumed = mem::replace(&mut self.resumed, Vec::new(self.house.alloc));
+        let resumed = mem::replace(&mut self.resumed, Vec::new(self.event_loop.alloc));
         for key in resumed.iter() {
             if self.ends_pause(*key) {
-                self.house.members.read_all_of(*key)?;
-                self.house.members.forget_deserted(*key);
+                self.event_loop.state.read_all_of(*key)?;
+                self.event_loop.state.forget_deserted(*key);
             }
         }
         Ok(())
@@ -67,7 +67,7 @@ impl Program {
 
     /// Ends a group's pause, where it is to go on still.
     fn ends_pause(&mut self, key: usize) -> bool {
-        match self.house.members.groups.get_mut(key) {
+        match self.event_loop.state.groups.get_mut(key) {
             Some(group) if group.goes_on => {
                 group.goes_on = false;
                 group.paused = None;
@@ -83,7 +83,7 @@ impl Program {
         if self.reloads.is_empty() {
             return Ok(());
         }
-        let asking = mem::replace(&mut self.reloads, Vec::new(self.house.alloc));
+        let asking = mem::replace(&mut self.reloads, Vec::new(self.event_loop.alloc));
         for key in asking.iter() {
             self.reload_for(rt, *key)?;
         }
@@ -91,18 +91,18 @@ impl Program {
     }
 
     fn reload_for<R: Net + Files>(&mut self, rt: &R, key: usize) -> io::Result<()> {
-        match read_words(rt, self.house.alloc, self.words.as_slice()) {
+        match read_arguments(rt, self.event_loop.alloc, self.arguments.as_slice()) {
             Ok(settings) => {
                 self.take_over(settings.asked);
-                self.house.follow_most(rt)?;
-                self.house
-                    .members
+                self.event_loop.follow_most(rt)?;
+                self.event_loop
+                    .state
                     .note_order("the settings are read again, by POST /reload", key);
                 self.answer_reload(rt, key, "200 OK", "read again\n")
             }
             Err(fault) => {
-                let told = format!(in self.house.alloc; "{fault}\n")?;
-                self.house.members.note_order(
+                let told = format!(in self.event_loop.alloc; "{fault}\n")?;
+                self.event_loop.state.note_order(
                     "the settings stay, since POST /reload finds them wrong",
                     key,
                 );
@@ -118,21 +118,21 @@ impl Program {
         status: &str,
         told: &str,
     ) -> io::Result<()> {
-        let Some(socket) = self.house.members.sockets.get_mut(key) else {
+        let Some(socket) = self.event_loop.state.sockets.get_mut(key) else {
             return Ok(());
         };
-        if !matches!(socket.role, Role::Asker(_)) {
+        if !matches!(socket.role, Role::StatusClient(_)) {
             return Ok(());
         }
         put_answer(&mut socket.out, status, "text/plain", told.as_bytes())?;
-        self.house.dismiss(rt, key)
+        self.event_loop.close_when_sent(rt, key)
     }
 
     /// These settings are the ones from now on. Where it listens and tells, its servers, and for how long
     /// applications keep connections stay as they were.
     fn take_over(&mut self, asked: Asked) {
-        let before = self.house.asked;
-        self.house.set(Asked {
+        let before = self.event_loop.asked;
+        self.event_loop.set(Asked {
             listen: before.listen,
             servers: before.servers,
             share: before.share,

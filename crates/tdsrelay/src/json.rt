@@ -85,18 +85,18 @@ impl Program {
             return Ok(None);
         }
         let by = self.asking.remove(0);
-        let mut telling = Telling::new(self.house.alloc, by);
+        let mut telling = Telling::new(self.event_loop.alloc, by);
         self.see_all()?;
         put_json_figures(&mut telling.body, &self.figures())?;
         write!(telling.body, ",\"request_seconds\":")?;
-        self.house
-            .members
+        self.event_loop
+            .state
             .journal
             .requests
             .put_json(&mut telling.body)?;
         write!(telling.body, ",\"login_seconds\":")?;
-        self.house
-            .members
+        self.event_loop
+            .state
             .journal
             .logins
             .put_json(&mut telling.body)?;
@@ -107,9 +107,9 @@ impl Program {
 
     /// Notes the sockets and the groups that are there.
     fn note_all(&self, telling: &mut Telling) -> io::Result<()> {
-        telling.sockets = self.house.members.sockets.keys()?;
+        telling.sockets = self.event_loop.state.sockets.keys()?;
         telling.sockets.reverse();
-        for (_, entry) in self.house.members.groups.iter() {
+        for (_, entry) in self.event_loop.state.groups.iter() {
             telling.groups.push(entry.key)?;
         }
         telling.groups.reverse();
@@ -126,7 +126,7 @@ impl Program {
             writeln!(telling.body, "]}}")?;
             return Ok(true);
         };
-        if let Some(group) = self.house.members.groups.get(key) {
+        if let Some(group) = self.event_loop.state.groups.get(key) {
             telling.begin_one()?;
             self.put_json_group(&mut telling.body, key, group)?;
         }
@@ -141,7 +141,7 @@ impl Program {
                 write!(telling.body, "],\"groups\":[")?;
                 return Ok(());
             };
-            if let Some(socket) = self.house.members.sockets.get(key) {
+            if let Some(socket) = self.event_loop.state.sockets.get(key) {
                 telling.begin_one()?;
                 put_json_socket(&mut telling.body, &self.line_of(socket))?;
             }
@@ -151,9 +151,9 @@ impl Program {
 
     fn answer_json<R: Net>(&mut self, rt: &R, telling: Telling) -> io::Result<()> {
         let by = telling.by;
-        if let Some(socket) = self.house.members.sockets.get_mut(by) {
+        if let Some(socket) = self.event_loop.state.sockets.get_mut(by) {
             put_answer(&mut socket.out, "200 OK", "application/json", &telling.body)?;
         }
-        self.house.dismiss(rt, by)
+        self.event_loop.close_when_sent(rt, by)
     }
 }

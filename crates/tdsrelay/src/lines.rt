@@ -4,33 +4,33 @@ use crate::program::Program;
 use relay_groups::Group;
 use relay_logins::number_of;
 use relay_settings::{Limits, lesser, server_of};
-use relay_sockets::{Socket, Whose, names_of};
+use relay_sockets::{RoleKind, Socket, names_of};
 use relay_status::{At, GroupLine, SocketLine, put_group, put_json_group, put_socket};
 use std::io::{self, Write};
 use tds_relay::Mode;
 
-/// The most of a line that are told.
+/// The most of a wait queue that are told.
 const MOST_TOLD: usize = 100;
 
 impl Program {
-    /// A group: its figures, a line for each socket of it, and the applications that wait, the first one first.
+    /// A group: its figures, a line for each socket of it, and its wait queue, the first one first.
     pub fn put_group(&self, body: &mut Vec<u8>, key: usize) -> io::Result<()> {
-        let Some(group) = self.house.members.groups.get(key) else {
+        let Some(group) = self.event_loop.state.groups.get(key) else {
             return Ok(());
         };
         put_group(body, &self.line_of_group(key, group))?;
         if let Some(question) = group.because() {
             writeln!(body, "  shares by sessions: {question}")?;
         }
-        for (_, entry) in self.house.members.sockets.iter() {
+        for (_, entry) in self.event_loop.state.sockets.iter() {
             if entry.value.group() == Some(key) {
                 put_socket(body, &self.line_of(&entry.value))?;
             }
         }
-        if group.line().is_empty() {
+        if group.waiting().is_empty() {
             return Ok(());
         }
-        write!(body, "  the line: ")?;
+        write!(body, "  the wait queue: ")?;
         self.put_numbers(body, key, group)?;
         writeln!(body, "")
     }
@@ -38,8 +38,8 @@ impl Program {
     /// The applications that are in no group: their login hasn't come yet, or they are owed an error.
     pub fn put_coming(&self, body: &mut Vec<u8>) -> io::Result<()> {
         let mut is_first = true;
-        for (_, entry) in self.house.members.sockets.iter() {
-            if let Whose::Gate | Whose::Owed = entry.value.whose() {
+        for (_, entry) in self.event_loop.state.sockets.iter() {
+            if let RoleKind::Handshake | RoleKind::Owed = entry.value.role_kind() {
                 if is_first {
                     write!(body, "\nin no group\n")?;
                 }
@@ -61,10 +61,10 @@ impl Program {
         write!(body, "}}")
     }
 
-    /// The numbers of those who wait in a group, the first one first.
+    /// The numbers of a group's wait queue, the first one first.
     fn put_numbers(&self, body: &mut Vec<u8>, key: usize, group: &Group) -> io::Result<()> {
         let mut is_first = true;
-        for (application, _) in group.line().iter().zip(0..MOST_TOLD) {
+        for (application, _) in group.waiting().iter().zip(0..MOST_TOLD) {
             if let Some(number) = self.number_in(key, *application) {
                 if !is_first {
                     write!(body, ", ")?;
@@ -78,8 +78,8 @@ impl Program {
 
     /// The number of an application of a group.
     fn number_in(&self, group: usize, key: usize) -> Option<u64> {
-        for (_, entry) in self.house.members.sockets.iter() {
-            if let Whose::Application(of, application) = entry.value.whose() {
+        for (_, entry) in self.event_loop.state.sockets.iter() {
+            if let RoleKind::Application(of, application) = entry.value.role_kind() {
                 if of == group && application == key {
                     return Some(entry.value.number);
                 }
@@ -119,7 +119,7 @@ impl Program {
             },
             at: socket.seen.at,
             seconds: self.seconds_since(socket.seen.since),
-            limit: limit_of(socket.seen.at, &self.limits_of(socket.whose())),
+            limit: limit_of(socket.seen.at, &self.limits_of(socket.role_kind())),
             partner: socket.partner,
             names: socket.names(),
             peer: socket.peer,
@@ -131,7 +131,7 @@ impl Program {
     }
 
     fn seconds_since(&self, since: u64) -> u64 {
-        self.house.now().saturating_sub(since) / 1000
+        self.event_loop.now().saturating_sub(since) / 1000
     }
 }
 

@@ -16,7 +16,7 @@ mod why;
 mod writing;
 
 use program::Program;
-use relay_settings::{MOST_SERVERS, Named, RelayFault, Servers, SystemError, read_words};
+use relay_settings::{MOST_SERVERS, Named, RelayFault, Servers, SystemError, read_arguments};
 use socket_places::Place;
 use std::alloc::{AllocError, Global};
 use std::net::TcpStream;
@@ -50,15 +50,18 @@ fn answer(rt: &HostRuntime, fault: &RelayFault) -> u8 {
 }
 
 fn run(rt: &HostRuntime) -> Result<(), RelayFault> {
-    let words = given_words(rt).map_err(RelayFault::of_words)?;
-    let settings = read_words(rt, rt.alloc(), words.as_slice())?;
+    let arguments = given_arguments(rt).map_err(RelayFault::of_arguments)?;
+    let settings = read_arguments(rt, rt.alloc(), arguments.as_slice())?;
     let asked = settings.asked;
-    let mut program = match Program::new(rt, rt.alloc(), words, asked, rt.stderr()) {
+    let mut program = match Program::new(rt, rt.alloc(), arguments, asked, rt.stderr()) {
         Ok(program) => program,
         Err(error) => return Err(RelayFault::of_listener(Place::Tcp(asked.listen), error)),
     };
     let first = first_of(rt.alloc(), asked.servers, &settings.named)?;
-    program.house.names.begin(settings.names, settings.named)?;
+    program
+        .event_loop
+        .names
+        .begin(settings.names, settings.named)?;
     if asked.ends_with_input {
         program.end_with_input().map_err(RelayFault::of_input)?;
     }
@@ -128,11 +131,11 @@ fn look_at_servers(rt: &HostRuntime, servers: Servers) {
     }
 }
 
-/// The words of the command line, the program's name too.
-fn given_words(rt: &HostRuntime) -> io::Result<Vec<String>> {
-    let mut words = Vec::new(rt.alloc());
-    for word in env::args(rt)? {
-        words.push(word)?;
+/// The arguments of the command line, the program's name too.
+fn given_arguments(rt: &HostRuntime) -> io::Result<Vec<String>> {
+    let mut arguments = Vec::new(rt.alloc());
+    for argument in env::args(rt)? {
+        arguments.push(argument)?;
     }
-    Ok(words)
+    Ok(arguments)
 }

@@ -4,7 +4,7 @@ use crate::json::Telling;
 use crate::polling::Polling;
 use crate::writing::Log;
 use mio::{Events, Token};
-use relay_house::House;
+use relay_loop::EventLoop;
 use relay_settings::Asked;
 use relay_sockets::{News, ROUND};
 use relay_status::Moment;
@@ -44,9 +44,9 @@ pub const PIECE: usize = 32_768;
 /// A relay that runs.
 #[derive(Drop)]
 pub struct Program {
-    pub house: House,
-    /// The words that it was called with, by which its settings are read again.
-    pub words: Vec<String>,
+    pub event_loop: EventLoop,
+    /// The arguments that it was called with, by which its settings are read again.
+    pub arguments: Vec<String>,
     pub listener: Listener,
     /// Whether some who came may not be accepted yet.
     pub leaves_some: bool,
@@ -78,23 +78,23 @@ impl Program {
     pub fn new<R: Net + Files + Clock>(
         rt: &R,
         alloc: Global,
-        words: Vec<String>,
+        arguments: Vec<String>,
         asked: Asked,
         errors: Stderr,
     ) -> io::Result<Program> {
         let start = Instant::now(rt)?;
-        let mut house = House::new(rt, alloc, asked)?;
-        let listener = house
-            .members
+        let mut event_loop = EventLoop::new(rt, alloc, asked)?;
+        let listener = event_loop
+            .state
             .sockets
             .listen(rt, &Place::Tcp(asked.listen), LISTENER)?;
         // Where a port was asked for that is free, it is known now.
         let listen = listener.address()?.unwrap_or(asked.listen);
-        house.members.sockets.watch_log(LOG);
-        house.set(Asked { listen, ..asked });
+        event_loop.state.sockets.watch_log(LOG);
+        event_loop.set(Asked { listen, ..asked });
         Ok(Program {
-            house,
-            words,
+            event_loop,
+            arguments,
             listener,
             leaves_some: true,
             at: listen,
@@ -119,7 +119,7 @@ impl Program {
         rt: &R,
         place: &Place,
     ) -> io::Result<Option<SocketAddr>> {
-        let listener = self.house.members.sockets.listen(rt, place, ASKERS)?;
+        let listener = self.event_loop.state.sockets.listen(rt, place, ASKERS)?;
         let address = listener.address()?;
         self.stats = Some(listener);
         Ok(address)
@@ -127,7 +127,7 @@ impl Program {
 
     /// From now on it ends in order where standard input ends, which is to be a pipe or a socket.
     pub fn end_with_input(&self) -> io::Result<()> {
-        self.house.members.sockets.watch_input(INPUT)
+        self.event_loop.state.sockets.watch_input(INPUT)
     }
 
     /// The address at which it listens.
@@ -138,9 +138,9 @@ impl Program {
     /// Relays whoever comes, until it has ended with its standard input, or the system refuses to go on.
     /// Answers how many applications were closed in the middle then.
     pub fn serve<R: Net + Clock + Files>(&mut self, rt: &R) -> io::Result<usize> {
-        let mut events = Events::with_capacity(self.house.alloc, ROUND)?;
+        let mut events = Events::with_capacity(self.event_loop.alloc, ROUND)?;
         let mut buffer = [0u8; PIECE];
-        self.house.look_after_names(rt)?;
+        self.event_loop.look_after_names(rt)?;
         for _ in 0..u64::MAX {
             self.round(rt, &mut events, &mut buffer)?;
             if self.has_ended() {
@@ -152,8 +152,9 @@ impl Program {
 
     /// Its last line, and what else of the log isn't written yet.
     pub fn say_last(&mut self, line: &str) {
-        self.house.members.journal.lines.add(line);
-        self.log.write_last(&mut self.house.members.journal.lines);
+        self.event_loop.state.journal.lines.add(line);
+        self.log
+            .write_last(&mut self.event_loop.state.journal.lines);
     }
 
     /// Waits for the system, and not at all where a socket has more to do, or had a moment ago, or somebody is
@@ -169,7 +170,7 @@ impl Program {
         } else {
             self.until_sweep()
         };
-        self.house.members.sockets.wait(events, longest)?;
+        self.event_loop.state.sockets.wait(events, longest)?;
         self.look_at_clock(rt)?;
         self.hear(events)?;
         self.take_turns(rt, buffer)?;
@@ -182,18 +183,18 @@ impl Program {
         if self.is_telling() {
             self.tell_on(rt)?;
         }
-        if self.house.now() >= self.next_look() {
+        if self.event_loop.now() >= self.next_look() {
             self.look_at_limits(rt)?;
         }
-        if !self.house.members.journal.lines.front().is_empty() {
-            self.log.write(&mut self.house.members.journal.lines);
+        if !self.event_loop.state.journal.lines.front().is_empty() {
+            self.log.write(&mut self.event_loop.state.journal.lines);
         }
         Ok(())
     }
 
     /// Looks at time limits, where that is due.
     pub fn look_at_limits<R: Net + Clock>(&mut self, rt: &R) -> io::Result<()> {
-        let now = self.house.now();
+        let now = self.event_loop.now();
         if now < self.next_look() {
             return Ok(());
         }
@@ -204,7 +205,7 @@ impl Program {
         }
         self.sweep(rt)?;
         self.look_at_clock(rt)?;
-        let took = self.house.now().saturating_sub(now);
+        let took = self.event_loop.now().saturating_sub(now);
         self.pause = took.saturating_mul(10).clamp(SWEEP, LONGEST_SWEEP);
         Ok(())
     }
@@ -212,11 +213,17 @@ impl Program {
     /// The milliseconds to the next look at time limits; where nothing would be done then, to a later one.
     fn until_sweep(&self) -> u64 {
         let mut next = self.next_look();
-        if self.ending.is_none() && self.house.waits_for_sockets() {
+        if self.ending.is_none() && self.event_loop.waits_for_sockets() {
             let latest = self.swept.saturating_add(LONGEST_SLEEP);
-            next = self.house.members.sockets.next_look().max(next).min(latest);
+            next = self
+                .event_loop
+                .state
+                .sockets
+                .next_look()
+                .max(next)
+                .min(latest);
         }
-        next.saturating_sub(self.house.now())
+        next.saturating_sub(self.event_loop.now())
             .clamp(1, LONGEST_SLEEP)
     }
 
@@ -228,7 +235,7 @@ impl Program {
     pub fn look_at_clock<R: Clock>(&mut self, rt: &R) -> io::Result<()> {
         let micros = u64::try_from(self.start.elapsed(rt)?.as_micros()).unwrap_or(u64::MAX);
         let millis = micros / 1000;
-        self.house.members.journal.moment = Moment {
+        self.event_loop.state.journal.moment = Moment {
             millis,
             micros,
             time: self.began.saturating_add(millis),
@@ -238,7 +245,7 @@ impl Program {
 
     /// Whether it asks the system again at once: to be woken takes longer than a request's own work.
     fn spins(&self) -> bool {
-        self.house.members.journal.moment.micros < self.polling.until(self.house.asked.spin)
+        self.event_loop.state.journal.moment.micros < self.polling.until(self.event_loop.asked.spin)
     }
 
     /// Does what the system reported asks for.
@@ -249,7 +256,7 @@ impl Program {
                 continue;
             }
             self.polling
-                .report(self.house.members.journal.moment.micros);
+                .report(self.event_loop.state.journal.moment.micros);
             if token == LISTENER {
                 self.accept()?;
             } else if token == ASKERS {
@@ -269,7 +276,7 @@ impl Program {
                 } else {
                     News::Turn
                 };
-                self.house.members.sockets.report(token.0, news)?;
+                self.event_loop.state.sockets.report(token.0, news)?;
             }
         }
         Ok(())
@@ -280,10 +287,10 @@ impl Program {
         if self.ending.is_some() {
             return;
         }
-        self.ending = Some(self.house.now());
+        self.ending = Some(self.event_loop.now());
         match by {
-            Some(key) => self.house.members.note_order(why, key),
-            None => self.house.members.journal.note(why),
+            Some(key) => self.event_loop.state.note_order(why, key),
+            None => self.event_loop.state.journal.note(why),
         }
     }
 }

@@ -15,24 +15,27 @@ impl Program {
     /// Closes what has lasted longer than its limit.
     pub fn sweep<R: Net>(&mut self, rt: &R) -> io::Result<()> {
         if self.ending.is_some() {
-            self.house.members.sockets.touch_all();
+            self.event_loop.state.sockets.touch_all();
         }
         self.sweep_due(rt)?;
-        self.house.part_all(rt)?;
-        self.house.dial_held(rt)?;
-        self.house.judge_all(rt)?;
-        self.house.look_after_names(rt)?;
-        self.house.check_all(rt)
+        self.event_loop.part_all(rt)?;
+        self.event_loop.dial_queued(rt)?;
+        self.event_loop.reauthenticate(rt)?;
+        self.event_loop.look_after_names(rt)?;
+        self.event_loop.check_all(rt)
     }
 
     fn sweep_due<R: Net>(&mut self, rt: &R) -> io::Result<()> {
-        let (count, now) = (self.house.members.sockets.places(), self.house.now());
-        if !self.house.members.sockets.begin_looks(now) {
+        let (count, now) = (
+            self.event_loop.state.sockets.places(),
+            self.event_loop.now(),
+        );
+        if !self.event_loop.state.sockets.begin_looks(now) {
             return Ok(());
         }
         let mut place = 0;
         for _ in 0..count {
-            let Some((next, key)) = self.house.members.sockets.first_due(place, now) else {
+            let Some((next, key)) = self.event_loop.state.sockets.first_due(place, now) else {
                 break;
             };
             self.sweep_one(rt, key)?;
@@ -46,7 +49,7 @@ impl Program {
             self.end(rt, key, why)?;
         }
         // What made room for it may have been said of another one alone.
-        Ok(self.house.members.sockets.read_on(key)?)
+        Ok(self.event_loop.state.sockets.read_on(key)?)
     }
 }
 

@@ -1,9 +1,9 @@
 //! What the relay tells whoever asks what it does: for a reader, as JSON, and for Prometheus.
 
 use crate::program::Program;
-use relay_groups::{Group, Members, relay_of};
+use relay_groups::{Group, RelayState, relay_of};
 use relay_settings::server_of;
-use relay_sockets::{Role, Whose};
+use relay_sockets::{Role, RoleKind};
 use relay_status::{
     At, FAR, Figures, NO_HTTP, PAGES, Page, STRANGE, UNMEANT, put_answer, put_metrics, put_server,
     put_text_figures, put_user, put_users, sum,
@@ -14,9 +14,9 @@ use std::net::Net;
 impl Program {
     /// Bytes of somebody who asks came.
     pub fn asked_for<R: Net>(&mut self, rt: &R, key: usize, piece: &[u8]) -> io::Result<()> {
-        let page = match self.house.members.sockets.get_mut(key) {
+        let page = match self.event_loop.state.sockets.get_mut(key) {
             Some(socket) => match &mut socket.role {
-                Role::Asker(asker) => asker.take(piece)?,
+                Role::StatusClient(client) => client.take(piece)?,
                 _ => None,
             },
             None => None,
@@ -30,12 +30,12 @@ impl Program {
             Page::Json => return self.ask_json(key),
             _ => {}
         }
-        let mut body = Vec::new(self.house.alloc);
+        let mut body = Vec::new(self.event_loop.alloc);
         let (status, kind) = self.put_page(rt, page, key, &mut body)?;
-        if let Some(socket) = self.house.members.sockets.get_mut(key) {
+        if let Some(socket) = self.event_loop.state.sockets.get_mut(key) {
             put_answer(&mut socket.out, status, kind, &body)?;
         }
-        self.house.dismiss(rt, key)
+        self.event_loop.close_when_sent(rt, key)
     }
 
     /// Appends what was asked for, by who has this key. Answers the status and the kind of that.
@@ -77,13 +77,13 @@ impl Program {
     fn put_metrics(&mut self, body: &mut Vec<u8>) -> io::Result<()> {
         self.see_all()?;
         put_metrics(body, &self.figures())?;
-        self.house
-            .members
+        self.event_loop
+            .state
             .journal
             .requests
             .put_metrics(body, "tdsrelay_request_seconds")?;
-        self.house
-            .members
+        self.event_loop
+            .state
             .journal
             .logins
             .put_metrics(body, "tdsrelay_login_seconds")?;
@@ -94,7 +94,7 @@ impl Program {
     fn put_users(&self, body: &mut Vec<u8>) -> io::Result<()> {
         for (what, kind) in [("applications", true), ("connections", false)].iter() {
             put_users(body, what)?;
-            for (_, entry) in self.house.members.groups.iter() {
+            for (_, entry) in self.event_loop.state.groups.iter() {
                 let group = &entry.value.inner;
                 if self.is_first_of_user(entry.key, group) {
                     let count = self.count_of(&group.who.user, *kind);
@@ -107,7 +107,7 @@ impl Program {
 
     /// Whether no group before this one is of the same user.
     fn is_first_of_user(&self, key: usize, group: &Group) -> bool {
-        for (_, entry) in self.house.members.groups.iter() {
+        for (_, entry) in self.event_loop.state.groups.iter() {
             if entry.key < key && entry.value.inner.who.user == group.who.user {
                 return false;
             }
@@ -118,7 +118,7 @@ impl Program {
     /// How many applications or connections there are of a user.
     fn count_of(&self, user: &String, of_applications: bool) -> u64 {
         let mut count: u64 = 0;
-        for (_, entry) in self.house.members.groups.iter() {
+        for (_, entry) in self.event_loop.state.groups.iter() {
             let group = &entry.value.inner;
             if group.who.user == *user {
                 let more = if of_applications {
@@ -134,25 +134,28 @@ impl Program {
 
     /// Closes all applications and connections of a group. False where there is no such group.
     fn kill<R: Net>(&mut self, rt: &R, number: u64, by: usize) -> io::Result<bool> {
-        let Some(group) = self.house.members.groups.key_of(number) else {
+        let Some(group) = self.event_loop.state.groups.key_of(number) else {
             return Ok(false);
         };
-        self.house
-            .members
+        self.event_loop
+            .state
             .say_order(number, "is closed, by POST /kill", by);
-        self.house.close_group(rt, group)?;
+        self.event_loop.close_group(rt, group)?;
         Ok(true)
     }
 
     /// What is there, and what was done.
     pub fn figures(&self) -> Figures {
-        let mut figures = Figures::new(self.house.now() / 1000, self.house.members.journal.counts);
-        let now = self.house.now();
-        let Members {
+        let mut figures = Figures::new(
+            self.event_loop.now() / 1000,
+            self.event_loop.state.journal.counts,
+        );
+        let now = self.event_loop.now();
+        let RelayState {
             sockets,
             groups,
             ..
-        } = &self.house.members;
+        } = &self.event_loop.state;
         for (_, entry) in sockets.iter() {
             let socket = &entry.value;
             figures.add(socket.told(), socket.seen.at);
@@ -170,12 +173,12 @@ impl Program {
 
     /// Notes of each socket what it is at now, and who is at its other end.
     pub fn see_all(&mut self) -> io::Result<()> {
-        let keys = self.house.members.sockets.keys()?;
+        let keys = self.event_loop.state.sockets.keys()?;
         for key in keys.iter() {
             let (at, mark) = self.at(*key);
             let partner = self.partner_of(*key);
-            let now = self.house.now();
-            if let Some(socket) = self.house.members.sockets.get_mut(*key) {
+            let now = self.event_loop.now();
+            if let Some(socket) = self.event_loop.state.sockets.get_mut(*key) {
                 socket.see(at, mark, now);
                 socket.partner = partner;
             }
@@ -185,17 +188,17 @@ impl Program {
 
     /// The number of the connection that an application holds, or of the application that holds one.
     fn partner_of(&mut self, key: usize) -> Option<u64> {
-        let Members {
+        let RelayState {
             sockets,
             groups,
             ..
-        } = &mut self.house.members;
-        let other = match sockets.get(key)?.whose() {
-            Whose::Application(group, application) => {
+        } = &mut self.event_loop.state;
+        let other = match sockets.get(key)?.role_kind() {
+            RoleKind::Application(group, application) => {
                 relay_of(groups, group)?.held_tag(application)?
             }
-            Whose::Opening(group, number) => relay_of(groups, group)?.holder_tag(number)?,
-            Whose::Connection(group, number) => relay_of(groups, group)?.holder_tag(number)?,
+            RoleKind::Opening(group, number) => relay_of(groups, group)?.holder_tag(number)?,
+            RoleKind::Connection(group, number) => relay_of(groups, group)?.holder_tag(number)?,
             _ => return None,
         };
         Some(sockets.get(other)?.number)
@@ -207,17 +210,17 @@ impl Program {
         self.put_servers(body)?;
         write!(body, "\n")?;
         put_text_figures(body, &self.figures())?;
-        self.house
-            .members
+        self.event_loop
+            .state
             .journal
             .requests
             .put_text(body, "requests")?;
-        self.house
-            .members
+        self.event_loop
+            .state
             .journal
             .logins
             .put_text(body, "logins of connections")?;
-        for (_, entry) in self.house.members.groups.iter() {
+        for (_, entry) in self.event_loop.state.groups.iter() {
             self.put_group(body, entry.key)?;
         }
         self.put_coming(body)
@@ -225,9 +228,14 @@ impl Program {
 
     /// The servers, and which of them have failed lately.
     fn put_servers(&self, body: &mut Vec<u8>) -> io::Result<()> {
-        for (place, until) in self.house.upstream.away.iter().enumerate() {
-            if let Some(server) = self.house.asked.servers.at(place) {
-                put_server(body, server_of(place), server, *until > self.house.now())?;
+        for (place, until) in self.event_loop.upstream.away.iter().enumerate() {
+            if let Some(server) = self.event_loop.asked.servers.at(place) {
+                put_server(
+                    body,
+                    server_of(place),
+                    server,
+                    *until > self.event_loop.now(),
+                )?;
             }
         }
         Ok(())

@@ -1,9 +1,9 @@
 //! The turns of sockets: each sends what the system takes, and reads once.
 
 use crate::program::{PIECE, Program};
-use relay_groups::{Group, Members, relay_of};
+use relay_groups::{Group, RelayState, relay_of};
 use relay_logins::Groups;
-use relay_sockets::{Came, Whose};
+use relay_sockets::{Came, RoleKind};
 use std::io;
 use std::net::Net;
 use std::rt::Clock;
@@ -26,12 +26,12 @@ impl Program {
         buffer: &mut [u8; PIECE],
     ) -> io::Result<()> {
         for _ in 0..TURNS {
-            let count = self.house.members.sockets.begin_turns();
+            let count = self.event_loop.state.sockets.begin_turns();
             if count == 0 {
                 break;
             }
             for place in 0..count {
-                if let Some(key) = self.house.members.sockets.turn(place) {
+                if let Some(key) = self.event_loop.state.sockets.turn(place) {
                     self.turn(rt, key, buffer)?;
                 }
                 if place % LOOK == LOOK - 1 {
@@ -45,79 +45,90 @@ impl Program {
 
     /// A socket's turn: it sends what the system takes, and reads once.
     fn turn<R: Net>(&mut self, rt: &R, key: usize, buffer: &mut [u8; PIECE]) -> io::Result<()> {
-        let Some(socket) = self.house.members.sockets.get_mut(key) else {
+        let Some(socket) = self.event_loop.state.sockets.get_mut(key) else {
             return Ok(());
         };
         socket.link.listed = false;
         let has_to_send = socket.has_to_send();
-        self.house.members.sockets.touch(key);
-        if has_to_send && !self.house.members.send(key)? {
-            return self.house.closed(rt, key);
+        self.event_loop.state.sockets.touch(key);
+        if has_to_send && !self.event_loop.state.send(key)? {
+            return self.event_loop.closed(rt, key);
         }
-        let (whose, came) = self.read(key, buffer);
+        let (role_kind, came) = self.read(key, buffer);
         match came {
             Came::Nothing => Ok(()),
-            Came::End => self.house.has_shut(rt, key),
-            Came::Failed => self.house.closed(rt, key),
-            Came::Bytes(count) => self.came(rt, key, whose, &buffer[..count.min(PIECE)]),
+            Came::End => self.event_loop.has_shut(rt, key),
+            Came::Failed => self.event_loop.closed(rt, key),
+            Came::Bytes(count) => self.came(rt, key, role_kind, &buffer[..count.min(PIECE)]),
         }
     }
 
-    /// Reads once of a socket, where more may be there and there is room for it. Answers whose it is, too.
-    fn read(&mut self, key: usize, buffer: &mut [u8; PIECE]) -> (Whose, Came) {
-        let Members {
+    /// Reads once of a socket, where more may be there and there is room for it. Answers the kind of its role, too.
+    fn read(&mut self, key: usize, buffer: &mut [u8; PIECE]) -> (RoleKind, Came) {
+        let RelayState {
             sockets,
             groups,
             ..
-        } = &mut self.house.members;
+        } = &mut self.event_loop.state;
         let Some(socket) = sockets.get_mut(key) else {
-            return (Whose::Closing, Came::Nothing);
+            return (RoleKind::Closing, Came::Nothing);
         };
-        let whose = socket.whose();
+        let role_kind = socket.role_kind();
         if !socket.link.is_readable() {
-            return (whose, Came::Nothing);
+            return (role_kind, Came::Nothing);
         }
-        let room = room_for(groups, whose).min(PIECE);
+        let room = room_for(groups, role_kind).min(PIECE);
         if room == 0 {
-            return (whose, Came::Nothing);
+            return (role_kind, Came::Nothing);
         }
-        (whose, socket.read(&mut buffer[..room]))
+        (role_kind, socket.read(&mut buffer[..room]))
     }
 
     /// These bytes came on a socket that is this.
-    fn came<R: Net>(&mut self, rt: &R, key: usize, whose: Whose, piece: &[u8]) -> io::Result<()> {
-        let Members {
+    fn came<R: Net>(
+        &mut self,
+        rt: &R,
+        key: usize,
+        role_kind: RoleKind,
+        piece: &[u8],
+    ) -> io::Result<()> {
+        let RelayState {
             sockets,
             journal,
             ..
-        } = &mut self.house.members;
+        } = &mut self.event_loop.state;
         if sockets.has_read(key)? {
             sockets.judge(key, piece, journal)?;
         }
-        match whose {
-            Whose::Application(group, application) => {
+        match role_kind {
+            RoleKind::Application(group, application) => {
                 self.polling.ask();
-                self.house.said(rt, key, group, application, piece)
+                self.event_loop.said(rt, key, group, application, piece)
             }
-            Whose::Connection(group, number) => self.house.heard(rt, key, group, number, piece),
-            Whose::Asker => self.asked_for(rt, key, piece),
-            _ => self.house.came(rt, key, whose, piece),
+            RoleKind::Connection(group, number) => self
+                .event_loop
+                .heard(rt, key, group, number, piece),
+            RoleKind::StatusClient => self.asked_for(rt, key, piece),
+            _ => self.event_loop.came(rt, key, role_kind, piece),
         }
     }
 }
 
 /// How many bytes may be read of a socket that is this.
-fn room_for(groups: &mut Groups<Group>, whose: Whose) -> usize {
-    match whose {
-        Whose::Gate | Whose::Judged(_) | Whose::First(_) | Whose::Opening(..) => PIECE,
-        Whose::Asker | Whose::Leg(_) | Whose::Again(_) => PIECE,
-        Whose::Owed | Whose::Names => PIECE,
-        Whose::Application(group, key) => room_of(groups, group, key),
-        Whose::Connection(group, number) => match relay_of(groups, group) {
+fn room_for(groups: &mut Groups<Group>, role_kind: RoleKind) -> usize {
+    match role_kind {
+        RoleKind::Handshake
+        | RoleKind::Authenticating(_)
+        | RoleKind::First(_)
+        | RoleKind::Opening(..) => PIECE,
+        RoleKind::StatusClient | RoleKind::Continuation(_) | RoleKind::Reauthentication(_) => PIECE,
+        RoleKind::Owed | RoleKind::Names => PIECE,
+        RoleKind::Application(group, key) => room_of(groups, group, key),
+        RoleKind::Connection(group, number) => match relay_of(groups, group) {
             Some(relay) => relay.room_on(number),
             None => PIECE,
         },
-        Whose::Closing => 0,
+        RoleKind::Closing => 0,
     }
 }
 

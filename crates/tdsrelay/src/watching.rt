@@ -3,10 +3,10 @@
 use crate::program::Program;
 use crate::sweeping::next_look;
 use crate::why::{Why, why_late};
-use relay_groups::{Group, Members, relay_of};
+use relay_groups::{Group, RelayState, relay_of};
 use relay_logins::{Groups, UNANSWERED};
 use relay_settings::{Limits, is_beyond};
-use relay_sockets::{Cause, Role, Whose};
+use relay_sockets::{Cause, Role, RoleKind};
 use relay_status::{At, raise};
 use std::io;
 use std::net::Net;
@@ -20,8 +20,8 @@ impl Program {
     pub fn has_ended(&self) -> bool {
         match self.ending {
             Some(since) => {
-                let lasted = self.house.now().saturating_sub(since);
-                self.applications() == 0 || is_beyond(self.house.asked.limits.drain, lasted)
+                let lasted = self.event_loop.now().saturating_sub(since);
+                self.applications() == 0 || is_beyond(self.event_loop.asked.limits.drain, lasted)
             }
             None => false,
         }
@@ -30,7 +30,7 @@ impl Program {
     /// How many applications are logged in.
     pub fn applications(&self) -> usize {
         let mut count: usize = 0;
-        for (_, entry) in self.house.members.sockets.iter() {
+        for (_, entry) in self.event_loop.state.sockets.iter() {
             if matches!(entry.value.role, Role::Application(..)) {
                 count = count.saturating_add(1);
             }
@@ -40,26 +40,28 @@ impl Program {
 
     /// Notes what a socket is at, and answers why it is to be closed, if it is.
     pub fn look_at(&mut self, key: usize) -> Option<Why> {
-        let Members {
+        let RelayState {
             sockets,
             groups,
             ..
-        } = &mut self.house.members;
+        } = &mut self.event_loop.state;
         let socket = sockets.get(key)?;
-        let whose = socket.whose();
-        let (at, mark) = at_as(groups, whose, socket.link.is_readable());
+        let role_kind = socket.role_kind();
+        let (at, mark) = at_as(groups, role_kind, socket.link.is_readable());
         let why_free = match at {
-            At::Free => why_free(groups, whose),
+            At::Free => why_free(groups, role_kind),
             _ => None,
         };
-        let (now, limits) = (self.house.now(), self.limits_of(whose));
-        let socket = self.house.members.sockets.get_mut(key)?;
+        let (now, limits) = (self.event_loop.now(), self.limits_of(role_kind));
+        let socket = self.event_loop.state.sockets.get_mut(key)?;
         socket.see(at, mark, now);
         let lasted = now.saturating_sub(socket.seen.since);
         let age = now.saturating_sub(socket.born);
         let next = next_look(&socket.seen, socket.born, &limits, now);
-        self.house.members.sockets.look_again(key, next);
-        if self.ending.is_some() && (ends_at_once(at) || matches!(whose, Whose::Judged(_))) {
+        self.event_loop.state.sockets.look_again(key, next);
+        if self.ending.is_some()
+            && (ends_at_once(at) || matches!(role_kind, RoleKind::Authenticating(_)))
+        {
             return Some(Why::End);
         }
         if why_free.is_some() {
@@ -69,35 +71,37 @@ impl Program {
     }
 
     /// The limits of a socket that is this. A server's share of a login's time is the smaller the more servers there
-    /// are; what it is asked behind the login has the time of one more. Who waits for their judgement is told what
+    /// are; what it is asked behind the login has the time of one more. Who waits until they authenticate is told what
     /// becomes of it, so has all their shares, that time, and the times from one look at limits to the next. A
     /// connection that isn't shared may be idle as long as its application is there.
-    pub fn limits_of(&self, whose: Whose) -> Limits {
-        let mut limits = self.house.asked.limits;
-        let (login, servers) = (limits.login, self.house.asked.servers.count());
-        match whose {
-            Whose::First(group) if self.house.members.question_of(group).is_some() => {
+    pub fn limits_of(&self, role_kind: RoleKind) -> Limits {
+        let mut limits = self.event_loop.asked.limits;
+        let (login, servers) = (limits.login, self.event_loop.asked.servers.count());
+        match role_kind {
+            RoleKind::First(group) if self.event_loop.state.question_of(group).is_some() => {
                 limits.login = share_of(login, servers).saturating_add(login);
             }
-            Whose::First(_) => limits.login = share_of(login, servers),
-            Whose::Opening(..) | Whose::Again(_) => limits.login = share_of(login, servers),
-            Whose::Judged(group) if login > 0 => {
+            RoleKind::First(_) => limits.login = share_of(login, servers),
+            RoleKind::Opening(..) | RoleKind::Reauthentication(_) => limits.login = share_of(
+                login, servers,
+            ),
+            RoleKind::Authenticating(group) if login > 0 => {
                 let times = self.login_times(group);
                 limits.login = login.saturating_mul(times).saturating_add(servers);
             }
-            Whose::Connection(group, _) if self.house.members.pair_of(group).is_some() => {
+            RoleKind::Connection(group, _) if self.event_loop.state.pair_of(group).is_some() => {
                 limits.idle = 0;
                 limits.life = 0;
             }
-            Whose::Connection(group, _) if self.is_least(group) => limits.idle = 0,
+            RoleKind::Connection(group, _) if self.is_least(group) => limits.idle = 0,
             _ => {}
         }
         limits
     }
 
-    /// How often a login's time passes at most before who waits for a group's judgement hears of it.
+    /// How often a login's time passes at most before who waits until a group is authenticated hears of it.
     fn login_times(&self, group: usize) -> u64 {
-        match self.house.members.groups.get(group) {
+        match self.event_loop.state.groups.get(group) {
             Some(group) => group.login_times(),
             None => 1,
         }
@@ -105,21 +109,21 @@ impl Program {
 
     /// Whether a group has no more connections than are kept however idle they are.
     fn is_least(&self, group: usize) -> bool {
-        match self.house.members.groups.get(group) {
-            Some(group) => group.connections() <= self.house.asked.least,
+        match self.event_loop.state.groups.get(group) {
+            Some(group) => group.connections() <= self.event_loop.asked.least,
             None => false,
         }
     }
 
     /// What a socket is at, and what tells two of that apart.
     pub fn at(&mut self, key: usize) -> (At, u64) {
-        let Members {
+        let RelayState {
             sockets,
             groups,
             ..
-        } = &mut self.house.members;
+        } = &mut self.event_loop.state;
         match sockets.get(key) {
-            Some(socket) => at_as(groups, socket.whose(), socket.link.is_readable()),
+            Some(socket) => at_as(groups, socket.role_kind(), socket.link.is_readable()),
             None => (At::Other, 0),
         }
     }
@@ -127,40 +131,48 @@ impl Program {
     /// Closes it, or parts it from the connection that it has held for too long, where it loses nothing by that.
     /// An application is told why, where nothing else waits for it.
     pub fn end<R: Net>(&mut self, rt: &R, key: usize, why: Why) -> io::Result<()> {
-        if matches!(why, Why::Hold) && self.house.part_one(rt, key)? {
+        if matches!(why, Why::Hold) && self.event_loop.part_one(rt, key)? {
             return Ok(());
         }
         self.count(why);
-        self.house.members.say("socket", key, why.words());
-        let whose = match self.house.members.sockets.get(key) {
-            Some(socket) => socket.whose(),
+        self.event_loop.state.say("socket", key, why.words());
+        let role_kind = match self.event_loop.state.sockets.get(key) {
+            Some(socket) => socket.role_kind(),
             None => return Ok(()),
         };
-        match (whose, why) {
-            (Whose::Application(group, application), Why::Cancel) => {
+        match (role_kind, why) {
+            (RoleKind::Application(group, application), Why::Cancel) => {
                 self.give_up(rt, group, application)
             }
-            (Whose::Application(..), Why::End) if self.asks_nothing(key) => {
-                self.house.part_with(rt, key)
+            (RoleKind::Application(..), Why::End) if self.asks_nothing(key) => {
+                self.event_loop.disconnect(rt, key)
             }
-            (Whose::Application(..), Why::Wait) if self.is_opening(key) => {
+            (RoleKind::Application(..), Why::Wait) if self.is_opening(key) => {
                 self.tell_unreached(key)?;
-                self.house.part_with(rt, key)
+                self.event_loop.disconnect(rt, key)
             }
-            (Whose::Application(..), _) => match why.told() {
-                Some((number, sentence)) => self.house.dismiss_for(rt, key, number, sentence),
-                None => self.house.part_with(rt, key),
+            (RoleKind::Application(..), _) => match why.told() {
+                Some((number, sentence)) => self
+                    .event_loop
+                    .disconnect_for(rt, key, number, sentence),
+                None => self.event_loop.disconnect(rt, key),
             },
-            (Whose::Judged(_), Why::Login) => self.house.members.put_refusal(key, SILENT),
-            (Whose::Judged(_), Why::Wait) => self.refuse_unreached(key),
-            (Whose::Leg(_), Why::Login) => self.house.members.put_refusal(key, UNANSWERED),
-            (_, Why::Login | Why::Cancel) => self.house.ended(rt, key, Cause::Silent),
-            _ => self.house.ended(rt, key, Cause::Own),
+            (RoleKind::Authenticating(_), Why::Login) => self
+                .event_loop
+                .state
+                .put_refusal(key, SILENT),
+            (RoleKind::Authenticating(_), Why::Wait) => self.refuse_unreached(key),
+            (RoleKind::Continuation(_), Why::Login) => self
+                .event_loop
+                .state
+                .put_refusal(key, UNANSWERED),
+            (_, Why::Login | Why::Cancel) => self.event_loop.ended(rt, key, Cause::Silent),
+            _ => self.event_loop.ended(rt, key, Cause::Own),
         }
     }
 
     fn count(&mut self, why: Why) {
-        let counts = &mut self.house.members.journal.counts;
+        let counts = &mut self.event_loop.state.journal.counts;
         match why {
             Why::Login => raise(&mut counts.late_logins),
             Why::Wait => raise(&mut counts.late_waits),
@@ -177,17 +189,17 @@ impl Program {
     /// The connection on which an application's cancel isn't acknowledged is closed, and the application
     /// with it.
     fn give_up<R: Net>(&mut self, rt: &R, group: usize, application: usize) -> io::Result<()> {
-        if let Some(relay) = relay_of(&mut self.house.members.groups, group) {
+        if let Some(relay) = relay_of(&mut self.event_loop.state.groups, group) {
             if let Some(Place::Cancelling(number)) = relay.place_of(application) {
                 relay.lost(number)?;
             }
         }
-        self.house.obey(rt, group)
+        self.event_loop.obey(rt, group)
     }
 
     /// Whether an application waits for its connection to open.
     fn is_opening(&self, key: usize) -> bool {
-        match self.house.members.sockets.get(key) {
+        match self.event_loop.state.sockets.get(key) {
             Some(socket) => socket.seen.at == At::Opening,
             None => false,
         }
@@ -195,25 +207,25 @@ impl Program {
 
     /// Whether an application asks nothing.
     fn asks_nothing(&self, key: usize) -> bool {
-        match self.house.members.sockets.get(key) {
+        match self.event_loop.state.sockets.get(key) {
             Some(socket) => matches!(socket.seen.at, At::Quiet | At::Holding | At::InTransaction),
             None => false,
         }
     }
 
-    /// An application has waited too long for a server that judges its login, and is told why there is none.
+    /// An application has waited too long for a server that authenticates its login, and is told why there is none.
     fn refuse_unreached(&mut self, key: usize) -> io::Result<()> {
-        match self.house.holding.sentence(self.house.alloc)? {
-            Some(why) => self.house.members.put_refusal(key, why.as_str()),
-            None => self.house.members.put_refusal(key, SILENT),
+        match self.event_loop.dial_queue.sentence(self.event_loop.alloc)? {
+            Some(why) => self.event_loop.state.put_refusal(key, why.as_str()),
+            None => self.event_loop.state.put_refusal(key, SILENT),
         }
     }
 
     /// An application has waited too long for its connection to open, and is told why.
     fn tell_unreached(&mut self, key: usize) -> io::Result<()> {
-        match self.house.holding.sentence(self.house.alloc)? {
-            Some(why) => self.house.members.tell_not_opened(key, why.as_str()),
-            None => self.house.members.tell_not_opened(key, SILENT),
+        match self.event_loop.dial_queue.sentence(self.event_loop.alloc)? {
+            Some(why) => self.event_loop.state.tell_not_opened(key, why.as_str()),
+            None => self.event_loop.state.tell_not_opened(key, SILENT),
         }
     }
 }
@@ -228,8 +240,8 @@ fn share_of(login: u64, servers: u64) -> u64 {
 }
 
 /// Why a connection that nobody holds is closed, whatever limits say, if it is.
-fn why_free(groups: &Groups<Group>, whose: Whose) -> Option<Why> {
-    let Whose::Connection(group, _) = whose else {
+fn why_free(groups: &Groups<Group>, role_kind: RoleKind) -> Option<Why> {
+    let RoleKind::Connection(group, _) = role_kind else {
         return None;
     };
     let group = groups.get(group)?;
@@ -243,25 +255,28 @@ fn why_free(groups: &Groups<Group>, whose: Whose) -> Option<Why> {
 }
 
 /// What a socket that is this is at, of which more may be there to read, and what tells two of that apart.
-fn at_as(groups: &mut Groups<Group>, whose: Whose, has_more: bool) -> (At, u64) {
-    match whose {
-        Whose::Gate | Whose::Leg(_) => (At::Login, 0),
-        Whose::Judged(group) => (at_judged(groups, group), 1),
-        Whose::First(_) | Whose::Opening(..) | Whose::Again(_) => (At::Login, 0),
-        Whose::Owed => (At::Owed, 0),
-        Whose::Names => (At::Quiet, 0),
-        Whose::Asker | Whose::Closing => (At::Other, 0),
-        Whose::Application(group, application) => at_of(groups, group, application, has_more),
-        Whose::Connection(group, number) => match relay_of(groups, group) {
+fn at_as(groups: &mut Groups<Group>, role_kind: RoleKind, has_more: bool) -> (At, u64) {
+    match role_kind {
+        RoleKind::Handshake | RoleKind::Continuation(_) => (At::Login, 0),
+        RoleKind::Authenticating(group) => (at_authenticating(groups, group), 1),
+        RoleKind::First(_) | RoleKind::Opening(..) | RoleKind::Reauthentication(_) => (
+            At::Login,
+            0,
+        ),
+        RoleKind::Owed => (At::Owed, 0),
+        RoleKind::Names => (At::Quiet, 0),
+        RoleKind::StatusClient | RoleKind::Closing => (At::Other, 0),
+        RoleKind::Application(group, application) => at_of(groups, group, application, has_more),
+        RoleKind::Connection(group, number) => match relay_of(groups, group) {
             Some(relay) => at_on(relay.place_on(number)),
             None => (At::Other, 0),
         },
     }
 }
 
-/// What an application is at whose first login of a group is judged: where no server can be reached for that, it waits
-/// for a connection to open.
-fn at_judged(groups: &Groups<Group>, group: usize) -> At {
+/// What an application is at that waits until a group's first login is authenticated: where no server can be reached for
+/// that, it waits for a connection to open.
+fn at_authenticating(groups: &Groups<Group>, group: usize) -> At {
     match groups.get(group) {
         Some(group) if group.is_unreached => At::Opening,
         _ => At::Login,

@@ -14,7 +14,7 @@ pub enum Why {
     Request,
     Idle,
     Old,
-    /// Its group is paused, or its login isn't let in any more.
+    /// Its group is paused, or its login isn't authenticated any more.
     Paused,
     Over,
     /// The relay ends.
@@ -35,7 +35,7 @@ impl Why {
             Why::Idle => "was idle too long (--idle)",
             Why::Old => "is old enough (--life)",
             Why::Paused => "is closed, since its group is paused",
-            Why::Over => "is closed, since its login isn't let in any more (--judge-again)",
+            Why::Over => "is closed, since its login isn't authenticated any more (--judge-again)",
             Why::End => "is closed, since the relay ends",
         }
     }

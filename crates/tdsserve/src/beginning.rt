@@ -1,9 +1,9 @@
-//! The server as the words ask for it, before it serves.
+//! The server as the arguments ask for it, before it serves.
 
 use crate::address::find_place;
+use crate::arguments::Asked;
 use crate::fault::{Bar, ServeFault};
-use crate::words::Asked;
-use serve_drivers::{House, Log, Manner};
+use serve_drivers::{EventLoop, Log, Manner};
 use serve_recordings::read_recording;
 use serve_scripts::{Script, read_script};
 use socket_places::Place;
@@ -14,8 +14,8 @@ use std::os::unix::fs::FileTypeExt;
 /// The most bytes of a script file and of a recording, as of a schedule's.
 const FILE_LIMIT: usize = 33_554_432;
 
-/// A server that listens as the words ask for, and where.
-pub fn begin(rt: &HostRuntime, asked: &Asked) -> Result<(House<Stderr>, Place), ServeFault> {
+/// A server that listens as the arguments ask for, and where.
+pub fn begin(rt: &HostRuntime, asked: &Asked) -> Result<(EventLoop<Stderr>, Place), ServeFault> {
     let place = find_place(rt, asked.address.as_str(), asked.lets_others_in)?;
     let manner = Manner {
         on_attention: asked.on_attention,
@@ -26,17 +26,17 @@ pub fn begin(rt: &HostRuntime, asked: &Asked) -> Result<(House<Stderr>, Place), 
     };
     let script = script_of(rt, asked)?;
     let log = Log::new(rt.stderr(), asked.style);
-    let mut house = match House::new(rt, rt.alloc(), &place, manner, script, log) {
-        Ok(house) => house,
+    let mut event_loop = match EventLoop::new(rt, rt.alloc(), &place, manner, script, log) {
+        Ok(event_loop) => event_loop,
         Err(error) => {
             let bar = bar_of(rt, &place, error);
             return Err(ServeFault::Listen(place, bar));
         }
     };
     if asked.ends_with_input {
-        house.end_with_input().map_err(ServeFault::Input)?;
+        event_loop.end_with_input().map_err(ServeFault::Input)?;
     }
-    Ok((house, place))
+    Ok((event_loop, place))
 }
 
 /// Why it can't listen at this place, where the system refuses with this error.
@@ -52,7 +52,7 @@ fn bar_of(rt: &HostRuntime, place: &Place, error: io::Error) -> Bar {
     }
 }
 
-/// What the words say of answers.
+/// What the arguments say of answers.
 fn script_of(rt: &HostRuntime, asked: &Asked) -> Result<Script, ServeFault> {
     let alloc = rt.alloc();
     match (&asked.script, &asked.recording) {

@@ -11,12 +11,12 @@ use std::io::{self, ErrorKind};
 /// What keeps it from serving.
 #[derive(Debug, Drop, thiserror::Error)]
 pub enum ServeFault {
-    /// The words are no lawful words, or ask for help or the version.
+    /// The arguments are no lawful arguments, or ask for help or the version.
     #[error("{0}")]
     Usage(Error),
-    #[error("error: a word isn't UTF-8")]
+    #[error("error: an argument isn't UTF-8")]
     NoText,
-    /// The word that stands for the address, and what is wrong with it.
+    /// The argument that stands for the address, and what is wrong with it.
     #[error("error: ADDRESS {0:?} {1}")]
     Address(String, String),
     #[error("error: ADDRESS {0:?} isn't this machine's own, as 127.0.0.1 is; --let-others-in listens there, \
@@ -65,8 +65,8 @@ pub enum Bar {
 }
 
 impl ServeFault {
-    /// The fault where words can't be had from the system.
-    pub fn of_words(error: io::Error) -> ServeFault {
+    /// The fault where arguments can't be had from the system.
+    pub fn of_arguments(error: io::Error) -> ServeFault {
         match error.kind() {
             ErrorKind::OutOfMemory => ServeFault::Memory,
             _ => ServeFault::NoText,
@@ -81,7 +81,7 @@ impl ServeFault {
         }
     }
 
-    /// The exit status: 2 where a word or the script is wrong, 1 where the system refuses.
+    /// The exit status: 2 where an argument or the script is wrong, 1 where the system refuses.
     pub fn status(&self) -> u8 {
         match self {
             ServeFault::Listen(..) | ServeFault::Refused(_) | ServeFault::Memory => 1,

@@ -3,18 +3,18 @@
 #![tactic(auto)]
 
 mod address;
+mod arguments;
 mod beginning;
 mod fault;
-mod words;
 
+use arguments::read_arguments;
 use beginning::begin;
 use fault::ServeFault;
-use serve_drivers::House;
+use serve_drivers::EventLoop;
 use socket_places::Place;
 use std::io::{self, Stderr};
 use std::process::ExitCode;
 use std::{env, fs};
-use words::read_words;
 
 fn main(rt: HostRuntime) -> ExitCode {
     match run(&rt) {
@@ -38,35 +38,39 @@ fn answer(rt: &HostRuntime, fault: &ServeFault) -> u8 {
     fault.status()
 }
 
-/// Serves as the words ask for.
+/// Serves as the arguments ask for.
 fn run(rt: &HostRuntime) -> Result<(), ServeFault> {
-    let words = given_words(rt).map_err(ServeFault::of_words)?;
-    let asked = read_words(rt.alloc(), words.as_slice())?;
-    let (house, place) = begin(rt, &asked)?;
-    let done = serve(rt, house, &place);
+    let arguments = given_arguments(rt).map_err(ServeFault::of_arguments)?;
+    let asked = read_arguments(rt.alloc(), arguments.as_slice())?;
+    let (event_loop, place) = begin(rt, &asked)?;
+    let done = serve(rt, event_loop, &place);
     if let Place::Unix(path) = &place {
         let _ = fs::remove_file(rt, path.as_str());
     }
     done
 }
 
-/// The words of the command line, the program's name too.
-fn given_words(rt: &HostRuntime) -> io::Result<Vec<String>> {
-    let mut words = Vec::new(rt.alloc());
-    for word in env::args(rt)? {
-        words.push(word)?;
+/// The arguments of the command line, the program's name too.
+fn given_arguments(rt: &HostRuntime) -> io::Result<Vec<String>> {
+    let mut arguments = Vec::new(rt.alloc());
+    for argument in env::args(rt)? {
+        arguments.push(argument)?;
     }
-    Ok(words)
+    Ok(arguments)
 }
 
 /// Says where it serves, serves, and says what it had done once it ends.
-fn serve(rt: &HostRuntime, mut house: House<Stderr>, place: &Place) -> Result<(), ServeFault> {
-    let _ = match house.address().map_err(ServeFault::Refused)? {
+fn serve(
+    rt: &HostRuntime,
+    mut event_loop: EventLoop<Stderr>,
+    place: &Place,
+) -> Result<(), ServeFault> {
+    let _ = match event_loop.address().map_err(ServeFault::Refused)? {
         Some(address) => eprintln!(rt; "serving on {address}"),
         None => eprintln!(rt; "serving on {place}"),
     };
-    let open = house.serve(rt).map_err(ServeFault::Refused)?;
-    let came = house.opened();
+    let open = event_loop.serve(rt).map_err(ServeFault::Refused)?;
+    let came = event_loop.opened();
     let _ = eprintln!(rt; "ended: connections {came}, open {open}");
     Ok(())
 }

@@ -3,6 +3,7 @@
 //! couldn't judge.
 #![tactic(auto)]
 
+mod arguments;
 mod digits;
 mod drawn;
 mod line;
@@ -10,20 +11,19 @@ mod packets;
 mod picture;
 mod table;
 mod watch;
-mod words;
 
+use arguments::{Asked, Form, read_arguments};
 use memchr::memchr_iter;
 use std::io::{BufRead, BufReader};
 use std::process::ExitCode;
 use std::{env, io};
 use table::put_tables;
 use watch::Watch;
-use words::{Asked, Form, read_words};
 
 const HELP: &str = "\
 Judges the connections of a capture: names each breach of MS-TDS and each risk, with its place
 
-Usage: tdswatch [WORD..]  (./tdswatch FILE.pcap.. [WORD..] has tshark read the files)
+Usage: tdswatch [ARGUMENT..]  (./tdswatch FILE.pcap.. [ARGUMENT..] has tshark read the files)
 
 Standard input has a line for each piece of bytes, in the order in which they were seen:
   STREAM > TIME HEX   bytes to the server; STREAM is a number, TIME microseconds
@@ -58,14 +58,16 @@ fn main(rt: HostRuntime) -> ExitCode {
 }
 
 fn run(rt: &HostRuntime) -> io::Result<u8> {
-    let words = given_words(rt)?;
-    match read_words(words.as_slice()) {
+    let arguments = given_arguments(rt)?;
+    match read_arguments(arguments.as_slice()) {
         Asked::Help => print(rt, HELP),
         Asked::Version => print(rt, VERSION),
         Asked::Wrong(place, fault) => {
-            let word = words.get(place).map_or("", |word| word.as_str());
+            let argument = arguments
+                .get(place)
+                .map_or("", |argument| argument.as_str());
             let told = fault.text();
-            eprintln!(rt; "error: {word}: {told} (tdswatch --help lists the words)")?;
+            eprintln!(rt; "error: {argument}: {told} (tdswatch --help lists the arguments)")?;
             Ok(2)
         }
         Asked::Judge { form, idle } => judge(rt, form, idle),
@@ -77,13 +79,13 @@ fn print(rt: &HostRuntime, text: &str) -> io::Result<u8> {
     Ok(0)
 }
 
-/// The words of the command line behind the program's name.
-fn given_words(rt: &HostRuntime) -> io::Result<Vec<String>> {
-    let mut words = Vec::new(rt.alloc());
-    for word in env::args(rt)?.skip(1) {
-        words.push(word)?;
+/// The arguments of the command line behind the program's name.
+fn given_arguments(rt: &HostRuntime) -> io::Result<Vec<String>> {
+    let mut arguments = Vec::new(rt.alloc());
+    for argument in env::args(rt)?.skip(1) {
+        arguments.push(argument)?;
     }
-    Ok(words)
+    Ok(arguments)
 }
 
 /// Judges the lines of standard input, and prints what was found.

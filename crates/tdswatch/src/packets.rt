@@ -5,7 +5,7 @@ ghost use Rattle.std.specs.Prelude.{◌≤◌};
 use std::alloc::Global;
 use std::io;
 use tds_judge::Direction;
-use tds_wire::{Change, ChangeValue, Features, Told, Walker};
+use tds_wire::{Change, ChangeValue, Features, TokenParser, Told};
 
 /// What the tokens of a packet to the client say.
 #[derive(Clone, Copy)]
@@ -72,7 +72,7 @@ pub struct Packets {
     requests: u32,
     /// Inside a message of the client: a packet goes on with it.
     is_within: bool,
-    walker: Walker,
+    parser: TokenParser,
 }
 
 const HEAD: At = At::Head { got: 0, value: 0 };
@@ -123,13 +123,13 @@ impl Packets {
             encryption: false,
             ranks: false,
         };
-        let walker = Walker::new(alloc, most, features)?;
+        let parser = TokenParser::new(alloc, most, features)?;
         Ok(Packets {
             client: Way::new(Direction::ToServer),
             server: Way::new(Direction::ToClient),
             requests: 0,
             is_within: false,
-            walker,
+            parser,
         })
     }
 
@@ -139,7 +139,7 @@ impl Packets {
         self.server = Way::new(Direction::ToClient);
         self.requests = 0;
         self.is_within = false;
-        self.walker.restart();
+        self.parser.restart();
     }
 
     fn way(&mut self, direction: Direction) -> &mut Way {
@@ -236,7 +236,7 @@ impl Packets {
         let packet = way.packet;
         let is_last = packet.status % 2 == 1;
         if is_last && direction == Direction::ToClient {
-            self.walker.restart();
+            self.parser.restart();
         }
         Some(packet)
     }
@@ -248,7 +248,7 @@ impl Packets {
         }
         let mut rest = bytes;
         for _ in 0..bytes.len() {
-            let Ok(fed) = self.walker.feed(rest) else {
+            let Ok(fed) = self.parser.feed(rest) else {
                 return;
             };
             if let Some(token) = fed.token {

@@ -1,10 +1,10 @@
 //! The connections of a capture, and what was found of each.
 
+use crate::arguments::Form;
 use crate::digits::read_digits;
 use crate::drawn::Drawn;
 use crate::line::{Line, What, read_line};
 use crate::picture::draw;
-use crate::words::Form;
 use std::alloc::{AllocError, Global};
 use std::collections::HashMap;
 use std::io;

@@ -12,7 +12,7 @@ fn run(command: &mut Command) {
 fn main() {
     let out = env::var("OUT_DIR").expect("cargo sets OUT_DIR");
     let compiler = env::var("CC").unwrap_or("cc".into());
-    let mut files = vec!["mouktelf", "mouktelf_service", "mouktelf_judge"];
+    let mut files = vec!["mouktelf", "mouktelf_judge"];
     if env::var_os("CARGO_FEATURE_PLAY").is_some() {
         let is_there = Path::new("c/mouktelf_play.c").exists();
         assert!(is_there, "mouktelf-sys/c/mouktelf_play.c, the player, isn't in a clone: a release's packages/rust has it");

@@ -5,7 +5,7 @@ ghost use Rattle.serve_requests.specs.declared.plan.TheConstants.{LONGEST};
 
 use crate::call::{Call, Procedure, declared};
 use crate::making::Making;
-use crate::plan::{Deed, End, LONGEST, Plan};
+use crate::plan::{Action, End, LONGEST, Plan};
 use crate::session::{Habits, MOST, Prepared, ROOM};
 use serve_values::Parameter;
 use serve_values::text::{is_word, own, units_in};
@@ -105,7 +105,7 @@ impl Habits {
         ensures fits { IfOk result (λ plan. vec_len plan.text ≤ LONGEST) }
     {
         let mut plan = Plan::new(self.alloc, End::Procedure { handle });
-        plan.add_silent(self.alloc, Deed::Tokens(Vec::new(self.alloc)))?;
+        plan.add_silent(self.alloc, Action::Tokens(Vec::new(self.alloc)))?;
         Ok(plan)
     }
 

@@ -3,7 +3,7 @@
 ghost use Rattle.std.specs.Prelude.{◌≤◌, vec_len, IfOk};
 ghost use Rattle.serve_requests.specs.declared.plan.TheConstants.{LONGEST};
 
-use crate::plan::{Deed, End, Plan};
+use crate::plan::{Action, End, Plan};
 use crate::session::{Habits, MOST};
 use crate::substituting::substituted;
 use serve_answers::{Done, put_done};
@@ -50,7 +50,7 @@ impl Habits {
         let mut plan = Plan::new(self.alloc, End::Batch);
         let mut tokens = Vec::new(self.alloc);
         put_done(&mut tokens, Done::Statement, 1, 0)?;
-        plan.add_silent(self.alloc, Deed::Tokens(tokens))?;
+        plan.add_silent(self.alloc, Action::Tokens(tokens))?;
         plan.levels.push(level)?;
         Ok(plan)
     }
@@ -100,7 +100,7 @@ impl Habits {
     fn add_word(&mut self, plan: &mut Plan, word: &[u8]) -> Result<(), AllocError> {
         self.saved.clear();
         let statement = units_in(self.alloc, word)?;
-        plan.add(statement.as_slice(), Deed::Same)
+        plan.add(statement.as_slice(), Action::Same)
     }
 
     /// Adds a statement of the language, or of no language at all.
@@ -118,7 +118,7 @@ impl Habits {
             self.saved.clear();
         }
         let statement = substituted(self.alloc, statement, parameters)?;
-        plan.add(statement.as_slice(), Deed::Same)
+        plan.add(statement.as_slice(), Action::Same)
     }
 
     /// Whether a savepoint has this name.

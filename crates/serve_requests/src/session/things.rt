@@ -1,7 +1,7 @@
 //! What a session makes for itself alone, and its settings, which are told where the login asks for that.
 
 use crate::making::Making;
-use crate::plan::{Deed, Plan};
+use crate::plan::{Action, Plan};
 use crate::session::{Habits, MOST, tokens_of};
 use serve_answers::{COLLATION, Column, Done, Value, put_columns, put_done, put_row};
 use serve_states::{Made, Vice};
@@ -197,7 +197,7 @@ impl Habits {
         }
         let mut tokens = Vec::new(self.alloc);
         put_done(&mut tokens, Done::Statement, 0x11, 1)?;
-        plan.add_silent(self.alloc, Deed::Tokens(tokens))
+        plan.add_silent(self.alloc, Action::Tokens(tokens))
     }
 
     /// Adds the count of the rows of the table that stands there.
@@ -209,7 +209,7 @@ impl Habits {
         let mut columns = Vec::new(self.alloc);
         columns.push(number_column(self.alloc, rows)?)?;
         let tokens = tokens_of(self.alloc, columns.as_slice())?;
-        plan.add_silent(self.alloc, Deed::Tokens(tokens))
+        plan.add_silent(self.alloc, Action::Tokens(tokens))
     }
 
     /// Adds the error of a thing that is there, or isn't.
@@ -249,7 +249,7 @@ impl Habits {
             count = count.saturating_add(1);
         }
         put_done(&mut tokens, Done::Statement, 0x11, count)?;
-        plan.add_silent(self.alloc, Deed::Tokens(tokens))
+        plan.add_silent(self.alloc, Action::Tokens(tokens))
     }
 }
 

@@ -1,7 +1,7 @@
 //! What of a script's tokens is no answer.
 
 use std::alloc::{AllocError, Global};
-use tds_wire::{Features, Walker};
+use tds_wire::{Features, TokenParser};
 
 /// The most columns of an answer in a script.
 const COLUMNS: u16 = 1024;
@@ -18,13 +18,13 @@ pub(crate) fn fault_of<'a>(
         encryption: false,
         ranks: false,
     };
-    let mut walker = Walker::new(alloc, COLUMNS, features)?;
-    let last = match last_token(&mut walker, tokens) {
+    let mut parser = TokenParser::new(alloc, COLUMNS, features)?;
+    let last = match last_token(&mut parser, tokens) {
         Ok(last) => last,
         Err(at) => return Ok(Some((at, "no token of an answer stands there"))),
     };
     let count = tokens.len() as u64;
-    if !walker.is_between() {
+    if !parser.is_between() {
         return Ok(Some((count, "its last token isn't whole")));
     }
     if last < DONE {
@@ -34,14 +34,14 @@ pub(crate) fn fault_of<'a>(
 }
 
 /// The first byte of the last token, 0 where there is none; or the byte at which no token stands.
-fn last_token(walker: &mut Walker, tokens: &[u8]) -> Result<u8, u64> {
+fn last_token(parser: &mut TokenParser, tokens: &[u8]) -> Result<u8, u64> {
     let mut rest = tokens;
     let mut last = 0;
     for _ in 0..tokens.len() {
         if rest.is_empty() {
             break;
         }
-        let fed = match walker.feed(rest) {
+        let fed = match parser.feed(rest) {
             Ok(fed) => fed,
             Err(refusal) => return Err(refusal.at),
         };

@@ -3,7 +3,7 @@ ghost use Rattle.std.specs.Prelude.{◌+◌, ◌≤◌, vec_len};
 
 use crate::answering::{Answering, put_packet};
 use std::alloc::AllocError;
-use tds_wire::{Features, Walker};
+use tds_wire::{Features, TokenParser};
 
 /// The most columns of an answer.
 const COLUMNS: u16 = 1024;
@@ -42,11 +42,11 @@ impl Answering {
             encryption: false,
             ranks: false,
         };
-        let mut walker = Walker::new(self.alloc, COLUMNS, features)?;
+        let mut parser = TokenParser::new(self.alloc, COLUMNS, features)?;
         let mut start: usize = 0;
         let mut rest = self.tokens.as_slice();
         for _ in 0..self.tokens.len() {
-            let Ok(fed) = walker.feed(rest) else {
+            let Ok(fed) = parser.feed(rest) else {
                 break;
             };
             let Some(token) = fed.token else {

@@ -1,4 +1,4 @@
-//! What a peer is told that is let in.
+//! What a peer is told that is authenticated.
 ghost use Rattle.std.specs.Prelude.{◌+◌, ◌≤◌, vec_len};
 
 use crate::asked::{asks_for_recovery, asks_for_utf8, database_in};
@@ -17,8 +17,8 @@ use tds_session::ScriptEngine;
 const MOST: usize = 4088;
 
 impl Peer {
-    /// Lets a peer in, and begins its session.
-    pub(crate) fn let_in(
+    /// Authenticates a peer, and begins its session.
+    pub(crate) fn authenticate(
         &mut self,
         script: &Script,
         terms: Terms,
@@ -115,7 +115,7 @@ fn size_of(script: &Script, terms: &Terms) -> PacketSize {
     }
 }
 
-/// What let the recorded connection of this number in, where that was recorded and has room in a packet.
+/// What authenticated the recorded connection of this number, where that was recorded and has room in a packet.
 fn recorded_greeting(script: &Script, number: u64) -> Option<&[u8]> {
     let tokens = script.recording()?.login(number)?;
     if tokens.len() <= MOST {
@@ -125,7 +125,7 @@ fn recorded_greeting(script: &Script, number: u64) -> Option<&[u8]> {
     }
 }
 
-/// The tokens by which a SQL Server lets a client in: what is told of the session, ENVCHANGE 4 (MS-TDS
+/// The tokens by which a SQL Server authenticates a client: what is told of the session, ENVCHANGE 4 (MS-TDS
 /// 2.2.7.9), LOGINACK (2.2.7.14), FEATUREEXTACK (2.2.7.11) where a feature was asked for, and DONE (2.2.7.6).
 fn real_greeting(
     alloc: Global,
@@ -141,7 +141,7 @@ fn real_greeting(
     Ok(tokens)
 }
 
-/// The tokens by which a client is let in that asked for these features: they stand before DONE.
+/// The tokens by which a client is authenticated that asked for these features: they stand before DONE.
 fn plain_greeting(
     alloc: Global,
     terms: Terms,

@@ -104,7 +104,7 @@ kept_all kept target known left stands none is = sym (append-nil kept) ∙ ap (�
 pub known_all : (target known : Known) (left : Left) (stands : Option Reading) → left ≡ record { bytes = []; known = known; stands = stands } → left.known ≡ target → known ≡ target
 known_all target known left stands none is = ap (λ (l : Left). l.known) (sym none) ∙ is
 
--- where the walker stands, of which this was said
+-- where the parser stands, of which this was said
 pub stands_all : (target : Option Reading) (known : Known) (left : Left) (r next : Reading) → left ≡ record { bytes = []; known = known; stands = Some r } → left.stands ≡ target → target ≡ Some next → r ≡ next
 stands_all target known left r next none is there =
     let same : Some r ≡ Some next = ap (λ (l : Left). l.stands) (sym none) ∙ is ∙ there in
@@ -117,10 +117,10 @@ stands_none target known left next none is there =
 
 -- what is left is laid out anew
 pub cut_is : (a : Answer) (header : Header) (content : List ℕ) (size : ℕ) (ends : Bool) (kept all sent : List ℕ) (known : Known)
-    → size ≡ a.size → ends ≡ ends_in header → kept ≡ (left_of a.known a.walker content).bytes → known ≡ (left_of a.known a.walker content).known
+    → size ≡ a.size → ends ≡ ends_in header → kept ≡ (left_of a.known a.parser content).bytes → known ≡ (left_of a.known a.parser content).known
     → all ≡ (if ends then kept ++ held known else kept) → IsAnew size header.packet_id ends all sent → IsCut a header content sent
 cut_is a header content size ends kept all sent known size_is ends_is kept_is known_is all_is anew =
-    let left : Left = left_of a.known a.walker content in
+    let left : Left = left_of a.known a.parser content in
     let whole : all ≡ left_in ends left =
     all_is ∙ ap (λ (k : Known). if ends then kept ++ held k else kept) known_is ∙ ap (λ (front : List ℕ). if ends then front ++ held left.known else front) kept_is in
     subst (λ (b : Bool). IsAnew a.size header.packet_id b (left_in b left) sent) ends_is
@@ -131,13 +131,13 @@ pub no_bytes : (bytes : List ℕ) → length bytes ≡ 0 → bytes ≡ []
 no_bytes [] none = refl
 no_bytes (x ∷ xs) none = absurd (omega (arith, none))
 
--- what is known behind it, and where the walker stands
-pub behind_is : (a : Answer) (content : List ℕ) (ends last : Bool) (first mid new : Known) (at now : Reading) → first ≡ a.known → ends ≡ last → mid ≡ (left_of first a.walker content).known
-    → ((next : Reading) → (left_of first a.walker content).stands ≡ Some next → at ≡ next) → new ≡ (if ends then known_next mid else mid) → now ≡ behind_packet ends at
-    → (new ≡ (if last then known_next (left_of a.known a.walker content).known else (left_of a.known a.walker content).known))
-    × ((next : Reading) → (left_of a.known a.walker content).stands ≡ Some next → now ≡ behind_packet last next)
+-- what is known behind it, and where the parser stands
+pub behind_is : (a : Answer) (content : List ℕ) (ends last : Bool) (first mid new : Known) (at now : Reading) → first ≡ a.known → ends ≡ last → mid ≡ (left_of first a.parser content).known
+    → ((next : Reading) → (left_of first a.parser content).stands ≡ Some next → at ≡ next) → new ≡ (if ends then known_next mid else mid) → now ≡ behind_packet ends at
+    → (new ≡ (if last then known_next (left_of a.known a.parser content).known else (left_of a.known a.parser content).known))
+    × ((next : Reading) → (left_of a.known a.parser content).stands ≡ Some next → now ≡ behind_packet last next)
 behind_is a content ends last first mid new at now known_is ends_is left_is stands_is new_is now_is = (
-  new_is ∙ ap (λ (k : Known). if ends then known_next k else k) (left_is ∙ ap (λ (k : Known). (left_of k a.walker content).known) known_is)
-      ∙ ap (λ (b : Bool). if b then known_next (left_of a.known a.walker content).known else (left_of a.known a.walker content).known) ends_is,
-  λ next there. now_is ∙ ap (behind_packet ends) (stands_is next (ap (λ (k : Known). (left_of k a.walker content).stands) known_is ∙ there)) ∙ ap (λ (b : Bool). behind_packet b next) ends_is,
+  new_is ∙ ap (λ (k : Known). if ends then known_next k else k) (left_is ∙ ap (λ (k : Known). (left_of k a.parser content).known) known_is)
+      ∙ ap (λ (b : Bool). if b then known_next (left_of a.known a.parser content).known else (left_of a.known a.parser content).known) ends_is,
+  λ next there. now_is ∙ ap (behind_packet ends) (stands_is next (ap (λ (k : Known). (left_of k a.parser content).stands) known_is ∙ there)) ∙ ap (λ (b : Bool). behind_packet b next) ends_is,
 )

@@ -4,10 +4,10 @@ use Rattle.std.specs.List.{AllByRecursion}
 use Rattle.tds_packet.specs.Reading.{Reading, joined, with_taken}
 use Rattle.tds_packet.specs.Stream.{IsLess, IsOnePacket}
 use Rattle.tds_service.specs.declared.service.Service.{Service}
-use Rattle.tds_wire.specs.Reading as walkers
-use Rattle.tds_relay.specs.House.{House}
+use Rattle.tds_wire.specs.Reading as parsers
+use Rattle.tds_relay.specs.Machine.{Machine}
 use Rattle.tds_relay.specs.Reads.{Another, AreReadIn, Call, Came, Comes, Follow, FollowAt, Reads, bytes_in, packets_in, packets_of, stands_in}
-use Rattle.tds_relay.specs.Walkers.{StandsAt, There, stands_behind}
+use Rattle.tds_relay.specs.TokenParsers.{StandsAt, There, stands_behind}
 use Rattle.tds_relay.proofs.bytes.Taking.{joined_both, more_are, reads_nothing}
 
 all_both : (P : List ℕ → Type 0) (xs ys : List (List ℕ)) → AllByRecursion P xs → AllByRecursion P ys → AllByRecursion P (xs ++ ys)
@@ -30,7 +30,7 @@ reads_both r mid now xs ys ps qs s t =
     }
 
 -- all of them were heard, for the connection is open behind them
-came_reads : (number : ℕ) (had now : Reading) (bytes : List ℕ) (old new : House) (from to : Service) (c : Comes number (Some had) old from bytes (Some now) new to) → IsLess had had.taken
+came_reads : (number : ℕ) (had now : Reading) (bytes : List ℕ) (old new : Machine) (from to : Service) (c : Comes number (Some had) old from bytes (Some now) new to) → IsLess had had.taken
     → Reads had bytes (packets_of c.streams.streams.steps) (Some now)
 came_reads number had now bytes old new from to c few =
     let s = c.streams.streams in
@@ -51,8 +51,8 @@ follow_reads (Another r mid from to stays stand ∷ calls) had now few f =
     subst (λ (x : Reading). Reads x (bytes_in calls) (packets_in calls) (Some now)) (sym same)
     (follow_reads calls mid now (subst (λ (x : Reading). IsLess x x.taken) same few) f.1)
 
--- where its walker stands
-pub follow_stands : {number : ℕ} (calls : List (Call number)) (from to : Service) (r : walkers.Reading) → FollowAt from calls to → StandsAt number r from
+-- where its parser stands
+pub follow_stands : {number : ℕ} (calls : List (Call number)) (from to : Service) (r : parsers.Reading) → FollowAt from calls to → StandsAt number r from
     → AreReadIn r calls × StandsAt number (stands_in r calls) to
 follow_stands {number} [] from to r f st = (tt, subst (λ (s : Service). StandsAt number r s) f st)
 follow_stands {number} (Came had now bytes old new before behind c ∷ calls) from to r f st =

@@ -1,4 +1,4 @@
--- Where a walker stands behind a packet that it has read.
+-- Where a parser stands behind a packet that it has read.
 use Rattle.std.proofs.Common.{◌≡◌, ◌≢◌, ◌∙◌, ◌==◌, ◌≤◌, ℕ, Bool, true, false, List, [], inl, inr, refl, sym, ap, subst, arith}
 use Rattle.std.specs.Prelude.{◌⊎◌, Option, Some, None}
 use Rattle.std.proofs.lemmas.Bool.{eqb-true}
@@ -13,12 +13,12 @@ use Rattle.tds_service.specs.Packets.{ReadsTo}
 use Rattle.tds_service.specs.Service as calls
 use Rattle.tds_service.specs.Service.{Service, Call, Seat, nothing, seat_numbered, step, new_service}
 use Rattle.tds_service.specs.Table.{KeepsOthers, reading_on, service_in}
-use Rattle.tds_relay.specs.Walkers.{AllRead, AllStand, IsLed, IsUnread, StandsAt, There, Unread, read_at, read_to}
+use Rattle.tds_relay.specs.TokenParsers.{AllRead, AllStand, IsLed, IsUnread, StandsAt, There, Unread, read_at, read_to}
 use Rattle.tds_relay.proofs.bytes.Walking.{Leaves, differ, led_on, none_begun, nothing_there, seat_unread, stand_one, step_leaves, unread_one}
 
 -- ---- What is read
 
--- where its own walker stands
+-- where its own parser stands
 own_stand : (old mid : services.Service) (call : Call Token) (n : ℕ) (r next : Reading) → service_in mid ≡ (step (service_in old) call).service → reading_on n mid ≡ Some next → StandsAt n r old → StandsAt n next mid
 own_stand old mid call n r next is at h =
     let left = subst (Leaves n (service_in old)) (sym is) (step_leaves n (service_in old) call h.given) in
@@ -43,11 +43,11 @@ to_behind ends r next stop h = ap (λ (s : Stop). read_to ends r s) h.1 ∙ sym 
 is_there : (number : ℕ) (s : services.Service) (at : Reading) → reading_on number s ≡ Some at → seat_numbered number (service_in s).seats ≡ None → ⊥
 is_there number s at is none = let u : None ≡ Some at = sym (seat_unread number s none) ∙ is in cc
 
--- what is known of the walker that has read
+-- what is known of the parser that has read
 abbrev Known : ℕ → Bool → List ℕ → services.Service → services.Service → Type 0
 Known number ends content old mid = (r : Reading) → reading_on number old ≡ Some r → (next : Reading) × (reading_on number mid ≡ Some next) × ReadsTo ends (tokens_in r content).stop next
 
--- where a connection's walker stands behind a packet on this one
+-- where a connection's parser stands behind a packet on this one
 abbrev behind : ℕ → ℕ → Bool → List ℕ → services.Service → Reading → Reading
 behind n number ends content old r = read_at n number (seat_numbered number (service_in old).seats) ends content r
 

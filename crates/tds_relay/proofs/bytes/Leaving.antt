@@ -1,4 +1,4 @@
--- Walkers stand where they stood as a connection is lost, or let go.
+-- TokenParsers stand where they stood as a connection is lost, or let go.
 use Rattle.std.proofs.Common.{◌≡◌, ◌∙◌, ℕ, Bool, List, [], ◌∷◌, refl, sym, ap, subst}
 use Rattle.std.specs.Prelude.{Option, Some, None}
 use Rattle.std.proofs.lemmas.Bool.{eqb-true}
@@ -15,7 +15,7 @@ use Rattle.tds_service.specs.Service.{Service, Call, Place, Seat, find_by, chang
 use Rattle.tds_service.specs.Table.{KeepsOthers, KeepsBy, StepsIn, reading_on, rest_of, service_in}
 use Rattle.tds_service.proofs.Numbered.{change_out}
 use Rattle.tds_relay.specs.Ties.{lost_by}
-use Rattle.tds_relay.specs.Walkers.{AllStand, IsLed}
+use Rattle.tds_relay.specs.TokenParsers.{AllStand, IsLed}
 use Rattle.tds_relay.proofs.promises.Seats.{Distinct, found_meets}
 use Rattle.tds_relay.proofs.bytes.Walking.{Opens, gone_stand, keeps_stand, led_tidy, seat_unread}
 

@@ -4,10 +4,10 @@ use Rattle.std.specs.Prelude.{Some}
 use Rattle.tds_packet.specs.declared.header.Header.{Header}
 use Rattle.tds_packet.specs.Layout.{IsPacket}
 use Rattle.tds_packet.specs.Reading as readers
-use Rattle.tds_relay.specs.declared.desk.coming.Heard.{Heard}
+use Rattle.tds_relay.specs.declared.pool.coming.Heard.{Heard}
 use Rattle.tds_service.specs.declared.service.Service as services
 use Rattle.tds_relay.specs.Cutting.{ends_in}
-use Rattle.tds_relay.specs.Walkers.{AllRead, HasRead, ReadsBy, ReadsOn}
+use Rattle.tds_relay.specs.TokenParsers.{AllRead, HasRead, ReadsBy, ReadsOn}
 
 pub has_read : (number : ℕ) (r : readers.Reading) (header : Header) (content : List ℕ) (ends : Bool) (old new : services.Service) → IsPacket r.direction r.size r.taken header content → ends ≡ ends_in header
     → AllRead number ends content old new → HasRead number r old new

@@ -8,17 +8,17 @@ use Rattle.tds_packet.specs.Reading.{IsWhole, with_taken}
 use Rattle.tds_packet.specs.Stream.{IsLess}
 use Rattle.tds_service.specs.declared.service.Service.{Service}
 use Rattle.tds_service.specs.Table.{reading_on, service_in}
-use Rattle.tds_relay.specs.declared.desk.coming.Heard.{Heard}
+use Rattle.tds_relay.specs.declared.pool.coming.Heard.{Heard}
 use Rattle.tds_relay.specs.declared.link.Link.{Link}
 use Rattle.tds_relay.specs.Cutting.{ends_in}
 use Rattle.tds_relay.specs.Fronts.{Moved, MovedOn}
-use Rattle.tds_relay.specs.Hall.{Hall, Move, Moves}
+use Rattle.tds_relay.specs.Core.{Core, Move, Moves}
 use Rattle.tds_relay.specs.Handing.{Brings, Hears, fed}
-use Rattle.tds_relay.specs.House.{House, Step, Admits, CausesStep, Hands, Makes, MayAll, MayStep, Removes, Steps, Takes, Writes, after, after_all}
-use Rattle.tds_relay.specs.Posts.{Posts}
+use Rattle.tds_relay.specs.Machine.{Machine, Step, Admits, CausesStep, Hands, Makes, MayAll, MayStep, Removes, Steps, Takes, Writes, after, after_all}
+use Rattle.tds_relay.specs.Queues.{Queues}
 use Rattle.tds_relay.specs.Reads.{Comes, Opens, Reads, ReadsBy, Stays, StaysAt, Streams, StreamsAll, if_heard, open_at, packets_of, reader_at}
 use Rattle.tds_relay.specs.Ties.{Connection, part_on}
-use Rattle.tds_relay.specs.Walkers.{AllStand, ReadsOn, Walks}
+use Rattle.tds_relay.specs.TokenParsers.{AllStand, ReadsOn, Walks}
 use Rattle.tds_relay.proofs.bytes.Rereading.{walks_both, walks_hands, walks_makes, walks_none, walks_on}
 use Rattle.tds_relay.proofs.steps.Fronts.{each_both, no_moves}
 use Rattle.tds_relay.proofs.steps.Handed.{may_hand}
@@ -34,7 +34,7 @@ packets_both (Makes move ∷ xs) ys = packets_both xs ys
 packets_both (Hands number header content part way manner ∷ xs) ys = ap (λ (zs : List (List ℕ)). (header_bytes header ++ content) ∷ zs) (packets_both xs ys)
 packets_both (Takes key bytes ∷ xs) ys = packets_both xs ys
 packets_both (Writes key count ∷ xs) ys = packets_both xs ys
-packets_both (Admits key ends posts ∷ xs) ys = packets_both xs ys
+packets_both (Admits key ends queues ∷ xs) ys = packets_both xs ys
 packets_both (Removes key gives way ∷ xs) ys = packets_both xs ys
 
 pub no_packets : (moves : List Move) → packets_of (makes_all moves) ≡ []
@@ -47,42 +47,42 @@ pub begins_by : (had : Option packets.Reading) → ReadsBy had [] [] had
 begins_by None = (refl, refl)
 begins_by (Some r) = λ few. reads_nothing r few
 
-abbrev pub streams_begin : (number : ℕ) (had : Option packets.Reading) (h : House) (s : Service) (bytes : List ℕ) → Streams number had h s bytes bytes had h s
+abbrev pub streams_begin : (number : ℕ) (had : Option packets.Reading) (h : Machine) (s : Service) (bytes : List ℕ) → Streams number had h s bytes bytes had h s
 streams_begin number had h s bytes = record { steps = []; heard = []; are = refl; may = tt; caused = tt; bytes_are = refl; reads = begins_by had; walks = walks_none s h }
 
-pub streams_left : (number : ℕ) (had now : Option packets.Reading) (old h : House) (from to : Service) (bytes left rest : List ℕ) → rest ≡ left → Streams number had old from bytes left now h to → Streams number had old from bytes rest now h to
+pub streams_left : (number : ℕ) (had now : Option packets.Reading) (old h : Machine) (from to : Service) (bytes left rest : List ℕ) → rest ≡ left → Streams number had old from bytes left now h to → Streams number had old from bytes rest now h to
 streams_left number had now old h from to bytes left rest is s = subst (λ (xs : List ℕ). Streams number had old from bytes xs now h to) (sym is) s
 
--- the hall moves on, and nothing more comes of the connection
-abbrev pub streams_go : (number : ℕ) (had now next : Option packets.Reading) (old : House) (from at to : Service) (h h1 : Hall) (ps ps1 : Posts) (bytes left : List ℕ)
-    → Moves (Connection number) h h1 → ps1 ≡ ps → StaysAt now next → AllStand at to → Streams number had old from bytes left now (record { hall = h; posts = ps }) at → Streams number had old from bytes left next (record { hall = h1; posts = ps1 }) to
+-- the core moves on, and nothing more comes of the connection
+abbrev pub streams_go : (number : ℕ) (had now next : Option packets.Reading) (old : Machine) (from at to : Service) (h h1 : Core) (ps ps1 : Queues) (bytes left : List ℕ)
+    → Moves (Connection number) h h1 → ps1 ≡ ps → StaysAt now next → AllStand at to → Streams number had old from bytes left now (record { core = h; queues = ps }) at → Streams number had old from bytes left next (record { core = h1; queues = ps1 }) to
 streams_go number had now next old from at to h h1 ps ps1 bytes left m kept stays stand s =
     let more : List Step = makes_all m.moves in
-    let mid : House = record { hall = h; posts = ps } in
+    let mid : Machine = record { core = h; queues = ps } in
     let same : packets_of s.steps ≡ packets_of (s.steps ++ more) =
     sym (append-nil (packets_of s.steps)) ∙ ap (λ (xs : List (List ℕ)). packets_of s.steps ++ xs) (sym (no_packets m.moves)) ∙ sym (packets_both s.steps more) in
     record {
       steps = s.steps ++ more;
       heard = s.heard;
       are =
-          after_both old s.steps more ∙ ap (λ (x : House). after_all x more) s.are ∙ after_makes mid m.moves
-          ∙ ap (λ (x : Hall). record { hall = x; posts = ps }) m.are
-          ∙ ap (λ (xs : Posts). record { hall = h1; posts = xs }) (sym kept);
-      may = may_both old s.steps more s.may (subst (λ (x : House). MayAll x more) (sym s.are) (may_makes mid m.moves m.may m.quiet));
+          after_both old s.steps more ∙ ap (λ (x : Machine). after_all x more) s.are ∙ after_makes mid m.moves
+          ∙ ap (λ (x : Core). record { core = x; queues = ps }) m.are
+          ∙ ap (λ (xs : Queues). record { core = h1; queues = xs }) (sym kept);
+      may = may_both old s.steps more s.may (subst (λ (x : Machine). MayAll x more) (sym s.are) (may_makes mid m.moves m.may m.quiet));
       caused = each_both (CausesStep (Connection number)) s.steps more s.caused (caused_makes (Connection number) m.moves m.caused);
       bytes_are = s.bytes_are;
       reads = subst (λ (xs : List (List ℕ)). ReadsBy had s.heard xs next) same (reads_stays had s.heard (packets_of s.steps) now next stays s.reads);
       walks = walks_both from at to old s.steps more s.walks (walks_makes at to (after_all old s.steps) m.moves stand);
     }
 
-abbrev pub streams_moved : (number : ℕ) (had now next : Option packets.Reading) (old : House) (from at to : Service) (h h1 : Hall) (ps ps1 : Posts) (bytes left : List ℕ)
-    → Moved (Connection number) h h1 → ps1 ≡ ps → StaysAt now next → AllStand at to → Streams number had old from bytes left now (record { hall = h; posts = ps }) at
-    → Streams number had old from bytes left next (record { hall = h1; posts = ps1 }) to
+abbrev pub streams_moved : (number : ℕ) (had now next : Option packets.Reading) (old : Machine) (from at to : Service) (h h1 : Core) (ps ps1 : Queues) (bytes left : List ℕ)
+    → Moved (Connection number) h h1 → ps1 ≡ ps → StaysAt now next → AllStand at to → Streams number had old from bytes left now (record { core = h; queues = ps }) at
+    → Streams number had old from bytes left next (record { core = h1; queues = ps1 }) to
 streams_moved number had now next old from at to h h1 ps ps1 bytes left m kept stays stand s =
     streams_go number had now next old from at to h h1 ps ps1 bytes left (m h (no_moves (Connection number) h)) kept stays stand s
 
 -- steps of a call
-pub streams_steps : (number : ℕ) (had now : Option packets.Reading) (old new : House) (from to : Service) (bytes left : List ℕ) → Streams number had old from bytes left now new to → Steps (Connection number) old new
+pub streams_steps : (number : ℕ) (had now : Option packets.Reading) (old new : Machine) (from to : Service) (bytes left : List ℕ) → Streams number had old from bytes left now new to → Steps (Connection number) old new
 streams_steps number had now old new from to bytes left s = record { steps = s.steps; are = s.are; may = s.may; caused = s.caused }
 
 -- bytes that were heard, and the others
@@ -91,7 +91,7 @@ heard_more bytes heard left count e =
     e ∙ ap (λ (xs : List ℕ). heard ++ xs) (sym (take-append-drop count left)) ∙ sym (append_assoc heard (take count left) (drop count left))
 
 -- nobody hears them, for the connection isn't there; or it will be so
-abbrev pub streams_unheard : (number : ℕ) (had now : Option packets.Reading) (old f g : House) (from at to : Service) (bytes left : List ℕ) (count : ℕ) → g ≡ f → AllStand at to
+abbrev pub streams_unheard : (number : ℕ) (had now : Option packets.Reading) (old f g : Machine) (from at to : Service) (bytes left : List ℕ) (count : ℕ) → g ≡ f → AllStand at to
     → Streams number had old from bytes left now f at → Streams number had old from bytes (drop count left) None g to
 streams_unheard number had now old f g from at to bytes left count same stand s = record {
   steps = s.steps;
@@ -115,8 +115,8 @@ packet_by None now r next bytes more ps s is whole fed = absurd (let none = s.1 
 packet_by (Some h) now r next bytes more ps s is whole fed = λ begins. reads_packet h r next bytes more ps (subst (λ (o : Option packets.Reading). Reads h bytes ps o) is (s begins)) whole fed
 
 -- what they are with what was there
-abbrev pub streams_brought : (number : ℕ) (had now : Option packets.Reading) (link next : Link) (old f g : House) (from at to : Service) (bytes left : List ℕ) (count : ℕ) (heard : Heard)
-    → now ≡ Some link.reader → f.hall.desk.service ≡ service_in at → Hears number (reading_on number at) link next left count heard f g → ReadsOn number (fed link.reader left) at to
+abbrev pub streams_brought : (number : ℕ) (had now : Option packets.Reading) (link next : Link) (old f g : Machine) (from at to : Service) (bytes left : List ℕ) (count : ℕ) (heard : Heard)
+    → now ≡ Some link.reader → f.core.pool.service ≡ service_in at → Hears number (reading_on number at) link next left count heard f g → ReadsOn number (fed link.reader left) at to
     → Brings number (reading_on number at) link.answer next.answer (fed link.reader left) heard f g → Streams number had old from bytes left now f at → Streams number had old from bytes (drop count left) (Some next.reader) g to
 streams_brought number had now link next old f g from at to bytes left count heard is its hears reads (inl none) s =
     let more : List ℕ = take count left in
@@ -133,27 +133,27 @@ streams_brought number had now link next old f g from at to bytes left count hea
       walks = walks_on from at to old s.steps s.walks (reads.none none.0);
     }
 streams_brought number had now link next old f g from at to bytes left count heard is its hears reads (inr p) s =
-    let walker = reading_on number at in
+    let parser = reading_on number at in
     let more : List ℕ = take count left in
     let r : packets.Reading = fed link.reader left in
     let same : r ≡ with_taken link.reader (link.reader.taken ++ more) = ap (λ (xs : List ℕ). with_taken link.reader xs) hears.taken in
-    let step : Step = Hands number p.header p.content (part_on walker p.content (ends_in p.header)) p.way p.manner in
+    let step : Step = Hands number p.header p.content (part_on parser p.content (ends_in p.header)) p.way p.manner in
     let packet : header_bytes p.header ++ p.content ≡ link.reader.taken ++ more = sym p.packet.laid_out.spelled ∙ hears.taken in
     let all : packets_of s.steps ++ (link.reader.taken ++ more) ∷ [] ≡ packets_of (s.steps ++ step ∷ []) =
     ap (λ (xs : List ℕ). packets_of s.steps ++ xs ∷ []) (sym packet) ∙ sym (packets_both s.steps (step ∷ [])) in
     let whole : IsWhole r = (p.header, p.content, p.packet) in
-    let may : MayStep f step = may_hand number walker link.answer next.answer r heard f g p in
+    let may : MayStep f step = may_hand number parser link.answer next.answer r heard f g p in
     record {
       steps = s.steps ++ step ∷ [];
       heard = s.heard ++ more;
-      are = after_both old s.steps (step ∷ []) ∙ ap (λ (h : House). after h step) s.are ∙ sym p.is;
-      may = may_both old s.steps (step ∷ []) s.may (subst (λ (h : House). MayAll h (step ∷ [])) (sym s.are) (may, tt));
+      are = after_both old s.steps (step ∷ []) ∙ ap (λ (h : Machine). after h step) s.are ∙ sym p.is;
+      may = may_both old s.steps (step ∷ []) s.may (subst (λ (h : Machine). MayAll h (step ∷ [])) (sym s.are) (may, tt));
       caused = each_both (CausesStep (Connection number)) s.steps (step ∷ []) s.caused ((refl, tt), tt);
       bytes_are = heard_more bytes s.heard left count s.bytes_are;
       reads = subst (λ (ps : List (List ℕ)). ReadsBy had (s.heard ++ more) ps (Some next.reader)) all
           (packet_by had now link.reader next.reader s.heard more (packets_of s.steps) s.reads is (subst (λ (x : packets.Reading). IsWhole x) same whole) (hears.done.whole whole));
       walks = walks_both from at to old s.steps (step ∷ []) s.walks
-          (subst (λ (h : House). Walks at h (step ∷ []) to) (sym s.are)
+          (subst (λ (h : Machine). Walks at h (step ∷ []) to) (sym s.are)
           (walks_hands number p.header p.content p.way p.manner at to f its (reads.one p.header p.content p.packet)));
     }
 
@@ -164,11 +164,11 @@ heard_stays number None ls ms stays gone = subst (λ (o : Option packets.Reading
 heard_stays number (Some heard) ls ms stays gone = (stays_opens ls ms stays).opens number
 
 -- and then those who wait are served
-pub comes : {A E : Type 0} (r : Result A E) (number : ℕ) (had : Option packets.Reading) (old : House) (from at to : Service) (h h1 : Hall) (ps ps1 : Posts) (bytes : List ℕ) (ls ms : List Link)
-    → StreamsAll number had old from bytes (open_at number ls) (record { hall = h; posts = ps }) at → OnOk r (MovedOn h h1) → OnOk r (ps1 ≡ ps) → OnOk r (Opens ls ms) → OnOk r (AllStand at to)
-    → OnOk r (Comes number had old from bytes (open_at number ms) (record { hall = h1; posts = ps1 }) to)
+pub comes : {A E : Type 0} (r : Result A E) (number : ℕ) (had : Option packets.Reading) (old : Machine) (from at to : Service) (h h1 : Core) (ps ps1 : Queues) (bytes : List ℕ) (ls ms : List Link)
+    → StreamsAll number had old from bytes (open_at number ls) (record { core = h; queues = ps }) at → OnOk r (MovedOn h h1) → OnOk r (ps1 ≡ ps) → OnOk r (Opens ls ms) → OnOk r (AllStand at to)
+    → OnOk r (Comes number had old from bytes (open_at number ms) (record { core = h1; queues = ps1 }) to)
 comes (Ok x) number had old from at to h h1 ps ps1 bytes ls ms s on kept opens stand = record {
-  mid = record { hall = h; posts = ps };
+  mid = record { core = h; queues = ps };
   left = open_at number ls;
   at = at;
   streams = s;

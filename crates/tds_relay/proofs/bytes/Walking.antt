@@ -1,4 +1,4 @@
--- Walkers stand where they stood, behind any call of the service that reads nothing.
+-- TokenParsers stand where they stood, behind any call of the service that reads nothing.
 use Rattle.std.proofs.Common.{◌≡◌, ◌≢◌, ◌∙◌, ◌==◌, ◌≤◌, ℕ, suc, Bool, true, false, List, [], ◌∷◌, ◌++◌, length, inl, inr, refl, sym, ap, subst, arith}
 use Rattle.std.specs.Prelude.{◌⊎◌, Option, Some, None, nat_lt, if◌then◌else◌}
 use Rattle.std.proofs.lemmas.Bool.Decides.{nat_tests}
@@ -20,7 +20,7 @@ use Rattle.tds_service.specs.Service.{Service, Call, Reply, Step, Place, Leased,
 use Rattle.tds_service.specs.Table.{Keeps, KeepsOthers, StepsIn, reading_by, reading_on, seat_in, seats_in, service_in}
 use Rattle.tds_service.proofs.Numbered.{added_other, same_number}
 use Rattle.tds_service.proofs.Tests.{below}
-use Rattle.tds_relay.specs.Walkers.{AllStand, IsLed, IsUnread, StandsAt, There, Unread}
+use Rattle.tds_relay.specs.TokenParsers.{AllStand, IsLed, IsUnread, StandsAt, There, Unread}
 use Rattle.tds_relay.proofs.promises.Seats.{each_found, found_meets, none_changed}
 use Rattle.tds_relay.proofs.promises.Tidy.{Tidy, UpTo, all_rise}
 
@@ -163,9 +163,9 @@ step_leaves n s call low =
 last_stays : (s : Service) (call : Call Token) → (Opens call → ⊥) → (step s call).service.last ≡ s.last
 last_stays s call never = step_so s (λ t. t.last ≡ s.last) refl (λ given test place l. refl) call (λ o. absurd (never o))
 
--- ---- Where walkers stand
+-- ---- Where parsers stand
 
-none_seat_by : (test : Seat → Bool) (c : seats.Seat) (cs : List seats.Seat) (b : Bool) → test (seat_in c) ≡ b → (if b then Some c.connection.walker else reading_by test cs) ≡ None
+none_seat_by : (test : Seat → Bool) (c : seats.Seat) (cs : List seats.Seat) (b : Bool) → test (seat_in c) ≡ b → (if b then Some c.connection.parser else reading_by test cs) ≡ None
     → (reading_by test cs ≡ None → find_by test (seats_in cs) ≡ None) → find_by test (seats_in (c ∷ cs)) ≡ None
 none_seat_by test c cs true e h ih = absurd (let u : ⊥ = cc in u)
 none_seat_by test c cs false e h ih = rw e (ih h)

@@ -12,15 +12,15 @@ use Rattle.tds_wire.specs.declared.told.Token.{Token}
 use Rattle.tds_service.specs.History.{Done}
 use Rattle.tds_service.specs.Line as line
 use Rattle.tds_service.specs.Line.{Answer, Packet}
-use Rattle.tds_relay.specs.declared.desk.coming.What.{What}
-use Rattle.tds_relay.specs.declared.desk.coming.What.TheVariants as whats
+use Rattle.tds_relay.specs.declared.pool.coming.What.{What}
+use Rattle.tds_relay.specs.declared.pool.coming.What.TheVariants as whats
 use Rattle.tds_relay.specs.declared.fault.Broken.{Broken}
-use Rattle.tds_relay.specs.Desk as desk
-use Rattle.tds_relay.specs.Desk.{Desk, Event, last_broken, broken_of, fault_among, fault_on, turn, whose}
+use Rattle.tds_relay.specs.Pool as pool
+use Rattle.tds_relay.specs.Pool.{Pool, Event, last_broken, broken_of, fault_among, fault_on, turn, whose}
 use Rattle.tds_relay.specs.Faults.{AnswersFault, AreWrong, BreaksBy, BreaksOn, IsMet, IsMetOn, why_at, why_of}
-use Rattle.tds_relay.specs.Hall as hall
-use Rattle.tds_relay.specs.Hall.{End, Open, Over, Hall, HasEntered, IsQuiet, MayDoAlone, MayMove, Move, closes, done_by, end_at, end_behind, event_if, feeds, goes_on, holder, lets_go, moved, sent_by, stops_of, told, what_in}
-use Rattle.tds_relay.specs.House.{House, Step, Makes, Hands, Takes, Writes, Admits, Removes, MayAll, MayStep, after}
+use Rattle.tds_relay.specs.Core as core
+use Rattle.tds_relay.specs.Core.{End, Open, Over, Core, HasEntered, IsQuiet, MayDoAlone, MayMove, Move, closes, done_by, end_at, end_behind, event_if, feeds, goes_on, holder, lets_go, moved, sent_by, stops_of, told, what_in}
+use Rattle.tds_relay.specs.Machine.{Machine, Step, Makes, Hands, Takes, Writes, Admits, Removes, MayAll, MayStep, after}
 use Rattle.tds_relay.proofs.ends.Ending.{end_behind_is, end_by, whose_by}
 use Rattle.tds_relay.proofs.ends.Modes.{IsNoPacket, broken_as, broken_behind}
 
@@ -65,17 +65,17 @@ whose_keeps : (by : End → End) → Keeps by → (key : ℕ) (who : Option ℕ)
 whose_keeps by keeps key None o = refl
 whose_keeps by keeps key (Some other) o = if_keeps by keeps (other == key) o
 
-quiet_why : (key : ℕ) (h : Hall) (move : Move) → IsQuiet move → (o : Option End) → why_of (end_by key h move o) ≡ why_of o
-quiet_why key h (hall.Does event) quiet o = refl
-quiet_why key h (hall.Sends k deed) quiet o = if_keeps (goes_on (sent_by h.desk (desk.Does k deed))) (goes_keeps (sent_by h.desk (desk.Does k deed))) (k == key) o
-quiet_why key h (hall.LetsGo k parks gives way) quiet o = if_keeps lets_go lets_keeps (k == key) o
-quiet_why key h (hall.Loses number) quiet o = whose_keeps closes closes_keeps key (holder h.desk number) o
-quiet_why key h (hall.Replaces number) quiet o = whose_keeps lets_go lets_keeps key (holder h.desk number) o
-quiet_why key h (hall.Comes number part way) quiet o = absurd quiet
-quiet_why key h (hall.Feeds k bytes) quiet o = absurd quiet
-quiet_why key h (hall.Closes k) quiet o = if_keeps closes closes_keeps (k == key) o
-quiet_why key h (hall.Enters k ends) quiet o = absurd quiet
-quiet_why key h (hall.Quits k gives way) quiet o = absurd quiet
+quiet_why : (key : ℕ) (h : Core) (move : Move) → IsQuiet move → (o : Option End) → why_of (end_by key h move o) ≡ why_of o
+quiet_why key h (core.Does event) quiet o = refl
+quiet_why key h (core.Sends k action) quiet o = if_keeps (goes_on (sent_by h.pool (pool.Does k action))) (goes_keeps (sent_by h.pool (pool.Does k action))) (k == key) o
+quiet_why key h (core.LetsGo k parks gives way) quiet o = if_keeps lets_go lets_keeps (k == key) o
+quiet_why key h (core.Loses number) quiet o = whose_keeps closes closes_keeps key (holder h.pool number) o
+quiet_why key h (core.Replaces number) quiet o = whose_keeps lets_go lets_keeps key (holder h.pool number) o
+quiet_why key h (core.Comes number part way) quiet o = absurd quiet
+quiet_why key h (core.Feeds k bytes) quiet o = absurd quiet
+quiet_why key h (core.Closes k) quiet o = if_keeps closes closes_keeps (k == key) o
+quiet_why key h (core.Enters k ends) quiet o = absurd quiet
+quiet_why key h (core.Quits k gives way) quiet o = absurd quiet
 
 brings_why : (front : Front) (withdrawn : Bool) (asks : Option Reset) (fault : FrontFault) (brings : Result Fed FrontFault) → why_of (Some (end_behind front withdrawn asks brings)) ≡ Some fault → brings ≡ Err fault
 brings_why front withdrawn asks fault (Ok fed) e = absurd (let u : ⊥ = cc in u)
@@ -86,15 +86,15 @@ fed_why bytes fault None e = inl e
 fed_why bytes fault (Some (Open front withdrawn asks)) e = inr (brings_why (fed front bytes).front withdrawn asks fault (fed front bytes).brings e)
 fed_why bytes fault (Some (Over why)) e = inl e
 
-takes_why : (key k : ℕ) (b : Bool) (bytes : List ℕ) (fault : FrontFault) (h : House) → (k == key) ≡ b → why_of (if b then option_map (feeds bytes) (end_at h.hall.ends key) else end_at h.hall.ends key) ≡ Some fault
+takes_why : (key k : ℕ) (b : Bool) (bytes : List ℕ) (fault : FrontFault) (h : Machine) → (k == key) ≡ b → why_of (if b then option_map (feeds bytes) (end_at h.core.ends key) else end_at h.core.ends key) ≡ Some fault
     → (why_at key h ≡ Some fault) ⊎ BreaksBy key fault h (Takes k bytes)
-takes_why key k true bytes fault h is e = elim (fed_why bytes fault (end_at h.hall.ends key) e) [
+takes_why key k true bytes fault h is e = elim (fed_why bytes fault (end_at h.core.ends key) e) [
   | inl same ↦ inl same
   | inr wrong ↦ inr (eqb-true k key is, wrong)
 ]
 takes_why key k false bytes fault h is e = inl e
 
-enters_why : (key k : ℕ) (fault : FrontFault) (h : House) (ends : hall.Ends) → (key ≡ k) ⊎ (key ≢ k) → HasEntered k h.hall.ends ends → why_of (end_at ends key) ≡ Some fault → why_at key h ≡ Some fault
+enters_why : (key k : ℕ) (fault : FrontFault) (h : Machine) (ends : core.Ends) → (key ≡ k) ⊎ (key ≢ k) → HasEntered k h.core.ends ends → why_of (end_at ends key) ≡ Some fault → why_at key h ≡ Some fault
 enters_why key k fault h ends (inl same) entered e =
     absurd (let none : why_of (end_at ends key) ≡ None = ap (λ (x : ℕ). why_of (end_at ends x)) same ∙ ap why_of entered.begins in let u : Some fault ≡ None = sym e ∙ none in let v : ⊥ = cc in v)
 enters_why key k fault h ends (inr differs) entered e = ap why_of (sym (entered.others_stay key differs)) ∙ e
@@ -104,23 +104,23 @@ quits_why true fault o e = absurd (let u : ⊥ = cc in u)
 quits_why false fault o e = e
 
 -- where its end is that behind a move
-abbrev Behind : ℕ → House → Move → Option End
-Behind key h move = end_by key h.hall move (end_at h.hall.ends key)
+abbrev Behind : ℕ → Machine → Move → Option End
+Behind key h move = end_by key h.core move (end_at h.core.ends key)
 
-behind_why : (key : ℕ) (fault : FrontFault) (h : House) (move : Move) → why_of (end_at (moved h.hall move).ends key) ≡ Some fault → why_of (Behind key h move) ≡ Some fault
-behind_why key fault h move e = sym (ap why_of (end_behind_is key h.hall move)) ∙ e
+behind_why : (key : ℕ) (fault : FrontFault) (h : Machine) (move : Move) → why_of (end_at (moved h.core move).ends key) ≡ Some fault → why_of (Behind key h move) ≡ Some fault
+behind_why key fault h move e = sym (ap why_of (end_behind_is key h.core move)) ∙ e
 
-one_why : (key : ℕ) (fault : FrontFault) (h : House) (step : Step) → MayStep h step → why_at key (after h step) ≡ Some fault → (why_at key h ≡ Some fault) ⊎ BreaksBy key fault h step
-one_why key fault h (Makes move) may e = inl (sym (quiet_why key h.hall move may.1 (end_at h.hall.ends key)) ∙ behind_why key fault h move e)
+one_why : (key : ℕ) (fault : FrontFault) (h : Machine) (step : Step) → MayStep h step → why_at key (after h step) ≡ Some fault → (why_at key h ≡ Some fault) ⊎ BreaksBy key fault h step
+one_why key fault h (Makes move) may e = inl (sym (quiet_why key h.core move may.1 (end_at h.core.ends key)) ∙ behind_why key fault h move e)
 one_why key fault h (Hands number header content part way manner) may e =
-    let what = what_in (done_by h.hall.desk number part) in
-    inl (sym (whose_keeps (told what) (told_keeps what) key (whose h.hall.desk number) (end_at h.hall.ends key)) ∙ behind_why key fault h (hall.Comes number part way) e)
-one_why key fault h (Takes k bytes) may e = takes_why key k (k == key) bytes fault h refl (behind_why key fault h (hall.Feeds k bytes) e)
+    let what = what_in (done_by h.core.pool number part) in
+    inl (sym (whose_keeps (told what) (told_keeps what) key (whose h.core.pool number) (end_at h.core.ends key)) ∙ behind_why key fault h (core.Comes number part way) e)
+one_why key fault h (Takes k bytes) may e = takes_why key k (k == key) bytes fault h refl (behind_why key fault h (core.Feeds k bytes) e)
 one_why key fault h (Writes k count) may e = inl e
-one_why key fault h (Admits k ends posts) may e = inl (enters_why key k fault h ends (cases_eq key k) may.0 e)
-one_why key fault h (Removes k gives way) may e = inl (quits_why (k == key) fault (end_at h.hall.ends key) (behind_why key fault h (hall.Quits k gives way) e))
+one_why key fault h (Admits k ends queues) may e = inl (enters_why key k fault h ends (cases_eq key k) may.0 e)
+one_why key fault h (Removes k gives way) may e = inl (quits_why (k == key) fault (end_at h.core.ends key) (behind_why key fault h (core.Quits k gives way) e))
 
-pub is_met : (key : ℕ) (fault : FrontFault) (h : House) (steps : List Step) → MayAll h steps → IsMet key fault h steps
+pub is_met : (key : ℕ) (fault : FrontFault) (h : Machine) (steps : List Step) → MayAll h steps → IsMet key fault h steps
 is_met key fault h [] may = λ e. inl e
 is_met key fault h (step ∷ steps) may = λ e.
     elim (is_met key fault (after h step) steps may.1 e) [
@@ -162,43 +162,43 @@ dones_met : (n number : ℕ) (fault : ListenFault) (dones : List (Done Token)) (
 dones_met n number fault [] had e = inl e
 dones_met n number fault (done ∷ dones) had e = answer_met n number fault done.answer had e
 
-alone_no_packet : (h : Hall) (event : Event) → MayDoAlone h event → IsNoPacket event
-alone_no_packet h (desk.Waits key) may = tt
-alone_no_packet h (desk.Unwaits key) may = tt
-alone_no_packet h desk.Serves may = tt
-alone_no_packet h (desk.Brings gives way) may = tt
-alone_no_packet h (desk.Does key deed) may = tt
-alone_no_packet h (desk.Leaves key gives way) may = tt
-alone_no_packet h (desk.Renews key resumes) may = tt
-alone_no_packet h (desk.Comes number part way) may = may
-alone_no_packet h (desk.Loses number) may = tt
+alone_no_packet : (h : Core) (event : Event) → MayDoAlone h event → IsNoPacket event
+alone_no_packet h (pool.Waits key) may = tt
+alone_no_packet h (pool.Unwaits key) may = tt
+alone_no_packet h pool.Serves may = tt
+alone_no_packet h (pool.Brings gives way) may = tt
+alone_no_packet h (pool.Does key action) may = tt
+alone_no_packet h (pool.Leaves key gives way) may = tt
+alone_no_packet h (pool.Renews key resumes) may = tt
+alone_no_packet h (pool.Comes number part way) may = may
+alone_no_packet h (pool.Loses number) may = tt
 
-quiet_on : (h : Hall) (move : Move) → MayMove h move → IsQuiet move → (moved h move).desk.broken ≡ h.desk.broken
-quiet_on h (hall.Does event) may quiet = broken_as h.desk event (alone_no_packet h event may)
-quiet_on h (hall.Sends k deed) may quiet = broken_as h.desk (desk.Does k deed) tt
-quiet_on h (hall.LetsGo k parks gives way) may quiet = broken_as h.desk (desk.Leaves k gives way) tt
-quiet_on h (hall.Loses number) may quiet = broken_as h.desk (desk.Loses number) tt
-quiet_on h (hall.Replaces number) may quiet = broken_as h.desk (desk.Loses number) tt
-quiet_on h (hall.Comes number part way) may quiet = absurd quiet
-quiet_on h (hall.Feeds k bytes) may quiet = absurd quiet
-quiet_on h (hall.Closes k) may quiet = refl
-quiet_on h (hall.Enters k ends) may quiet = absurd quiet
-quiet_on h (hall.Quits k gives way) may quiet = absurd quiet
+quiet_on : (h : Core) (move : Move) → MayMove h move → IsQuiet move → (moved h move).pool.broken ≡ h.pool.broken
+quiet_on h (core.Does event) may quiet = broken_as h.pool event (alone_no_packet h event may)
+quiet_on h (core.Sends k action) may quiet = broken_as h.pool (pool.Does k action) tt
+quiet_on h (core.LetsGo k parks gives way) may quiet = broken_as h.pool (pool.Leaves k gives way) tt
+quiet_on h (core.Loses number) may quiet = broken_as h.pool (pool.Loses number) tt
+quiet_on h (core.Replaces number) may quiet = broken_as h.pool (pool.Loses number) tt
+quiet_on h (core.Comes number part way) may quiet = absurd quiet
+quiet_on h (core.Feeds k bytes) may quiet = absurd quiet
+quiet_on h (core.Closes k) may quiet = refl
+quiet_on h (core.Enters k ends) may quiet = absurd quiet
+quiet_on h (core.Quits k gives way) may quiet = absurd quiet
 
-stops_on : (d : Desk) (key : ℕ) (b : Bool) → (desk.desk_after d (event_if b (desk.Does key desk.Stops))).broken ≡ d.broken
-stops_on d key true = broken_as d (desk.Does key desk.Stops) tt
+stops_on : (d : Pool) (key : ℕ) (b : Bool) → (pool.pool_after d (event_if b (pool.Does key pool.Stops))).broken ≡ d.broken
+stops_on d key true = broken_as d (pool.Does key pool.Stops) tt
 stops_on d key false = refl
 
-one_on : (number : ℕ) (fault : ListenFault) (h : House) (step : Step) → MayStep h step → fault_on number (after h step).hall.desk ≡ Some fault → (fault_on number h.hall.desk ≡ Some fault) ⊎ BreaksOn number fault h step
-one_on number fault h (Makes move) may e = inl (ap (fault_among number) (sym (quiet_on h.hall move may.0 may.1)) ∙ e)
+one_on : (number : ℕ) (fault : ListenFault) (h : Machine) (step : Step) → MayStep h step → fault_on number (after h step).core.pool ≡ Some fault → (fault_on number h.core.pool ≡ Some fault) ⊎ BreaksOn number fault h step
+one_on number fault h (Makes move) may e = inl (ap (fault_among number) (sym (quiet_on h.core move may.0 may.1)) ∙ e)
 one_on number fault h (Hands n header content part way manner) may e =
-    dones_met n number fault (done_by h.hall.desk n part) h.hall.desk.broken (ap (fault_among number) (sym (broken_behind h.hall.desk n part way)) ∙ e)
-one_on number fault h (Takes k bytes) may e = inl (ap (fault_among number) (sym (stops_on h.hall.desk k (stops_of bytes (end_at h.hall.ends k)))) ∙ e)
+    dones_met n number fault (done_by h.core.pool n part) h.core.pool.broken (ap (fault_among number) (sym (broken_behind h.core.pool n part way)) ∙ e)
+one_on number fault h (Takes k bytes) may e = inl (ap (fault_among number) (sym (stops_on h.core.pool k (stops_of bytes (end_at h.core.ends k)))) ∙ e)
 one_on number fault h (Writes k count) may e = inl e
-one_on number fault h (Admits k ends posts) may e = inl e
-one_on number fault h (Removes k gives way) may e = inl (ap (fault_among number) (sym (broken_as h.hall.desk (desk.Leaves k gives way) tt)) ∙ e)
+one_on number fault h (Admits k ends queues) may e = inl e
+one_on number fault h (Removes k gives way) may e = inl (ap (fault_among number) (sym (broken_as h.core.pool (pool.Leaves k gives way) tt)) ∙ e)
 
-pub is_met_on : (number : ℕ) (fault : ListenFault) (h : House) (steps : List Step) → MayAll h steps → IsMetOn number fault h steps
+pub is_met_on : (number : ℕ) (fault : ListenFault) (h : Machine) (steps : List Step) → MayAll h steps → IsMetOn number fault h steps
 is_met_on number fault h [] may = λ e. inl e
 is_met_on number fault h (step ∷ steps) may = λ e.
     elim (is_met_on number fault (after h step) steps may.1 e) [

@@ -18,12 +18,12 @@ use Rattle.tds_service.specs.History.{Done, acts_of, history, line_after}
 use Rattle.tds_service.specs.Parts.{Part}
 use Rattle.tds_service.specs.Service as calls
 use Rattle.tds_service.specs.Service.{Service, Seat, Call, Step, lease_at, new_service, on, on_one, seat_numbered, service_after, step, steps}
-use Rattle.tds_relay.specs.Desk as desk
-use Rattle.tds_relay.specs.Desk.{Deed, Desk, Event, Hearing, Sharing, Turn, Way, desk_after, new_desk, turn, whose}
+use Rattle.tds_relay.specs.Pool as pool
+use Rattle.tds_relay.specs.Pool.{Action, Pool, Event, Hearing, Sharing, Turn, Way, pool_after, new_pool, turn, whose}
 use Rattle.tds_relay.specs.Behind.{AllAnswerOnce, Stays, StaysIn, brought, events_along, gone_on, if_open, passed, passes, said_in, unless_withdrawn}
 use Rattle.tds_relay.specs.Fronting.{AnswersOnce, calls_along, done_on}
-use Rattle.tds_relay.specs.Hall.{End, Open, Over, Ends, Hall, IsPut, MayDo, MayMove, MayMoveAll, Move, done_by, end_at, event_if, events_of, holder, moved, moved_all, new_hall, sent_by, stops_of, told, what_in, what_of, goes_on, closes, lets_go, feeds}
-use Rattle.tds_relay.specs.Hall as hall
+use Rattle.tds_relay.specs.Core.{End, Open, Over, Ends, Core, IsPut, MayDo, MayMove, MayMoveAll, Move, done_by, end_at, event_if, events_of, holder, moved, moved_all, new_core, sent_by, stops_of, told, what_in, what_of, goes_on, closes, lets_go, feeds}
+use Rattle.tds_relay.specs.Core as core
 use Rattle.tds_relay.proofs.promises.Bringing.{always_sound}
 use Rattle.tds_relay.proofs.steps.Calling.{service_along}
 use Rattle.tds_relay.proofs.promises.Caring.{Sound}
@@ -40,19 +40,19 @@ use Rattle.tds_relay.proofs.ends.Moving.{Judges, LeavesBy, left_of}
 
 -- ---- Events and calls, one behind the other
 
-pub desk_both : (d : Desk) (xs ys : List Event) → desk_after d (xs ++ ys) ≡ desk_after (desk_after d xs) ys
-desk_both d [] ys = refl
-desk_both d (x ∷ xs) ys = desk_both (turn d x).desk xs ys
+pub pool_both : (d : Pool) (xs ys : List Event) → pool_after d (xs ++ ys) ≡ pool_after (pool_after d xs) ys
+pool_both d [] ys = refl
+pool_both d (x ∷ xs) ys = pool_both (turn d x).pool xs ys
 
 pub append_more : {X : Type 0} (xs ys zs : List X) → (xs ++ ys) ++ zs ≡ xs ++ (ys ++ zs)
 append_more [] ys zs = refl
 append_more {X} (x ∷ xs) ys zs = ap (λ (vs : List X). x ∷ vs) (append_more xs ys zs)
 
-calls_both : (d : Desk) (xs ys : List Event) → calls_along d (xs ++ ys) ≡ calls_along d xs ++ calls_along (desk_after d xs) ys
+calls_both : (d : Pool) (xs ys : List Event) → calls_along d (xs ++ ys) ≡ calls_along d xs ++ calls_along (pool_after d xs) ys
 calls_both d [] ys = refl
 calls_both d (x ∷ xs) ys =
-    ap (λ (all : List (Call Token)). (turn d x).calls ++ all) (calls_both (turn d x).desk xs ys)
-    ∙ sym (append_more (turn d x).calls (calls_along (turn d x).desk xs) (calls_along (desk_after (turn d x).desk xs) ys))
+    ap (λ (all : List (Call Token)). (turn d x).calls ++ all) (calls_both (turn d x).pool xs ys)
+    ∙ sym (append_more (turn d x).calls (calls_along (turn d x).pool xs) (calls_along (pool_after (turn d x).pool xs) ys))
 
 steps_both : (s : Service) (xs ys : List (Call Token)) → steps s (xs ++ ys) ≡ steps s xs ++ steps (service_after s xs) ys
 steps_both s [] ys = refl
@@ -66,13 +66,13 @@ on_both : (n : ℕ) (xs ys : List (Step Token)) → on n (xs ++ ys) ≡ on n xs 
 on_both n [] ys = refl
 on_both n (x ∷ xs) ys = ap (λ (ds : List (Done Token)). on_one (x.number == n) x.dones ds) (on_both n xs ys) ∙ one_both (x.number == n) x.dones (on n xs) (on n ys)
 
--- what is done on a connection by events of this desk
-abbrev pub done_from : ℕ → Desk → List Event → List (Done Token)
+-- what is done on a connection by events of this pool
+abbrev pub done_from : ℕ → Pool → List Event → List (Done Token)
 done_from n d events = on n (steps d.service (calls_along d events))
 
-pub done_both : (n : ℕ) (d : Desk) (xs ys : List Event) → done_from n d (xs ++ ys) ≡ done_from n d xs ++ done_from n (desk_after d xs) ys
+pub done_both : (n : ℕ) (d : Pool) (xs ys : List Event) → done_from n d (xs ++ ys) ≡ done_from n d xs ++ done_from n (pool_after d xs) ys
 done_both n d xs ys =
-    let zs = calls_along (desk_after d xs) ys in
+    let zs = calls_along (pool_after d xs) ys in
     ap (λ (all : List (Call Token)). on n (steps d.service all)) (calls_both d xs ys)
     ∙ ap (λ (all : List (Step Token)). on n all) (steps_both d.service (calls_along d xs) zs)
     ∙ on_both n (steps d.service (calls_along d xs)) (steps (service_after d.service (calls_along d xs)) zs)
@@ -91,68 +91,68 @@ abbrev pub ByHistory : Type 0
 ByHistory = (max n : ℕ) (all : List (Call Token)) (c : Seat) → seat_numbered n (service_after (new_service max) all).seats ≡ Some c
     → c.line ≡ line_after new_line (acts_of (on n (steps (new_service max) all)))
 
-pub known_at : Alone → ByHistory → (sharing : Sharing) (events : List Event) (n : ℕ) (c : Seat) → seat_numbered n (desk_after (new_desk sharing) events).service.seats ≡ Some c → out_of c.line.stage (outs_of sharing events n) ≡ outs_of sharing events n
+pub known_at : Alone → ByHistory → (sharing : Sharing) (events : List Event) (n : ℕ) (c : Seat) → seat_numbered n (pool_after (new_pool sharing) events).service.seats ≡ Some c → out_of c.line.stage (outs_of sharing events n) ≡ outs_of sharing events n
 known_at alone by sharing events n c there =
-    let all = calls_along (new_desk sharing) events in
+    let all = calls_along (new_pool sharing) events in
     let ds = done_on sharing n events in
     let same : ds ≡ history new_line (acts_of ds) = alone sharing.most n all in
-    let at : seat_numbered n (service_after (new_service sharing.most) all).seats ≡ Some c = ap (λ (s : Service). seat_numbered n s.seats) (sym (service_along (new_desk sharing) events)) ∙ there in
+    let at : seat_numbered n (service_after (new_service sharing.most) all).seats ≡ Some c = ap (λ (s : Service). seat_numbered n s.seats) (sym (service_along (new_pool sharing) events)) ∙ there in
     let l : c.line ≡ line_after new_line (acts_of ds) = by sharing.most n all c at in
     let P : Line → List (Done Token) → Type 0 = λ (x : Line) (xs : List (Done Token)). out_of x.stage (out_after false xs) ≡ out_after false xs in
     let one : P (line_after new_line (acts_of ds)) (history new_line (acts_of ds)) = tells_all new_line (acts_of ds) false refl in
     let two : P (line_after new_line (acts_of ds)) ds = subst (λ (xs : List (Done Token)). P (line_after new_line (acts_of ds)) xs) (sym same) one in
     subst (λ (x : Line). P x ds) (sym l) two
 
--- ---- A hall that moves led to
+-- ---- A core that moves led to
 
-all_sit : (d : Desk) (events : List Event) → Sound d → AllSit d → ((e : Desk) (event : Event) → Sound e → Sound (turn e event).desk) → AllSit (desk_after d events)
+all_sit : (d : Pool) (events : List Event) → Sound d → AllSit d → ((e : Pool) (event : Event) → Sound e → Sound (turn e event).pool) → AllSit (pool_after d events)
 all_sit d [] sound sit next = sit
-all_sit d (event ∷ events) sound sit next = all_sit (turn d event).desk events (next d event sound) (turn_sits d sound sit event) next
+all_sit d (event ∷ events) sound sit next = all_sit (turn d event).pool events (next d event sound) (turn_sits d sound sit event) next
 
-pub always_sits : (sharing : Sharing) (events : List Event) → AllSit (desk_after (new_desk sharing) events)
-always_sits sharing events = all_sit (new_desk sharing) events (always_sound sharing []) tt (λ e event sound. Rattle.tds_relay.proofs.promises.Bringing.turn_sound e event sound)
+pub always_sits : (sharing : Sharing) (events : List Event) → AllSit (pool_after (new_pool sharing) events)
+always_sits sharing events = all_sit (new_pool sharing) events (always_sound sharing []) tt (λ e event sound. Rattle.tds_relay.proofs.promises.Bringing.turn_sound e event sound)
 
-abbrev pub IsAt : Sharing → List Event → Hall → Type 0
-IsAt sharing events h = h.desk ≡ desk_after (new_desk sharing) events
+abbrev pub IsAt : Sharing → List Event → Core → Type 0
+IsAt sharing events h = h.pool ≡ pool_after (new_pool sharing) events
 
-pub sound_at : (sharing : Sharing) (events : List Event) (h : Hall) → IsAt sharing events h → Sound h.desk
+pub sound_at : (sharing : Sharing) (events : List Event) (h : Core) → IsAt sharing events h → Sound h.pool
 sound_at sharing events h is = subst Sound (sym is) (always_sound sharing events)
 
-pub sits_at : (sharing : Sharing) (events : List Event) (h : Hall) → IsAt sharing events h → AllSit h.desk
+pub sits_at : (sharing : Sharing) (events : List Event) (h : Core) → IsAt sharing events h → AllSit h.pool
 sits_at sharing events h is = subst AllSit (sym is) (always_sits sharing events)
 
-pub next_at : (sharing : Sharing) (events : List Event) (h : Hall) (move : Move) → IsAt sharing events h → IsAt sharing (events ++ events_of h move) (moved h move)
-next_at sharing events h move is = ap (λ (d : Desk). desk_after d (events_of h move)) is ∙ sym (desk_both (new_desk sharing) events (events_of h move))
+pub next_at : (sharing : Sharing) (events : List Event) (h : Core) (move : Move) → IsAt sharing events h → IsAt sharing (events ++ events_of h move) (moved h move)
+next_at sharing events h move is = ap (λ (d : Pool). pool_after d (events_of h move)) is ∙ sym (pool_both (new_pool sharing) events (events_of h move))
 
-pub done_at : (sharing : Sharing) (events : List Event) (h : Hall) (n : ℕ) (more : List Event) → IsAt sharing events h → done_on sharing n (events ++ more) ≡ done_on sharing n events ++ done_from n h.desk more
-done_at sharing events h n more is = done_both n (new_desk sharing) events more ∙ ap (λ (d : Desk). done_on sharing n events ++ done_from n d more) (sym is)
+pub done_at : (sharing : Sharing) (events : List Event) (h : Core) (n : ℕ) (more : List Event) → IsAt sharing events h → done_on sharing n (events ++ more) ≡ done_on sharing n events ++ done_from n h.pool more
+done_at sharing events h n more is = done_both n (new_pool sharing) events more ∙ ap (λ (d : Pool). done_on sharing n events ++ done_from n d more) (sym is)
 
-pub leaves_at : (sharing : Sharing) (events : List Event) (h : Hall) (move : Move) → IsAt sharing events h → (n : ℕ)
-    → outs_of sharing (events ++ events_of h move) n ≡ out_after (outs_of sharing events n) (on n (steps h.desk.service (calls_along h.desk (events_of h move))))
+pub leaves_at : (sharing : Sharing) (events : List Event) (h : Core) (move : Move) → IsAt sharing events h → (n : ℕ)
+    → outs_of sharing (events ++ events_of h move) n ≡ out_after (outs_of sharing events n) (on n (steps h.pool.service (calls_along h.pool (events_of h move))))
 leaves_at sharing events h move is n =
-    ap (out_after false) (done_at sharing events h n (events_of h move) is) ∙ out_both false (done_on sharing n events) (done_from n h.desk (events_of h move))
+    ap (out_after false) (done_at sharing events h n (events_of h move) is) ∙ out_both false (done_on sharing n events) (done_from n h.pool (events_of h move))
 
 -- ---- Moves, one behind the other
 
-pub moved_both : (h : Hall) (xs ys : List Move) → moved_all h (xs ++ ys) ≡ moved_all (moved_all h xs) ys
+pub moved_both : (h : Core) (xs ys : List Move) → moved_all h (xs ++ ys) ≡ moved_all (moved_all h xs) ys
 moved_both h [] ys = refl
 moved_both h (x ∷ xs) ys = moved_both (moved h x) xs ys
 
-pub may_both : (h : Hall) (xs ys : List Move) → MayMoveAll h xs → MayMoveAll (moved_all h xs) ys → MayMoveAll h (xs ++ ys)
+pub may_both : (h : Core) (xs ys : List Move) → MayMoveAll h xs → MayMoveAll (moved_all h xs) ys → MayMoveAll h (xs ++ ys)
 may_both h [] ys m n = n
 may_both h (x ∷ xs) ys m n = (m.0, may_both (moved h x) xs ys m.1 n)
 
-pub may_each : (h : Hall) (xs ys : List Move) → MayMoveAll h (xs ++ ys) → MayMoveAll h xs × MayMoveAll (moved_all h xs) ys
+pub may_each : (h : Core) (xs ys : List Move) → MayMoveAll h (xs ++ ys) → MayMoveAll h xs × MayMoveAll (moved_all h xs) ys
 may_each h [] ys may = (tt, may)
 may_each h (x ∷ xs) ys may = let more = may_each (moved h x) xs ys may.1 in ((may.0, more.0), more.1)
 
 -- ---- What is told of an application, behind moves
 
-next_place : (outs : ℕ → Bool) (d : Desk) (key : ℕ) (p : Place) (es : List Passed) (stage : Stage) (end : End) → Told outs d key stage p es end → (q : Place) × StoryOf outs d key q (Some end)
+next_place : (outs : ℕ → Bool) (d : Pool) (key : ℕ) (p : Place) (es : List Passed) (stage : Stage) (end : End) → Told outs d key stage p es end → (q : Place) × StoryOf outs d key q (Some end)
 next_place outs d key p es stage (Open front w asks) next = (next.place, next.standing)
 next_place outs d key p es stage (Over why) next = (p, next)
 
-pub step_story : (outs : ℕ → Bool) (d : Desk) (key : ℕ) (p : Place) (es : List Passed) (o o2 : Option End) → StepOf outs d key p es o o2 → (q : Place) × StoryOf outs d key q o2
+pub step_story : (outs : ℕ → Bool) (d : Pool) (key : ℕ) (p : Place) (es : List Passed) (o o2 : Option End) → StepOf outs d key p es o o2 → (q : Place) × StoryOf outs d key q o2
 step_story outs d key p es None None s = (p, s)
 step_story outs d key p es None (Some (Open front w asks)) s = (Ready, s.0)
 step_story outs d key p es None (Some (Over why)) s = absurd s
@@ -164,17 +164,17 @@ step_story outs d key p es (Some (Over was)) (Some (Over why)) s = (p, s)
 
 -- ---- What passes, by the end as it was
 
-pub passes_is : (key : ℕ) (h : Hall) (move : Move) → passes_by key h move (end_at h.ends key) ≡ passes key h move
-passes_is key h (hall.Does event) = refl
-passes_is key h (hall.Sends k deed) = refl
-passes_is key h (hall.LetsGo k parks gives way) = refl
-passes_is key h (hall.Loses n) = refl
-passes_is key h (hall.Replaces n) = refl
-passes_is key h (hall.Comes n part way) = refl
-passes_is key h (hall.Feeds k bytes) = refl
-passes_is key h (hall.Closes k) = refl
-passes_is key h (hall.Enters k ends) = refl
-passes_is key h (hall.Quits k gives way) = refl
+pub passes_is : (key : ℕ) (h : Core) (move : Move) → passes_by key h move (end_at h.ends key) ≡ passes key h move
+passes_is key h (core.Does event) = refl
+passes_is key h (core.Sends k action) = refl
+passes_is key h (core.LetsGo k parks gives way) = refl
+passes_is key h (core.Loses n) = refl
+passes_is key h (core.Replaces n) = refl
+passes_is key h (core.Comes n part way) = refl
+passes_is key h (core.Feeds k bytes) = refl
+passes_is key h (core.Closes k) = refl
+passes_is key h (core.Enters k ends) = refl
+passes_is key h (core.Quits k gives way) = refl
 
 -- ---- One that is over, or stays
 
@@ -186,27 +186,27 @@ whose_nothing : (key : ℕ) (who : Option ℕ) → Rattle.tds_relay.specs.Behind
 whose_nothing key None = refl
 whose_nothing key (Some k) = if_nothing (k == key)
 
-over_passes : (why : Option FrontFault) (key : ℕ) (h : Hall) (move : Move) → passes_by key h move (Some (Over why)) ≡ []
-over_passes why key h (hall.Does event) = refl
-over_passes why key h (hall.Sends k deed) = if_nothing (k == key)
-over_passes why key h (hall.LetsGo k parks gives way) = refl
-over_passes why key h (hall.Loses n) = refl
-over_passes why key h (hall.Replaces n) = refl
-over_passes why key h (hall.Comes n part way) = whose_nothing key (whose h.desk n)
-over_passes why key h (hall.Feeds k bytes) = if_nothing (k == key)
-over_passes why key h (hall.Closes k) = refl
-over_passes why key h (hall.Enters k ends) = refl
-over_passes why key h (hall.Quits k gives way) = refl
+over_passes : (why : Option FrontFault) (key : ℕ) (h : Core) (move : Move) → passes_by key h move (Some (Over why)) ≡ []
+over_passes why key h (core.Does event) = refl
+over_passes why key h (core.Sends k action) = if_nothing (k == key)
+over_passes why key h (core.LetsGo k parks gives way) = refl
+over_passes why key h (core.Loses n) = refl
+over_passes why key h (core.Replaces n) = refl
+over_passes why key h (core.Comes n part way) = whose_nothing key (whose h.pool n)
+over_passes why key h (core.Feeds k bytes) = if_nothing (k == key)
+over_passes why key h (core.Closes k) = refl
+over_passes why key h (core.Enters k ends) = refl
+over_passes why key h (core.Quits k gives way) = refl
 
 goes_over : (why : Option FrontFault) (ps : List Packet) → goes_on ps (Over why) ≡ Over why
 goes_over why [] = refl
 goes_over why (p ∷ ps) = refl
 
-told_over : (why : Option FrontFault) (what : Rattle.tds_relay.specs.declared.desk.coming.What.What) → told what (Over why) ≡ Over why
-told_over why Rattle.tds_relay.specs.declared.desk.coming.What.TheVariants.Goes = refl
-told_over why Rattle.tds_relay.specs.declared.desk.coming.What.TheVariants.Finished = refl
-told_over why Rattle.tds_relay.specs.declared.desk.coming.What.TheVariants.Acknowledged = refl
-told_over why Rattle.tds_relay.specs.declared.desk.coming.What.TheVariants.Closed = refl
+told_over : (why : Option FrontFault) (what : Rattle.tds_relay.specs.declared.pool.coming.What.What) → told what (Over why) ≡ Over why
+told_over why Rattle.tds_relay.specs.declared.pool.coming.What.TheVariants.Goes = refl
+told_over why Rattle.tds_relay.specs.declared.pool.coming.What.TheVariants.Finished = refl
+told_over why Rattle.tds_relay.specs.declared.pool.coming.What.TheVariants.Acknowledged = refl
+told_over why Rattle.tds_relay.specs.declared.pool.coming.What.TheVariants.Closed = refl
 
 if_over : (why : Option FrontFault) (b : Bool) (by : End → End) → by (Over why) ≡ Over why → (if b then option_map by (Some (Over why)) else Some (Over why)) ≡ Some (Over why)
 if_over why true by e = ap (λ (x : End). Some x) e
@@ -220,27 +220,27 @@ quits_not : (key k : ℕ) (b : Bool) (o : Option End) → (k == key) ≡ b → k
 quits_not key k true o e not = absurd (not (sym (eqb-true k key e)))
 quits_not key k false o e not = refl
 
-entered_same : (key k : ℕ) (h : Hall) (ends : Ends) → hall.HasEntered k h.ends ends → key ≢ k → end_at ends key ≡ end_at h.ends key
+entered_same : (key k : ℕ) (h : Core) (ends : Ends) → core.HasEntered k h.ends ends → key ≢ k → end_at ends key ≡ end_at h.ends key
 entered_same key k h ends entered not = entered.others_stay key not
 
-pub stays_over : (why : Option FrontFault) (key : ℕ) (h : Hall) (move : Move) → MayMove h move → StaysIn key move → end_at h.ends key ≡ Some (Over why) → end_by key h move (end_at h.ends key) ≡ Some (Over why)
-stays_over why key h (hall.Does event) may stays e = e
-stays_over why key h (hall.Sends k deed) may stays e =
-    ap (λ (o : Option End). if k == key then option_map (goes_on (sent_by h.desk (desk.Does k deed))) o else o) e ∙ if_over why (k == key) (goes_on (sent_by h.desk (desk.Does k deed))) (goes_over why (sent_by h.desk (desk.Does k deed)))
-stays_over why key h (hall.LetsGo k parks gives way) may stays e = ap (λ (o : Option End). if k == key then option_map lets_go o else o) e ∙ if_over why (k == key) lets_go refl
-stays_over why key h (hall.Loses n) may stays e =
-    ap (λ (o : Option End). whose_by key (holder h.desk n) closes o) e ∙ whose_over why key (holder h.desk n) closes refl
-stays_over why key h (hall.Replaces n) may stays e =
-    ap (λ (o : Option End). whose_by key (holder h.desk n) lets_go o) e ∙ whose_over why key (holder h.desk n) lets_go refl
-stays_over why key h (hall.Comes n part way) may stays e =
-    let by : End → End = told (what_in (done_by h.desk n part)) in
-    ap (λ (o : Option End). whose_by key (whose h.desk n) by o) e ∙ whose_over why key (whose h.desk n) by (told_over why (what_in (done_by h.desk n part)))
-stays_over why key h (hall.Feeds k bytes) may stays e = ap (λ (o : Option End). if k == key then option_map (feeds bytes) o else o) e ∙ if_over why (k == key) (feeds bytes) refl
-stays_over why key h (hall.Closes k) may stays e = ap (λ (o : Option End). if k == key then option_map closes o else o) e ∙ if_over why (k == key) closes refl
-stays_over why key h (hall.Enters k ends) may stays e = entered_same key k h ends may stays ∙ e
-stays_over why key h (hall.Quits k gives way) may stays e = quits_not key k (k == key) (end_at h.ends key) refl stays ∙ e
+pub stays_over : (why : Option FrontFault) (key : ℕ) (h : Core) (move : Move) → MayMove h move → StaysIn key move → end_at h.ends key ≡ Some (Over why) → end_by key h move (end_at h.ends key) ≡ Some (Over why)
+stays_over why key h (core.Does event) may stays e = e
+stays_over why key h (core.Sends k action) may stays e =
+    ap (λ (o : Option End). if k == key then option_map (goes_on (sent_by h.pool (pool.Does k action))) o else o) e ∙ if_over why (k == key) (goes_on (sent_by h.pool (pool.Does k action))) (goes_over why (sent_by h.pool (pool.Does k action)))
+stays_over why key h (core.LetsGo k parks gives way) may stays e = ap (λ (o : Option End). if k == key then option_map lets_go o else o) e ∙ if_over why (k == key) lets_go refl
+stays_over why key h (core.Loses n) may stays e =
+    ap (λ (o : Option End). whose_by key (holder h.pool n) closes o) e ∙ whose_over why key (holder h.pool n) closes refl
+stays_over why key h (core.Replaces n) may stays e =
+    ap (λ (o : Option End). whose_by key (holder h.pool n) lets_go o) e ∙ whose_over why key (holder h.pool n) lets_go refl
+stays_over why key h (core.Comes n part way) may stays e =
+    let by : End → End = told (what_in (done_by h.pool n part)) in
+    ap (λ (o : Option End). whose_by key (whose h.pool n) by o) e ∙ whose_over why key (whose h.pool n) by (told_over why (what_in (done_by h.pool n part)))
+stays_over why key h (core.Feeds k bytes) may stays e = ap (λ (o : Option End). if k == key then option_map (feeds bytes) o else o) e ∙ if_over why (k == key) (feeds bytes) refl
+stays_over why key h (core.Closes k) may stays e = ap (λ (o : Option End). if k == key then option_map closes o else o) e ∙ if_over why (k == key) closes refl
+stays_over why key h (core.Enters k ends) may stays e = entered_same key k h ends may stays ∙ e
+stays_over why key h (core.Quits k gives way) may stays e = quits_not key k (k == key) (end_at h.ends key) refl stays ∙ e
 
-pub over_silent : (why : Option FrontFault) (key : ℕ) (h : Hall) (moves : List Move) → end_at h.ends key ≡ Some (Over why) → MayMoveAll h moves → Stays key moves → passed key h moves ≡ []
+pub over_silent : (why : Option FrontFault) (key : ℕ) (h : Core) (moves : List Move) → end_at h.ends key ≡ Some (Over why) → MayMoveAll h moves → Stays key moves → passed key h moves ≡ []
 over_silent why key h [] e may stays = refl
 over_silent why key h (move ∷ moves) e may stays =
     let none : passes key h move ≡ [] = sym (passes_is key h move) ∙ ap (passes_by key h move) e ∙ over_passes why key h move in
@@ -249,7 +249,7 @@ over_silent why key h (move ∷ moves) e may stays =
 
 -- one that is there stays there
 abbrev Is : Option End → Type 0
-Is o = hall.IsThere o
+Is o = core.IsThere o
 
 if_there : (b : Bool) (by : End → End) (o : Option End) → Is o → Is (if b then option_map by o else o)
 if_there true by None i = i
@@ -260,17 +260,17 @@ whose_there : (key : ℕ) (who : Option ℕ) (by : End → End) (o : Option End)
 whose_there key None by o i = i
 whose_there key (Some k) by o i = if_there (k == key) by o i
 
-pub stays_there : (key : ℕ) (h : Hall) (move : Move) → MayMove h move → StaysIn key move → Is (end_at h.ends key) → Is (end_by key h move (end_at h.ends key))
-stays_there key h (hall.Does event) may stays i = i
-stays_there key h (hall.Sends k deed) may stays i = if_there (k == key) (goes_on (sent_by h.desk (desk.Does k deed))) (end_at h.ends key) i
-stays_there key h (hall.LetsGo k parks gives way) may stays i = if_there (k == key) lets_go (end_at h.ends key) i
-stays_there key h (hall.Loses n) may stays i = whose_there key (holder h.desk n) closes (end_at h.ends key) i
-stays_there key h (hall.Replaces n) may stays i = whose_there key (holder h.desk n) lets_go (end_at h.ends key) i
-stays_there key h (hall.Comes n part way) may stays i = whose_there key (whose h.desk n) (told (what_in (done_by h.desk n part))) (end_at h.ends key) i
-stays_there key h (hall.Feeds k bytes) may stays i = if_there (k == key) (feeds bytes) (end_at h.ends key) i
-stays_there key h (hall.Closes k) may stays i = if_there (k == key) closes (end_at h.ends key) i
-stays_there key h (hall.Enters k ends) may stays i = subst Is (sym (entered_same key k h ends may stays)) i
-stays_there key h (hall.Quits k gives way) may stays i = subst Is (sym (quits_not key k (k == key) (end_at h.ends key) refl stays)) i
+pub stays_there : (key : ℕ) (h : Core) (move : Move) → MayMove h move → StaysIn key move → Is (end_at h.ends key) → Is (end_by key h move (end_at h.ends key))
+stays_there key h (core.Does event) may stays i = i
+stays_there key h (core.Sends k action) may stays i = if_there (k == key) (goes_on (sent_by h.pool (pool.Does k action))) (end_at h.ends key) i
+stays_there key h (core.LetsGo k parks gives way) may stays i = if_there (k == key) lets_go (end_at h.ends key) i
+stays_there key h (core.Loses n) may stays i = whose_there key (holder h.pool n) closes (end_at h.ends key) i
+stays_there key h (core.Replaces n) may stays i = whose_there key (holder h.pool n) lets_go (end_at h.ends key) i
+stays_there key h (core.Comes n part way) may stays i = whose_there key (whose h.pool n) (told (what_in (done_by h.pool n part))) (end_at h.ends key) i
+stays_there key h (core.Feeds k bytes) may stays i = if_there (k == key) (feeds bytes) (end_at h.ends key) i
+stays_there key h (core.Closes k) may stays i = if_there (k == key) closes (end_at h.ends key) i
+stays_there key h (core.Enters k ends) may stays i = subst Is (sym (entered_same key k h ends may stays)) i
+stays_there key h (core.Quits k gives way) may stays i = subst Is (sym (quits_not key k (k == key) (end_at h.ends key) refl stays)) i
 
 -- ---- What one move says is lawful
 
@@ -292,44 +292,44 @@ came_by s n part None out others e once = tt
 came_by s n part (Some c) out others e once =
     first_once (c.number == n) out (calls.hears {T = Token} s (calls.has_number n) part (Some c)).dones others (Rattle.tds_relay.proofs.promises.Seats.found_meets (calls.has_number n) c s.seats e) once
 
-comes_once : (d : Desk) (n : ℕ) (part : Part Token) (way : Way) (s : Service) (lease : Option ℕ) (hearing : Hearing) (out : Bool)
-    → AnswersOnce out (on n (steps d.service ((desk.comes_by d (calls.Came n part) s n way lease hearing).calls ++ []))) → AnswersOnce out (done_by d n part)
-comes_once d n part way s lease desk.Goes out once = came_by d.service n part (seat_numbered n d.service.seats) out _ refl once
-comes_once d n part way s lease desk.Settled out once = came_by d.service n part (seat_numbered n d.service.seats) out _ refl once
-comes_once d n part way s lease desk.Wrong out once = came_by d.service n part (seat_numbered n d.service.seats) out _ refl once
+comes_once : (d : Pool) (n : ℕ) (part : Part Token) (way : Way) (s : Service) (lease : Option ℕ) (hearing : Hearing) (out : Bool)
+    → AnswersOnce out (on n (steps d.service ((pool.comes_by d (calls.Came n part) s n way lease hearing).calls ++ []))) → AnswersOnce out (done_by d n part)
+comes_once d n part way s lease pool.Goes out once = came_by d.service n part (seat_numbered n d.service.seats) out _ refl once
+comes_once d n part way s lease pool.Settled out once = came_by d.service n part (seat_numbered n d.service.seats) out _ refl once
+comes_once d n part way s lease pool.Wrong out once = came_by d.service n part (seat_numbered n d.service.seats) out _ refl once
 
-came_once : (d : Desk) (n : ℕ) (part : Part Token) (way : Way) (out : Bool) → AnswersOnce out (done_from n d (desk.Comes n part way ∷ [])) → AnswersOnce out (done_by d n part)
+came_once : (d : Pool) (n : ℕ) (part : Part Token) (way : Way) (out : Bool) → AnswersOnce out (done_from n d (pool.Comes n part way ∷ [])) → AnswersOnce out (done_by d n part)
 came_once d n part way out once =
     let heard = step {T = Token} d.service (calls.Came n part) in
-    comes_once d n part way heard.service (lease_at (seat_numbered n d.service.seats)) (desk.hearing heard.dones) out once
+    comes_once d n part way heard.service (lease_at (seat_numbered n d.service.seats)) (pool.hearing heard.dones) out once
 
-module _ (h : Hall) (key : ℕ) (outs outs2 : ℕ → Bool) (sound : Sound h.desk) (sit : AllSit h.desk) (judges : Judges h.desk key outs outs2 sound sit) (known : Known h.desk key outs outs2 sound sit) where
-  abbrev d : Desk
-  d = h.desk
+module _ (h : Core) (key : ℕ) (outs outs2 : ℕ → Bool) (sound : Sound h.pool) (sit : AllSit h.pool) (judges : Judges h.pool key outs outs2 sound sit) (known : Known h.pool key outs outs2 sound sit) where
+  abbrev d : Pool
+  d = h.pool
 
   abbrev LawfulBy : Move → Place → Front → Bool → Option Reset → Type 0
   LawfulBy move p front w asks = Lawful p front.stage (passes_by key h move (Some (Open front w asks)))
 
-  sent_lawful : (deed : Deed) (p : Place) (front : Front) (w : Bool) (asks : Option Reset) → IsPut deed → MayDo deed (Some (Open front w asks)) → Standing outs d key front.stage w p → LeavesBy h key outs outs2 sound sit judges known (hall.Sends key deed)
-      → Lawful p front.stage (gone_on (sent_by d (desk.Does key deed)))
-  sent_lawful (desk.Puts count) p front w asks put may s leaves =
-      let sent = puts_stand d key outs outs2 sound sit count front.stage w p s may known (left_of d key outs outs2 sound sit (desk.Does key (desk.Puts count)) leaves) in
-      (gone_lawful (sent_by d (desk.Does key (desk.Puts count))) p front.stage, sent.whole)
-  sent_lawful (desk.Ends count) p front w asks put may s leaves =
-      let sent = ends_stand d key outs outs2 sound sit count front.stage w p s may (left_of d key outs outs2 sound sit (desk.Does key (desk.Ends count)) leaves) in
-      (gone_lawful (sent_by d (desk.Does key (desk.Ends count))) p front.stage, sent.whole)
-  sent_lawful desk.Asks p front w asks put may s leaves = absurd put
-  sent_lawful desk.Stops p front w asks put may s leaves = absurd put
+  sent_lawful : (action : Action) (p : Place) (front : Front) (w : Bool) (asks : Option Reset) → IsPut action → MayDo action (Some (Open front w asks)) → Standing outs d key front.stage w p → LeavesBy h key outs outs2 sound sit judges known (core.Sends key action)
+      → Lawful p front.stage (gone_on (sent_by d (pool.Does key action)))
+  sent_lawful (pool.Puts count) p front w asks put may s leaves =
+      let sent = puts_stand d key outs outs2 sound sit count front.stage w p s may known (left_of d key outs outs2 sound sit (pool.Does key (pool.Puts count)) leaves) in
+      (gone_lawful (sent_by d (pool.Does key (pool.Puts count))) p front.stage, sent.whole)
+  sent_lawful (pool.Ends count) p front w asks put may s leaves =
+      let sent = ends_stand d key outs outs2 sound sit count front.stage w p s may (left_of d key outs outs2 sound sit (pool.Does key (pool.Ends count)) leaves) in
+      (gone_lawful (sent_by d (pool.Does key (pool.Ends count))) p front.stage, sent.whole)
+  sent_lawful pool.Asks p front w asks put may s leaves = absurd put
+  sent_lawful pool.Stops p front w asks put may s leaves = absurd put
 
-  sent_if : (k : ℕ) (deed : Deed) (b : Bool) (p : Place) (front : Front) (w : Bool) (asks : Option Reset) → (k == key) ≡ b → IsPut deed → (k ≡ key → MayDo deed (Some (Open front w asks))) → Standing outs d key front.stage w p
-      → LeavesBy h key outs outs2 sound sit judges known (hall.Sends k deed) → Lawful p front.stage (if b then gone_on (sent_by d (desk.Does k deed)) else [])
-  sent_if k deed true p front w asks e put may s leaves =
+  sent_if : (k : ℕ) (action : Action) (b : Bool) (p : Place) (front : Front) (w : Bool) (asks : Option Reset) → (k == key) ≡ b → IsPut action → (k ≡ key → MayDo action (Some (Open front w asks))) → Standing outs d key front.stage w p
+      → LeavesBy h key outs outs2 sound sit judges known (core.Sends k action) → Lawful p front.stage (if b then gone_on (sent_by d (pool.Does k action)) else [])
+  sent_if k action true p front w asks e put may s leaves =
       let is = eqb-true k key e in
-      let P : ℕ → Type 0 = λ (x : ℕ). LeavesBy h key outs outs2 sound sit judges known (hall.Sends x deed) → Lawful p front.stage (gone_on (sent_by d (desk.Does x deed))) in
-      let here : P key = sent_lawful deed p front w asks put (may is) s in
+      let P : ℕ → Type 0 = λ (x : ℕ). LeavesBy h key outs outs2 sound sit judges known (core.Sends x action) → Lawful p front.stage (gone_on (sent_by d (pool.Does x action))) in
+      let here : P key = sent_lawful action p front w asks put (may is) s in
       let there : P k = subst P (sym is) here in
       there leaves
-  sent_if k deed false p front w asks e put may s leaves = (tt, tt)
+  sent_if k action false p front w asks e put may s leaves = (tt, tt)
 
   heard_if : (n k : ℕ) (part : Part Token) (way : Way) (b : Bool) (p : Place) (front : Front) (w : Bool) → whose d n ≡ Some k → (k == key) ≡ b → Standing outs d key front.stage w p
       → AnswersOnce (outs n) (done_by d n part) → Lawful p front.stage (if b then unless_withdrawn w (said_in (done_by d n part)) else [])
@@ -348,14 +348,14 @@ module _ (h : Hall) (key : ℕ) (outs outs2 : ℕ → Bool) (sound : Sound h.des
 
   pub lawful_by : (move : Move) (p : Place) (front : Front) (w : Bool) (asks : Option Reset) → end_at h.ends key ≡ Some (Open front w asks) → MayMove h move → Standing outs d key front.stage w p
       → LeavesBy h key outs outs2 sound sit judges known move → ((n : ℕ) → AnswersOnce (outs n) (done_from n d (events_of h move))) → LawfulBy move p front w asks
-  lawful_by (hall.Does event) p front w asks e may s leaves once = (tt, tt)
-  lawful_by (hall.Sends k deed) p front w asks e may s leaves once =
-      sent_if k deed (k == key) p front w asks refl may.0 (λ is. subst (MayDo deed) e (subst (λ (x : ℕ). MayDo deed (end_at h.ends x)) is may.1)) s leaves
-  lawful_by (hall.LetsGo k parks gives way) p front w asks e may s leaves once = (tt, tt)
-  lawful_by (hall.Loses n) p front w asks e may s leaves once = (tt, tt)
-  lawful_by (hall.Replaces n) p front w asks e may s leaves once = (tt, tt)
-  lawful_by (hall.Comes n part way) p front w asks e may s leaves once = heard_whose n part way (whose d n) p front w refl s (came_once d n part way (outs n) (once n))
-  lawful_by (hall.Feeds k bytes) p front w asks e may s leaves once = fed_if bytes (k == key) p front
-  lawful_by (hall.Closes k) p front w asks e may s leaves once = (tt, tt)
-  lawful_by (hall.Enters k ends) p front w asks e may s leaves once = (tt, tt)
-  lawful_by (hall.Quits k gives way) p front w asks e may s leaves once = (tt, tt)
+  lawful_by (core.Does event) p front w asks e may s leaves once = (tt, tt)
+  lawful_by (core.Sends k action) p front w asks e may s leaves once =
+      sent_if k action (k == key) p front w asks refl may.0 (λ is. subst (MayDo action) e (subst (λ (x : ℕ). MayDo action (end_at h.ends x)) is may.1)) s leaves
+  lawful_by (core.LetsGo k parks gives way) p front w asks e may s leaves once = (tt, tt)
+  lawful_by (core.Loses n) p front w asks e may s leaves once = (tt, tt)
+  lawful_by (core.Replaces n) p front w asks e may s leaves once = (tt, tt)
+  lawful_by (core.Comes n part way) p front w asks e may s leaves once = heard_whose n part way (whose d n) p front w refl s (came_once d n part way (outs n) (once n))
+  lawful_by (core.Feeds k bytes) p front w asks e may s leaves once = fed_if bytes (k == key) p front
+  lawful_by (core.Closes k) p front w asks e may s leaves once = (tt, tt)
+  lawful_by (core.Enters k ends) p front w asks e may s leaves once = (tt, tt)
+  lawful_by (core.Quits k gives way) p front w asks e may s leaves once = (tt, tt)

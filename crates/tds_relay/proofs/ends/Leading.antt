@@ -6,8 +6,8 @@ use Rattle.tds_packet.specs.declared.kind.Kind.TheVariants as kinds
 use Rattle.tds_packet.specs.Layout.{bits_of, has_bit, has_both_resets, kind_byte, reset_of}
 use Rattle.tds_front.specs.declared.fault.FrontFault.{FrontFault}
 use Rattle.tds_front.specs.declared.fault.FrontFault.TheVariants as faults
-use Rattle.tds_front.specs.declared.stage.Deed.{Deed}
-use Rattle.tds_front.specs.declared.stage.Deed.TheVariants as deeds
+use Rattle.tds_front.specs.declared.stage.Action.{Action}
+use Rattle.tds_front.specs.declared.stage.Action.TheVariants as actions
 use Rattle.tds_front.specs.declared.stage.Head.{Head}
 use Rattle.tds_front.specs.declared.stage.Move.{Move}
 use Rattle.tds_front.specs.declared.stage.Stage.{Stage}
@@ -17,7 +17,7 @@ use Rattle.tds_front.specs.Passing.{Event, Packet, Refuses, GoesOn, Says, EndsWh
 use Rattle.tds_front.specs.Rules as rules
 use Rattle.tds_front.specs.Rules.{taken}
 use Rattle.tds_front.specs.Serving.{Place, Ready, Executing, Happening, Comes, Goes, Closes, IsLawful, behind_brought, behind_reply}
-use Rattle.tds_relay.specs.Hall.{IsBegun, IsHere}
+use Rattle.tds_relay.specs.Core.{IsBegun, IsHere}
 
 -- ---- One list behind the other
 
@@ -28,13 +28,13 @@ stage_along stage (Refuses fault ∷ events) = stage_along (rules.refuses stage 
 stage_along stage (GoesOn last ∷ events) = stage_along (rules.went_on stage) events
 stage_along stage (Says reply ∷ events) = stage_along (stage_behind stage reply) events
 
-told_both : (does : Result Deed FrontFault) (xs ys : List Happening) → with_told does (xs ++ ys) ≡ with_told does xs ++ ys
-told_both (Ok (deeds.Begin kind reset)) xs ys = refl
-told_both (Ok deeds.Go) xs ys = refl
-told_both (Ok (deeds.Forget true)) xs ys = refl
-told_both (Ok (deeds.Forget false)) xs ys = refl
-told_both (Ok deeds.Acknowledge) xs ys = refl
-told_both (Ok deeds.HandOn) xs ys = refl
+told_both : (does : Result Action FrontFault) (xs ys : List Happening) → with_told does (xs ++ ys) ≡ with_told does xs ++ ys
+told_both (Ok (actions.Begin kind reset)) xs ys = refl
+told_both (Ok actions.Go) xs ys = refl
+told_both (Ok (actions.Forget true)) xs ys = refl
+told_both (Ok (actions.Forget false)) xs ys = refl
+told_both (Ok actions.Acknowledge) xs ys = refl
+told_both (Ok actions.HandOn) xs ys = refl
 told_both (Err fault) xs ys = refl
 
 behind_both : (stage : Stage) (es more : List Event) → behind stage (es ++ more) ≡ behind stage es ++ behind (stage_along stage es) more
@@ -105,15 +105,15 @@ ForgetsFrom (stages.Underway was) gone = ⊥
 ForgetsFrom stages.Stopping gone = ⊥
 ForgetsFrom (stages.Broken fault) gone = ⊥
 
-abbrev pub FitsDeed : Stage → Deed → Stage → Type 0
-FitsDeed stage (deeds.Begin kind reset) next = (stage ≡ stages.Quiet) × (IsHere next × IsBegun next)
-FitsDeed stage deeds.Go next = KeepsGone stage next
-FitsDeed stage (deeds.Forget gone) next = (next ≡ stages.Quiet) × ForgetsFrom stage gone
-FitsDeed stage deeds.Acknowledge next = (next ≡ stages.Quiet) × IsHere stage
-FitsDeed stage deeds.HandOn next = (next ≡ stages.Stopping) × IsGone stage
+abbrev pub FitsAction : Stage → Action → Stage → Type 0
+FitsAction stage (actions.Begin kind reset) next = (stage ≡ stages.Quiet) × (IsHere next × IsBegun next)
+FitsAction stage actions.Go next = KeepsGone stage next
+FitsAction stage (actions.Forget gone) next = (next ≡ stages.Quiet) × ForgetsFrom stage gone
+FitsAction stage actions.Acknowledge next = (next ≡ stages.Quiet) × IsHere stage
+FitsAction stage actions.HandOn next = (next ≡ stages.Stopping) × IsGone stage
 
-abbrev FitsBy : Stage → Result Deed FrontFault → Stage → Type 0
-FitsBy stage (Ok deed) next = FitsDeed stage deed next
+abbrev FitsBy : Stage → Result Action FrontFault → Stage → Type 0
+FitsBy stage (Ok action) next = FitsAction stage action next
 FitsBy stage (Err fault) next = Unit {0}
 
 abbrev Fits : Stage → Move → Type 0
@@ -136,12 +136,12 @@ keeps_if true kind gone = refl
 keeps_if false kind gone = refl
 
 forgets_fit : (stage : Stage) (gone : Bool) (status : ℕ) → ForgetsFrom stage gone → Fits stage (rules.forgets gone status)
-forgets_fit stage gone status from = if_fits stage (has_bit status 1) (rules.moves stages.Quiet (deeds.Forget gone)) (rules.breaks faults.IgnoredPart) (refl, from) tt
+forgets_fit stage gone status from = if_fits stage (has_bit status 1) (rules.moves stages.Quiet (actions.Forget gone)) (rules.breaks faults.IgnoredPart) (refl, from) tt
 
 begins_fit : (head : Head) → Fits stages.Quiet (rules.begins head)
 begins_fit head =
     let status = bits_of head.status in
-    let begin : Move = rules.moves (rules.behind head.kind false status) (deeds.Begin head.kind (reset_of status)) in
+    let begin : Move = rules.moves (rules.behind head.kind false status) (actions.Begin head.kind (reset_of status)) in
     let empty : Move = if head.count == 0 then rules.breaks faults.EmptyPart else begin in
     let ignored : Move = if has_bit status 2 then rules.forgets false status else empty in
     if_fits stages.Quiet (has_both_resets status) (rules.breaks faults.BothResets) ignored tt
@@ -152,7 +152,7 @@ goes_fit : (kind : Kind) (gone : Bool) (head : Head) → Fits (stages.Receiving 
 goes_fit kind gone head =
     let stage : Stage = stages.Receiving kind gone in
     let status = bits_of head.status in
-    let go : Move = rules.moves (rules.behind kind gone status) deeds.Go in
+    let go : Move = rules.moves (rules.behind kind gone status) actions.Go in
     let same : Move = if has_bit status 2 then rules.forgets gone status else go in
     if_fits stage (kind_byte kind == kind_byte head.kind) same (rules.breaks faults.TypeChanged)
     (if_fits stage (has_bit status 2) (rules.forgets gone status) go (forgets_fit stage gone status refl) (keeps_if (has_bit status 1) kind gone)) tt
@@ -192,5 +192,5 @@ taken_fits kinds.Transaction stage head = request_fits stage head
 taken_fits kinds.Attention stage head = attended_fits stage head
 taken_fits kinds.Answer stage head = refuses_fit stage faults.UnknownType
 
-pub fits : (stage : Stage) (head : Head) (deed : Deed) → (taken stage head).does ≡ Ok deed → FitsDeed stage deed (taken stage head).stage
-fits stage head deed e = subst (λ (r : Result Deed FrontFault). FitsBy stage r (taken stage head).stage) e (taken_fits head.kind stage head)
+pub fits : (stage : Stage) (head : Head) (action : Action) → (taken stage head).does ≡ Ok action → FitsAction stage action (taken stage head).stage
+fits stage head action e = subst (λ (r : Result Action FrontFault). FitsBy stage r (taken stage head).stage) e (taken_fits head.kind stage head)

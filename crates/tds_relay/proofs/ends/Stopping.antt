@@ -4,7 +4,7 @@ use Rattle.std.specs.Prelude.{Some, None, Option, filter, not, if◌then◌else�
 use Rattle.tds_packet.specs.declared.status.Reset.{Reset}
 use Rattle.tds_relay.proofs.held.Lists.{Once, comm, none_filtered, places, theirs_none}
 use Rattle.std.proofs.lemmas.Bool.{eqb-true, eq-eqb}
-use Rattle.tds_relay.specs.declared.desk.Hold.{Hold}
+use Rattle.tds_relay.specs.declared.pool.Hold.{Hold}
 use Rattle.tds_wire.specs.declared.told.Token.{Token}
 use Rattle.tds_front.specs.declared.front.Front.{Front}
 use Rattle.tds_front.specs.declared.stage.Stage.{Stage}
@@ -17,24 +17,24 @@ use Rattle.tds_service.specs.Line.{turn as turning}
 use Rattle.tds_service.specs.History.{Done, history, line_after, done_by as done_so}
 use Rattle.tds_service.specs.Parts.{Part, is_end}
 use Rattle.tds_service.specs.Service.{Seat, seat_numbered, on}
-use Rattle.tds_relay.specs.Desk as desk
-use Rattle.tds_relay.specs.Desk.{Deed, Desk, Event, Hearing, Turn, Way, find_key, hearing_of, moves, turn, whose}
+use Rattle.tds_relay.specs.Pool as pool
+use Rattle.tds_relay.specs.Pool.{Action, Pool, Event, Hearing, Turn, Way, find_key, hearing_of, moves, turn, whose}
 use Rattle.tds_relay.specs.Behind.{said_by, said_in, unless_withdrawn}
 use Rattle.tds_relay.specs.Fronting.{AnswersOnce}
-use Rattle.tds_relay.specs.Hall.{End, Open, Over, done_by, told, what_in, what_of}
+use Rattle.tds_relay.specs.Core.{End, Open, Over, done_by, told, what_in, what_of}
 use Rattle.tds_relay.proofs.promises.Caring.{Sound}
 use Rattle.tds_relay.proofs.ends.Fronting.{out_of}
 use Rattle.tds_relay.proofs.held.Seated.{AllSit}
 use Rattle.tds_relay.proofs.held.Sparing.{remains}
 use Rattle.tds_relay.proofs.held.Others.{Its, IsOthers, Passes, found, number_is, passes}
-use Rattle.tds_relay.proofs.held.Ours.{Gone, Ours, acts_done, came_done, deeds, heard_of, hears_right, hears_wrong, leaves_gone, loses_gone, with_came, with_line}
+use Rattle.tds_relay.proofs.held.Ours.{Gone, Ours, acts_done, came_done, actions, heard_of, hears_right, hears_wrong, leaves_gone, loses_gone, with_came, with_line}
 use Rattle.tds_relay.proofs.held.Kept.{Renewed, Rests, Lends, Goes, relent, renewed}
 use Rattle.tds_relay.proofs.held.Away.{WaitsOnce, away, gone_absent}
 use Rattle.tds_relay.proofs.ends.Outs.{HeardAs, Breaks, ReadsOn, ReadsEnd, SkipsOn, SkipsEnd, heard_as, out_after, out_by}
 use Rattle.tds_relay.proofs.ends.Leading.{ForgetsFrom, IsGone}
 use Rattle.tds_relay.proofs.ends.Tying.{GoneAt, SendsOut, ReadsOut, Stopped, Tied, gone_at, here_gone, stopped_reading, stopped_sending}
 use Rattle.tds_relay.proofs.ends.Telling.{EndTied, heard_lawful, heard_tied}
-use Rattle.tds_relay.proofs.ends.Standing.{AtDesk, Holds, HoldsOne, Leaves, Next, Standing, absent_whose, lent_at, ours_hold, whose_number}
+use Rattle.tds_relay.proofs.ends.Standing.{AtPool, Holds, HoldsOne, Leaves, Next, Standing, absent_whose, lent_at, ours_hold, whose_number}
 
 -- ---- Who quits neither holds nor waits
 
@@ -42,26 +42,26 @@ without_by : (key : ℕ) (b : Bool) → (key == key) ≡ b → b ≡ true → (i
 without_by key true e t = refl
 without_by key false e t = absurd (let u : ⊥ = cc in u)
 
-without_none : (key : ℕ) (line : List ℕ) → Once key line → places key (desk.without key line) ≡ []
+without_none : (key : ℕ) (line : List ℕ) → Once key line → places key (pool.without key line) ≡ []
 without_none key line (inl e) = none_filtered key (λ (x : ℕ). not (x == key)) line e
 without_none key line (inr e) =
     comm (λ (x : ℕ). x == key) (λ (x : ℕ). not (x == key)) line ∙ ap (λ (xs : List ℕ). filter (λ (x : ℕ). not (x == key)) xs) e ∙ without_by key (key == key) refl (eq-eqb key key refl)
 
-pub quits_gone : (d : Desk) (key : ℕ) (gives : Bool) (way : Way) → Sound d → AtDesk key d → Gone key (turn d (desk.Leaves key gives way)).desk
+pub quits_gone : (d : Pool) (key : ℕ) (gives : Bool) (way : Way) → Sound d → AtPool key d → Gone key (turn d (pool.Leaves key gives way)).pool
 quits_gone d key gives way sound (inl k) = leaves_gone d key k.hold k.seat gives way sound k.its
 quits_gone d key gives way sound (inr x) =
-    let t : turn d (desk.Leaves key gives way) ≡ moves d d.holds (desk.without key d.line) [] = ap (λ (y : Option Hold). desk.leaves d key gives way y) (theirs_none key d.holds x.none) in
-    let gone : Gone key (moves d d.holds (desk.without key d.line) []).desk = record { holds = x.none; waits = without_none key d.line x.once } in
-    subst (λ (y : Turn). Gone key y.desk) (sym t) gone
+    let t : turn d (pool.Leaves key gives way) ≡ moves d d.holds (pool.without key d.line) [] = ap (λ (y : Option Hold). pool.leaves d key gives way y) (theirs_none key d.holds x.none) in
+    let gone : Gone key (moves d d.holds (pool.without key d.line) []).pool = record { holds = x.none; waits = without_none key d.line x.once } in
+    subst (λ (y : Turn). Gone key y.pool) (sym t) gone
 
--- ---- At the desk alone, behind any event
+-- ---- At the pool alone, behind any event
 
-module _ (d : Desk) (key : ℕ) (sound : Sound d) (sit : AllSit d) where
+module _ (d : Pool) (key : ℕ) (sound : Sound d) (sit : AllSit d) where
   abbrev Then : Event → Type 0
-  Then event = AtDesk key (turn d event).desk
+  Then event = AtPool key (turn d event).pool
 
-  gone_then : (event : Event) → Gone key (turn d event).desk → Then event
-  gone_then event gone = inr (gone_absent key (turn d event).desk gone)
+  gone_then : (event : Event) → Gone key (turn d event).pool → Then event
+  gone_then event gone = inr (gone_absent key (turn d event).pool gone)
 
   others_then : (k : HoldsOne key d) (event : Event) → IsOthers key k.hold.number event → Then event
   others_then k event others =
@@ -70,7 +70,7 @@ module _ (d : Desk) (key : ℕ) (sound : Sound d) (sit : AllSit d) where
       let t = turn d event in
       let ps : Passes d key h.number h t = passes d key h c sound sit k.its event others in
       let r = remains d.service c h.number h.lease t.calls (number_is d key h c sound k.its) k.its.lent sound.tidy k.its.there ps.spares in
-      let there : seat_numbered h.number t.desk.service.seats ≡ Some c = subst (λ (x : Rattle.tds_service.specs.Service.Service). seat_numbered h.number x.seats ≡ Some c) (sym ps.service) r.0 in
+      let there : seat_numbered h.number t.pool.service.seats ≡ Some c = subst (λ (x : Rattle.tds_service.specs.Service.Service). seat_numbered h.number x.seats ≡ Some c) (sym ps.service) r.0 in
       inl (record { hold = h; seat = c; its = record { sole = ps.sole; there = there; lent = k.its.lent; line = ps.line } })
 
   pub never_waits : (k : HoldsOne key d) → find_key key d.holds ≡ None → ⊥
@@ -80,94 +80,94 @@ module _ (d : Desk) (key : ℕ) (sound : Sound d) (sit : AllSit d) where
       let v : ⊥ = cc in
       v
 
-  waits_then : (k : HoldsOne key d) (other : ℕ) (b : Bool) → (other == key) ≡ b → WaitsOnce key d (desk.Waits other) → Then (desk.Waits other)
+  waits_then : (k : HoldsOne key d) (other : ℕ) (b : Bool) → (other == key) ≡ b → WaitsOnce key d (pool.Waits other) → Then (pool.Waits other)
   waits_then k other true e w = absurd (never_waits k (w (eqb-true other key e)).0)
-  waits_then k other false e w = others_then k (desk.Waits other) e
+  waits_then k other false e w = others_then k (pool.Waits other) e
 
-  renewed_then : (k : HoldsOne key d) (resumes : Bool) → Renewed d key k.hold k.seat resumes → Then (desk.Renews key resumes)
-  renewed_then k resumes (Rests none is) = inl (record { hold = k.hold; seat = k.seat; its = subst (λ (t : Turn). Its t.desk key k.hold k.seat) (sym is) k.its })
-  renewed_then k resumes (Lends ticket some given idle lent) = inl (record { hold = desk.holding k.hold.key lent.lease k.seat.number; seat = relent lent.lease k.seat; its = lent.its })
-  renewed_then k resumes (Goes ticket some given idle gone) = gone_then (desk.Renews key resumes) gone
+  renewed_then : (k : HoldsOne key d) (resumes : Bool) → Renewed d key k.hold k.seat resumes → Then (pool.Renews key resumes)
+  renewed_then k resumes (Rests none is) = inl (record { hold = k.hold; seat = k.seat; its = subst (λ (t : Turn). Its t.pool key k.hold k.seat) (sym is) k.its })
+  renewed_then k resumes (Lends ticket some given idle lent) = inl (record { hold = pool.holding k.hold.key lent.lease k.seat.number; seat = relent lent.lease k.seat; its = lent.its })
+  renewed_then k resumes (Goes ticket some given idle gone) = gone_then (pool.Renews key resumes) gone
 
-  does_then : (k : HoldsOne key d) (other : ℕ) (deed : Deed) (b : Bool) → (other == key) ≡ b → Then (desk.Does other deed)
-  does_then k other deed true e =
+  does_then : (k : HoldsOne key d) (other : ℕ) (action : Action) (b : Bool) → (other == key) ≡ b → Then (pool.Does other action)
+  does_then k other action true e =
       let is = eqb-true other key e in
-      let did = deeds d key k.hold k.seat deed sound k.its in
-      let here : Then (desk.Does key deed) = inl (record { hold = k.hold; seat = with_line k.seat (line_after k.seat.line (acts_done k.seat.line deed)); its = did.ours.its }) in
-      subst (λ (x : ℕ). Then (desk.Does x deed)) (sym is) here
-  does_then k other deed false e = others_then k (desk.Does other deed) e
+      let did = actions d key k.hold k.seat action sound k.its in
+      let here : Then (pool.Does key action) = inl (record { hold = k.hold; seat = with_line k.seat (line_after k.seat.line (acts_done k.seat.line action)); its = did.ours.its }) in
+      subst (λ (x : ℕ). Then (pool.Does x action)) (sym is) here
+  does_then k other action false e = others_then k (pool.Does other action) e
 
-  leaves_then : (k : HoldsOne key d) (other : ℕ) (gives : Bool) (way : Way) (b : Bool) → (other == key) ≡ b → Then (desk.Leaves other gives way)
+  leaves_then : (k : HoldsOne key d) (other : ℕ) (gives : Bool) (way : Way) (b : Bool) → (other == key) ≡ b → Then (pool.Leaves other gives way)
   leaves_then k other gives way true e =
       let is = eqb-true other key e in
-      let here : Then (desk.Leaves key gives way) = gone_then (desk.Leaves key gives way) (leaves_gone d key k.hold k.seat gives way sound k.its) in
-      subst (λ (x : ℕ). Then (desk.Leaves x gives way)) (sym is) here
-  leaves_then k other gives way false e = others_then k (desk.Leaves other gives way) e
+      let here : Then (pool.Leaves key gives way) = gone_then (pool.Leaves key gives way) (leaves_gone d key k.hold k.seat gives way sound k.its) in
+      subst (λ (x : ℕ). Then (pool.Leaves x gives way)) (sym is) here
+  leaves_then k other gives way false e = others_then k (pool.Leaves other gives way) e
 
-  renews_then : (k : HoldsOne key d) (other : ℕ) (resumes : Bool) (b : Bool) → (other == key) ≡ b → Then (desk.Renews other resumes)
+  renews_then : (k : HoldsOne key d) (other : ℕ) (resumes : Bool) (b : Bool) → (other == key) ≡ b → Then (pool.Renews other resumes)
   renews_then k other resumes true e =
       let is = eqb-true other key e in
-      subst (λ (x : ℕ). Then (desk.Renews x resumes)) (sym is) (renewed_then k resumes (renewed d key k.hold k.seat sound k.its resumes))
-  renews_then k other resumes false e = others_then k (desk.Renews other resumes) e
+      subst (λ (x : ℕ). Then (pool.Renews x resumes)) (sym is) (renewed_then k resumes (renewed d key k.hold k.seat sound k.its resumes))
+  renews_then k other resumes false e = others_then k (pool.Renews other resumes) e
 
-  right_then : (k : HoldsOne key d) (part : Part Token) (way : Way) → (heard_of k.seat.line part ≡ desk.Wrong → ⊥) → Then (desk.Comes k.hold.number part way)
+  right_then : (k : HoldsOne key d) (part : Part Token) (way : Way) → (heard_of k.seat.line part ≡ pool.Wrong → ⊥) → Then (pool.Comes k.hold.number part way)
   right_then k part way right =
       let ours = hears_right d key k.hold k.seat part way sound k.its right in
       inl (record { hold = k.hold; seat = with_came k.seat part; its = ours.its })
 
-  hears_then : (k : HoldsOne key d) (part : Part Token) (way : Way) (hearing : Hearing) → heard_of k.seat.line part ≡ hearing → Then (desk.Comes k.hold.number part way)
-  hears_then k part way desk.Goes e = right_then k part way (λ wrong. (let u : desk.Goes ≡ desk.Wrong = sym e ∙ wrong in let v : ⊥ = cc in v))
-  hears_then k part way desk.Settled e = right_then k part way (λ wrong. (let u : desk.Settled ≡ desk.Wrong = sym e ∙ wrong in let v : ⊥ = cc in v))
-  hears_then k part way desk.Wrong e = gone_then (desk.Comes k.hold.number part way) (hears_wrong d key k.hold k.seat part way k.its e)
+  hears_then : (k : HoldsOne key d) (part : Part Token) (way : Way) (hearing : Hearing) → heard_of k.seat.line part ≡ hearing → Then (pool.Comes k.hold.number part way)
+  hears_then k part way pool.Goes e = right_then k part way (λ wrong. (let u : pool.Goes ≡ pool.Wrong = sym e ∙ wrong in let v : ⊥ = cc in v))
+  hears_then k part way pool.Settled e = right_then k part way (λ wrong. (let u : pool.Settled ≡ pool.Wrong = sym e ∙ wrong in let v : ⊥ = cc in v))
+  hears_then k part way pool.Wrong e = gone_then (pool.Comes k.hold.number part way) (hears_wrong d key k.hold k.seat part way k.its e)
 
-  comes_then : (k : HoldsOne key d) (n : ℕ) (part : Part Token) (way : Way) (b : Bool) → (k.hold.number == n) ≡ b → Then (desk.Comes n part way)
+  comes_then : (k : HoldsOne key d) (n : ℕ) (part : Part Token) (way : Way) (b : Bool) → (k.hold.number == n) ≡ b → Then (pool.Comes n part way)
   comes_then k n part way true e =
-      subst (λ (x : ℕ). Then (desk.Comes x part way)) (eqb-true k.hold.number n e) (hears_then k part way (heard_of k.seat.line part) refl)
-  comes_then k n part way false e = others_then k (desk.Comes n part way) e
+      subst (λ (x : ℕ). Then (pool.Comes x part way)) (eqb-true k.hold.number n e) (hears_then k part way (heard_of k.seat.line part) refl)
+  comes_then k n part way false e = others_then k (pool.Comes n part way) e
 
-  loses_then : (k : HoldsOne key d) (n : ℕ) (b : Bool) → (k.hold.number == n) ≡ b → Then (desk.Loses n)
+  loses_then : (k : HoldsOne key d) (n : ℕ) (b : Bool) → (k.hold.number == n) ≡ b → Then (pool.Loses n)
   loses_then k n true e =
-      subst (λ (x : ℕ). Then (desk.Loses x)) (eqb-true k.hold.number n e) (gone_then (desk.Loses k.hold.number) (loses_gone d key k.hold k.seat k.its))
-  loses_then k n false e = others_then k (desk.Loses n) e
+      subst (λ (x : ℕ). Then (pool.Loses x)) (eqb-true k.hold.number n e) (gone_then (pool.Loses k.hold.number) (loses_gone d key k.hold k.seat k.its))
+  loses_then k n false e = others_then k (pool.Loses n) e
 
   holds_then : (k : HoldsOne key d) (event : Event) → WaitsOnce key d event → Then event
-  holds_then k (desk.Waits other) w = waits_then k other (other == key) refl w
-  holds_then k (desk.Unwaits other) w = others_then k (desk.Unwaits other) tt
-  holds_then k desk.Serves w = others_then k desk.Serves tt
-  holds_then k (desk.Brings gives way) w = others_then k (desk.Brings gives way) tt
-  holds_then k (desk.Does other deed) w = does_then k other deed (other == key) refl
-  holds_then k (desk.Leaves other gives way) w = leaves_then k other gives way (other == key) refl
-  holds_then k (desk.Renews other resumes) w = renews_then k other resumes (other == key) refl
-  holds_then k (desk.Comes n part way) w = comes_then k n part way (k.hold.number == n) refl
-  holds_then k (desk.Loses n) w = loses_then k n (k.hold.number == n) refl
+  holds_then k (pool.Waits other) w = waits_then k other (other == key) refl w
+  holds_then k (pool.Unwaits other) w = others_then k (pool.Unwaits other) tt
+  holds_then k pool.Serves w = others_then k pool.Serves tt
+  holds_then k (pool.Brings gives way) w = others_then k (pool.Brings gives way) tt
+  holds_then k (pool.Does other action) w = does_then k other action (other == key) refl
+  holds_then k (pool.Leaves other gives way) w = leaves_then k other gives way (other == key) refl
+  holds_then k (pool.Renews other resumes) w = renews_then k other resumes (other == key) refl
+  holds_then k (pool.Comes n part way) w = comes_then k n part way (k.hold.number == n) refl
+  holds_then k (pool.Loses n) w = loses_then k n (k.hold.number == n) refl
 
-  pub desk_next : (event : Event) → AtDesk key d → WaitsOnce key d event → AtDesk key (turn d event).desk
-  desk_next event (inl k) w = holds_then k event w
-  desk_next event (inr absent) w = lent_at key (turn d event).desk (away d key absent sound event w)
+  pub pool_next : (event : Event) → AtPool key d → WaitsOnce key d event → AtPool key (turn d event).pool
+  pool_next event (inl k) w = holds_then k event w
+  pool_next event (inr absent) w = lent_at key (turn d event).pool (away d key absent sound event w)
 
 -- ---- A packet that comes on its connection
 
 -- what an end is then
-abbrev pub Told : (ℕ → Bool) → Desk → ℕ → Stage → Place → List Passed → End → Type 0
+abbrev pub Told : (ℕ → Bool) → Pool → ℕ → Stage → Place → List Passed → End → Type 0
 Told outs d key stage p es (Open front w asks) = Next outs d key stage p es front.stage w
-Told outs d key stage p es (Over why) = AtDesk key d
+Told outs d key stage p es (Over why) = AtPool key d
 
-module _ (d : Desk) (key : ℕ) (outs outs2 : ℕ → Bool) (sound : Sound d) (sit : AllSit d) where
+module _ (d : Pool) (key : ℕ) (outs outs2 : ℕ → Bool) (sound : Sound d) (sit : AllSit d) where
   told_right : (k : HoldsOne key d) (part : Part Token) (way : Way) (stage : Stage) (p : Place) (es : List Passed) (end : End)
-      → Ours d key k.hold k.seat (with_came k.seat part) (line.Come part ∷ []) (turn d (desk.Comes k.hold.number part way)) → Leaves d key outs outs2 sound sit (desk.Comes k.hold.number part way)
+      → Ours d key k.hold k.seat (with_came k.seat part) (line.Come part ∷ []) (turn d (pool.Comes k.hold.number part way)) → Leaves d key outs outs2 sound sit (pool.Comes k.hold.number part way)
       → EndTied end stage p es (turning k.seat.line (line.Come part)).line.stage (out_by (outs k.hold.number) (done_so (line.Come part) (turning k.seat.line (line.Come part))))
-      → Told outs2 (turn d (desk.Comes k.hold.number part way)).desk key stage p es end
+      → Told outs2 (turn d (pool.Comes k.hold.number part way)).pool key stage p es end
   told_right k part way stage p es (Open front w asks) ours leaves t = record {
     place = t.0;
-    standing = inl (ours_hold d key outs outs2 sound sit (desk.Comes k.hold.number part way) k.hold k.seat (with_came k.seat part) (line.Come part ∷ []) front.stage w t.0 ours leaves t.1);
+    standing = inl (ours_hold d key outs outs2 sound sit (pool.Comes k.hold.number part way) k.hold k.seat (with_came k.seat part) (line.Come part ∷ []) front.stage w t.0 ours leaves t.1);
     leads = t.2;
   }
   told_right k part way stage p es (Over why) ours leaves t = inl (record { hold = k.hold; seat = with_came k.seat part; its = ours.its })
 
   told_as : (k : HoldsOne key d) (part : Part Token) (way : Way) (front : Front) (w : Bool) (asks : Option Reset) (p : Place) → Tied front.stage w p k.seat.line.stage (outs k.hold.number)
-      → Leaves d key outs outs2 sound sit (desk.Comes k.hold.number part way) → HeardAs k.seat.line.stage (is_end part.close) (turning k.seat.line (line.Come part))
-      → (heard_of k.seat.line part ≡ desk.Wrong → ⊥)
-      → Told outs2 (turn d (desk.Comes k.hold.number part way)).desk key front.stage p (unless_withdrawn w (said_by (is_end part.close) (turning k.seat.line (line.Come part)).answer))
+      → Leaves d key outs outs2 sound sit (pool.Comes k.hold.number part way) → HeardAs k.seat.line.stage (is_end part.close) (turning k.seat.line (line.Come part))
+      → (heard_of k.seat.line part ≡ pool.Wrong → ⊥)
+      → Told outs2 (turn d (pool.Comes k.hold.number part way)).pool key front.stage p (unless_withdrawn w (said_by (is_end part.close) (turning k.seat.line (line.Come part)).answer))
       (told (what_of (turning k.seat.line (line.Come part)).answer) (Open front w asks))
   told_as k part way front w asks p tied leaves heard right =
       let t = turning k.seat.line (line.Come part) in
@@ -177,19 +177,19 @@ module _ (d : Desk) (key : ℕ) (outs outs2 : ℕ → Bool) (sound : Sound d) (s
 
   abbrev Result : (k : HoldsOne key d) → Part Token → Way → Front → Bool → Option Reset → Place → Type 0
   Result k part way front w asks p =
-      Told outs2 (turn d (desk.Comes k.hold.number part way)).desk key front.stage p (unless_withdrawn w (said_by (is_end part.close) (turning k.seat.line (line.Come part)).answer))
+      Told outs2 (turn d (pool.Comes k.hold.number part way)).pool key front.stage p (unless_withdrawn w (said_by (is_end part.close) (turning k.seat.line (line.Come part)).answer))
       (told (what_of (turning k.seat.line (line.Come part)).answer) (Open front w asks))
 
-  not_wrong : (k : HoldsOne key d) (part : Part Token) (answer : line.Answer) → (turning k.seat.line (line.Come part)).answer ≡ answer → (hearing_of answer ≡ desk.Wrong → ⊥) → heard_of k.seat.line part ≡ desk.Wrong → ⊥
+  not_wrong : (k : HoldsOne key d) (part : Part Token) (answer : line.Answer) → (turning k.seat.line (line.Come part)).answer ≡ answer → (hearing_of answer ≡ pool.Wrong → ⊥) → heard_of k.seat.line part ≡ pool.Wrong → ⊥
   not_wrong k part answer a never wrong = never (ap hearing_of (sym a) ∙ wrong)
 
   told_by : (k : HoldsOne key d) (part : Part Token) (way : Way) (front : Front) (w : Bool) (asks : Option Reset) (p : Place) → Tied front.stage w p k.seat.line.stage (outs k.hold.number)
-      → Leaves d key outs outs2 sound sit (desk.Comes k.hold.number part way) → HeardAs k.seat.line.stage (is_end part.close) (turning k.seat.line (line.Come part)) → Result k part way front w asks p
+      → Leaves d key outs outs2 sound sit (pool.Comes k.hold.number part way) → HeardAs k.seat.line.stage (is_end part.close) (turning k.seat.line (line.Come part)) → Result k part way front w asks p
   told_by k part way front w asks p tied leaves (Breaks fault a) =
-      let wrong : heard_of k.seat.line part ≡ desk.Wrong = ap hearing_of a in
+      let wrong : heard_of k.seat.line part ≡ pool.Wrong = ap hearing_of a in
       let gone = hears_wrong d key k.hold k.seat part way k.its wrong in
-      let d2 = (turn d (desk.Comes k.hold.number part way)).desk in
-      let at : AtDesk key d2 = inr (gone_absent key d2 gone) in
+      let d2 = (turn d (pool.Comes k.hold.number part way)).pool in
+      let at : AtPool key d2 = inr (gone_absent key d2 gone) in
       subst (λ (x : line.Answer). Told outs2 d2 key front.stage p (unless_withdrawn w (said_by (is_end part.close) x)) (told (what_of x) (Open front w asks))) (sym a) at
   told_by k part way front w asks p tied leaves (ReadsOn is goes a sent l) =
       told_as k part way front w asks p tied leaves (ReadsOn is goes a sent l) (not_wrong k part line.More a (λ e. let u : ⊥ = cc in u))
@@ -201,19 +201,19 @@ module _ (d : Desk) (key : ℕ) (outs outs2 : ℕ → Bool) (sound : Sound d) (s
       told_as k part way front w asks p tied leaves (SkipsEnd request is a sent l) (not_wrong k part (line.Acked request) a (λ e. let u : ⊥ = cc in u))
 
   told_here : (k : HoldsOne key d) (part : Part Token) (way : Way) (front : Front) (w : Bool) (asks : Option Reset) (p : Place) → Tied front.stage w p k.seat.line.stage (outs k.hold.number)
-      → Leaves d key outs outs2 sound sit (desk.Comes k.hold.number part way)
-      → Told outs2 (turn d (desk.Comes k.hold.number part way)).desk key front.stage p (unless_withdrawn w (said_in (done_by d k.hold.number part))) (told (what_in (done_by d k.hold.number part)) (Open front w asks))
+      → Leaves d key outs outs2 sound sit (pool.Comes k.hold.number part way)
+      → Told outs2 (turn d (pool.Comes k.hold.number part way)).pool key front.stage p (unless_withdrawn w (said_in (done_by d k.hold.number part))) (told (what_in (done_by d k.hold.number part)) (Open front w asks))
   told_here k part way front w asks p tied leaves =
-      subst (λ (ds : List (Done Token)). Told outs2 (turn d (desk.Comes k.hold.number part way)).desk key front.stage p (unless_withdrawn w (said_in ds)) (told (what_in ds) (Open front w asks)))
+      subst (λ (ds : List (Done Token)). Told outs2 (turn d (pool.Comes k.hold.number part way)).pool key front.stage p (unless_withdrawn w (said_in ds)) (told (what_in ds) (Open front w asks)))
       (sym (came_done d key k.hold k.seat part k.its)) (told_by k part way front w asks p tied leaves (heard_as k.seat.line part))
 
   pub hears_stand : (n : ℕ) (part : Part Token) (way : Way) (front : Front) (w : Bool) (asks : Option Reset) (p : Place) → Standing outs d key front.stage w p → whose d n ≡ Some key
-      → Leaves d key outs outs2 sound sit (desk.Comes n part way)
-      → Told outs2 (turn d (desk.Comes n part way)).desk key front.stage p (unless_withdrawn w (said_in (done_by d n part))) (told (what_in (done_by d n part)) (Open front w asks))
+      → Leaves d key outs outs2 sound sit (pool.Comes n part way)
+      → Told outs2 (turn d (pool.Comes n part way)).pool key front.stage p (unless_withdrawn w (said_in (done_by d n part))) (told (what_in (done_by d n part)) (Open front w asks))
   hears_stand n part way front w asks p (inl k) mine leaves =
       let number = whose_number d key n k.hold k.seat sound k.its mine in
-      let P : ℕ → Type 0 = λ (m : ℕ). Leaves d key outs outs2 sound sit (desk.Comes m part way)
-      → Told outs2 (turn d (desk.Comes m part way)).desk key front.stage p (unless_withdrawn w (said_in (done_by d m part))) (told (what_in (done_by d m part)) (Open front w asks)) in
+      let P : ℕ → Type 0 = λ (m : ℕ). Leaves d key outs outs2 sound sit (pool.Comes m part way)
+      → Told outs2 (turn d (pool.Comes m part way)).pool key front.stage p (unless_withdrawn w (said_in (done_by d m part))) (told (what_in (done_by d m part)) (Open front w asks)) in
       let at : P k.hold.number = λ l. told_here (record { hold = k.hold; seat = k.seat; its = k.its }) part way front w asks p k.tied l in
       let done : P n = subst P number at in
       done leaves
@@ -243,24 +243,24 @@ module _ (d : Desk) (key : ℕ) (outs outs2 : ℕ → Bool) (sound : Sound d) (s
   -- ---- It stops what has gone on
 
   abbrev Stops : Event
-  Stops = desk.Does key desk.Stops
+  Stops = pool.Does key pool.Stops
 
   abbrev pub Known : Type 0
   Known = (n : ℕ) (c : Seat) → seat_numbered n d.service.seats ≡ Some c → out_of c.line.stage (outs n) ≡ outs n
 
   stopped_hold : (k : HoldsOne key d) (next : Stage) (w : Bool) (p : Place) → Stopped k.seat.line (outs k.hold.number) → Tied next w p line.Cancelling (outs k.hold.number) → Leaves d key outs outs2 sound sit Stops
-      → Holds outs2 (turn d Stops).desk key next w p
+      → Holds outs2 (turn d Stops).pool key next w p
   stopped_hold k next w p stopped tied leaves =
       let l = k.seat.line in
-      let acts = acts_done l desk.Stops in
-      let did = deeds d key k.hold k.seat desk.Stops sound k.its in
+      let acts = acts_done l pool.Stops in
+      let did = actions d key k.hold k.seat pool.Stops sound k.its in
       let one : Tied next w p (line_after l acts).stage (outs k.hold.number) = subst (λ (s : line.Stage). Tied next w p s (outs k.hold.number)) (sym stopped.stage_is) tied in
       let two : Tied next w p (line_after l acts).stage (out_after (outs k.hold.number) (history l acts)) = subst (λ (o : Bool). Tied next w p (line_after l acts).stage o) (sym stopped.out_is) one in
       ours_hold d key outs outs2 sound sit Stops k.hold k.seat (with_line k.seat (line_after l acts)) acts next w p did.ours leaves two
 
   -- it takes that back
   pub record TakenBack (p : Place) : Type 0 where
-    pub standing : Standing outs2 (turn d Stops).desk key stages.Quiet true Ready
+    pub standing : Standing outs2 (turn d Stops).pool key stages.Quiet true Ready
     pub was : p ≡ Ready
 
   takes_at : (k : HoldsOne key d) (stage : Stage) (w : Bool) (p : Place) → ForgetsFrom stage true → GoneAt stage w p k.seat.line.stage → Leaves d key outs outs2 sound sit Stops → TakenBack p
@@ -284,7 +284,7 @@ module _ (d : Desk) (key : ℕ) (outs outs2 : ℕ → Bool) (sound : Sound d) (s
 
   -- its attention is the server's
   hands_at : (k : HoldsOne key d) (stage : Stage) (w : Bool) (p : Place) → GoneAt stage w p k.seat.line.stage → Known → Leaves d key outs outs2 sound sit Stops
-      → Holds outs2 (turn d Stops).desk key stages.Stopping false (behind_brought p serving.Attention)
+      → Holds outs2 (turn d Stops).pool key stages.Stopping false (behind_brought p serving.Attention)
   hands_at k stage w p (SendsOut its at is) known leaves =
       let out = outs k.hold.number in
       let quiet : false ≡ out = ap (λ (s : line.Stage). out_of s out) (sym at) ∙ known k.hold.number k.seat k.its.there in
@@ -297,7 +297,7 @@ module _ (d : Desk) (key : ℕ) (outs outs2 : ℕ → Bool) (sound : Sound d) (s
       stopped_hold k stages.Stopping false (behind_brought p serving.Attention) (stopped_reading k.seat.line out at) (refl, place) leaves
 
   pub hands_on : (stage : Stage) (w : Bool) (p : Place) → Standing outs d key stage w p → IsGone stage → Known → Leaves d key outs outs2 sound sit Stops
-      → Standing outs2 (turn d Stops).desk key stages.Stopping false (behind_brought p serving.Attention)
+      → Standing outs2 (turn d Stops).pool key stages.Stopping false (behind_brought p serving.Attention)
   hands_on stage w p (inl k) gone known leaves =
       inl (hands_at (record { hold = k.hold; seat = k.seat; its = k.its }) stage w p (gone_at k.seat.line.stage stage w p (outs k.hold.number) k.tied gone) known leaves)
   hands_on stage w p (inr k) gone known leaves = absurd (here_gone stage k.rests.here gone)

@@ -14,7 +14,7 @@ use Rattle.tds_service.specs.Line as line
 use Rattle.tds_service.specs.Line.{Line, Act, Answer, Packet, Turn, turn}
 use Rattle.tds_relay.specs.Behind.{said_by, unless_withdrawn}
 use Rattle.tds_relay.specs.Fronting.{MayEnd, is_left_out, is_out_behind}
-use Rattle.tds_relay.specs.Hall.{End, Open, Over, IsHere, told, what_of}
+use Rattle.tds_relay.specs.Core.{End, Open, Over, IsHere, told, what_of}
 use Rattle.tds_relay.proofs.ends.Outs.{HeardAs, Breaks, ReadsOn, ReadsEnd, SkipsOn, SkipsEnd}
 use Rattle.tds_relay.proofs.ends.Leading.{Leads, leads_nothing}
 use Rattle.tds_relay.proofs.ends.Tying.{Tied}

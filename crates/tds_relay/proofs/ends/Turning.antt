@@ -1,4 +1,4 @@
--- An application's end and what it holds at the desk, behind one event there: its own, or another's.
+-- An application's end and what it holds at the pool, behind one event there: its own, or another's.
 use Rattle.std.proofs.Common.{◌≡◌, ◌∙◌, ◌==◌, ℕ, Bool, true, false, List, [], ◌∷◌, refl, sym, ap, subst, inl, inr}
 use Rattle.std.specs.Prelude.{Option, Some, None, not, if◌then◌else◌, option_map}
 use Rattle.std.proofs.lemmas.Bool.{eqb-true, eq-eqb}
@@ -11,10 +11,10 @@ use Rattle.tds_front.specs.Serving.{Place, Ready}
 use Rattle.tds_front.specs.declared.fault.FrontFault.{FrontFault}
 use Rattle.tds_service.specs.Line.{Packet}
 use Rattle.tds_service.specs.Parts.{Part}
-use Rattle.tds_relay.specs.Desk as desk
-use Rattle.tds_relay.specs.Desk.{Deed, Desk, Event, Way, find_key, turn, whose}
+use Rattle.tds_relay.specs.Pool as pool
+use Rattle.tds_relay.specs.Pool.{Action, Pool, Event, Way, find_key, turn, whose}
 use Rattle.tds_relay.specs.Behind.{gone_on, if_open, if_whose, said_in, unless_withdrawn}
-use Rattle.tds_relay.specs.Hall.{End, Open, Over, IfOpen, IsHere, IsNotPut, IsPut, IsThere, MayDo, closes, done_by, goes_on, holder, lets_go, sent_by, told, what_in}
+use Rattle.tds_relay.specs.Core.{End, Open, Over, IfOpen, IsHere, IsNotPut, IsPut, IsThere, MayDo, closes, done_by, goes_on, holder, lets_go, sent_by, told, what_in}
 use Rattle.tds_relay.proofs.promises.Caring.{Sound}
 use Rattle.tds_relay.proofs.held.Lists.{places}
 use Rattle.tds_relay.proofs.held.Seated.{AllSit}
@@ -22,18 +22,18 @@ use Rattle.tds_relay.proofs.held.Others.{IsOthers}
 use Rattle.tds_relay.proofs.held.Ours.{Gone}
 use Rattle.tds_relay.proofs.held.Away.{WaitsNot, WaitsOnce, stays_gone}
 use Rattle.tds_relay.proofs.ends.Tying.{went_by}
-use Rattle.tds_relay.proofs.ends.Standing.{AtDesk, Leaves, Sent, Standing, apart_stands, asks_stand, at_desk, ends_stand, lacks_stand, lets_stand, puts_stand, renews_stand, replaced_stands, stays_next, stops_stand, unheard_stands, unlost_stands}
-use Rattle.tds_relay.proofs.ends.Stopping.{Known, Told, desk_next, hears_stand, never_waits, quits_gone}
+use Rattle.tds_relay.proofs.ends.Standing.{AtPool, Leaves, Sent, Standing, apart_stands, asks_stand, at_pool, ends_stand, lacks_stand, lets_stand, puts_stand, renews_stand, replaced_stands, stays_next, stops_stand, unheard_stands, unlost_stands}
+use Rattle.tds_relay.proofs.ends.Stopping.{Known, Told, pool_next, hears_stand, never_waits, quits_gone}
 use Rattle.tds_relay.proofs.ends.Ending.{whose_by}
 
 -- ---- What is told of it
 
-abbrev pub StoryOf : (ℕ → Bool) → Desk → ℕ → Place → Option End → Type 0
+abbrev pub StoryOf : (ℕ → Bool) → Pool → ℕ → Place → Option End → Type 0
 StoryOf outs d key p None = Gone key d
 StoryOf outs d key p (Some (Open front w asks)) = Standing outs d key front.stage w p
-StoryOf outs d key p (Some (Over why)) = AtDesk key d
+StoryOf outs d key p (Some (Over why)) = AtPool key d
 
-abbrev pub StepOf : (ℕ → Bool) → Desk → ℕ → Place → List Passed → Option End → Option End → Type 0
+abbrev pub StepOf : (ℕ → Bool) → Pool → ℕ → Place → List Passed → Option End → Option End → Type 0
 StepOf outs d key p es None None = Gone key d
 StepOf outs d key p es None (Some (Open front w asks)) = Standing outs d key front.stage w Ready × (front.stage ≡ stages.Quiet)
 StepOf outs d key p es None (Some (Over why)) = ⊥
@@ -41,14 +41,14 @@ StepOf outs d key p es (Some (Open front w asks)) None = Gone key d
 StepOf outs d key p es (Some (Open front w asks)) (Some end) = Told outs d key front.stage p es end
 StepOf outs d key p es (Some (Over why)) None = Gone key d
 StepOf outs d key p es (Some (Over why)) (Some (Open front w asks)) = ⊥
-StepOf outs d key p es (Some (Over was)) (Some (Over why)) = AtDesk key d
+StepOf outs d key p es (Some (Over was)) (Some (Over why)) = AtPool key d
 
-module _ (d : Desk) (key : ℕ) (outs outs2 : ℕ → Bool) (sound : Sound d) (sit : AllSit d) where
+module _ (d : Pool) (key : ℕ) (outs outs2 : ℕ → Bool) (sound : Sound d) (sit : AllSit d) where
   abbrev Left : Event → Type 0
   Left event = Leaves d key outs outs2 sound sit event
 
   abbrev Behind : Event → Place → List Passed → Option End → Option End → Type 0
-  Behind event p es o o2 = StepOf outs2 (turn d event).desk key p es o o2
+  Behind event p es o o2 = StepOf outs2 (turn d event).pool key p es o o2
 
   -- an event of another, for which nothing passes
   abbrev AreOthers : Event → Type 0
@@ -57,36 +57,36 @@ module _ (d : Desk) (key : ℕ) (outs outs2 : ℕ → Bool) (sound : Sound d) (s
   pub apart_step : (event : Event) (p : Place) (o : Option End) → StoryOf outs d key p o → AreOthers event → WaitsOnce key d event → WaitsNot key event → Left event → Behind event p [] o o
   apart_step event p None s others once not left = stays_gone d key s event not
   apart_step event p (Some (Open front w asks)) s others once not left =
-      stays_next outs2 (turn d event).desk key front.stage w p (apart_stands d key outs outs2 sound sit event front.stage w p s others once left)
-  apart_step event p (Some (Over why)) s others once not left = desk_next d key sound sit event s once
+      stays_next outs2 (turn d event).pool key front.stage w p (apart_stands d key outs outs2 sound sit event front.stage w p s others once left)
+  apart_step event p (Some (Over why)) s others once not left = pool_next d key sound sit event s once
 
-  -- ---- At the desk alone
+  -- ---- At the pool alone
 
   abbrev Away : Option End → Type 0
   Away o = IsThere o × (find_key key d.holds ≡ None) × (places key d.line ≡ [])
 
-  waits_step : (p : Place) (o : Option End) → StoryOf outs d key p o → Away o → Left (desk.Waits key) → Behind (desk.Waits key) p [] o o
+  waits_step : (p : Place) (o : Option End) → StoryOf outs d key p o → Away o → Left (pool.Waits key) → Behind (pool.Waits key) p [] o o
   waits_step p None s away left = absurd away.0
   waits_step p (Some (Open front w asks)) (inl k) away left = absurd (never_waits d key sound sit (record { hold = k.hold; seat = k.seat; its = k.its }) away.1)
   waits_step p (Some (Open front w asks)) (inr k) away left =
-      stays_next outs2 (turn d (desk.Waits key)).desk key front.stage w p (lacks_stand d key outs outs2 sound sit (desk.Waits key) front.stage w p k (λ is. (away.1, away.2)))
-  waits_step p (Some (Over why)) s away left = desk_next d key sound sit (desk.Waits key) s (λ is. (away.1, away.2))
+      stays_next outs2 (turn d (pool.Waits key)).pool key front.stage w p (lacks_stand d key outs outs2 sound sit (pool.Waits key) front.stage w p k (λ is. (away.1, away.2)))
+  waits_step p (Some (Over why)) s away left = pool_next d key sound sit (pool.Waits key) s (λ is. (away.1, away.2))
 
-  deed_step : (deed : Deed) (p : Place) (o : Option End) → StoryOf outs d key p o → IsNotPut deed → MayDo deed o → Left (desk.Does key deed) → Behind (desk.Does key deed) p [] o o
-  deed_step deed p None s not may left = stays_gone d key s (desk.Does key deed) tt
-  deed_step deed p (Some (Over why)) s not may left = desk_next d key sound sit (desk.Does key deed) s tt
-  deed_step desk.Asks p (Some (Open front w asks)) s not may left =
-      stays_next outs2 (turn d (desk.Does key desk.Asks)).desk key front.stage w p (asks_stand d key outs outs2 sound sit front.stage w p s left)
-  deed_step desk.Stops p (Some (Open front w asks)) s not may left =
-      stays_next outs2 (turn d (desk.Does key desk.Stops)).desk key front.stage w p (stops_stand d key outs outs2 sound sit front.stage w p s may left)
-  deed_step (desk.Puts count) p (Some (Open front w asks)) s not may left = absurd not
-  deed_step (desk.Ends count) p (Some (Open front w asks)) s not may left = absurd not
+  action_step : (action : Action) (p : Place) (o : Option End) → StoryOf outs d key p o → IsNotPut action → MayDo action o → Left (pool.Does key action) → Behind (pool.Does key action) p [] o o
+  action_step action p None s not may left = stays_gone d key s (pool.Does key action) tt
+  action_step action p (Some (Over why)) s not may left = pool_next d key sound sit (pool.Does key action) s tt
+  action_step pool.Asks p (Some (Open front w asks)) s not may left =
+      stays_next outs2 (turn d (pool.Does key pool.Asks)).pool key front.stage w p (asks_stand d key outs outs2 sound sit front.stage w p s left)
+  action_step pool.Stops p (Some (Open front w asks)) s not may left =
+      stays_next outs2 (turn d (pool.Does key pool.Stops)).pool key front.stage w p (stops_stand d key outs outs2 sound sit front.stage w p s may left)
+  action_step (pool.Puts count) p (Some (Open front w asks)) s not may left = absurd not
+  action_step (pool.Ends count) p (Some (Open front w asks)) s not may left = absurd not
 
-  renews_step : (resumes : Bool) (p : Place) (o : Option End) → StoryOf outs d key p o → Left (desk.Renews key resumes) → Behind (desk.Renews key resumes) p [] o o
-  renews_step resumes p None s left = stays_gone d key s (desk.Renews key resumes) tt
+  renews_step : (resumes : Bool) (p : Place) (o : Option End) → StoryOf outs d key p o → Left (pool.Renews key resumes) → Behind (pool.Renews key resumes) p [] o o
+  renews_step resumes p None s left = stays_gone d key s (pool.Renews key resumes) tt
   renews_step resumes p (Some (Open front w asks)) s left =
-      stays_next outs2 (turn d (desk.Renews key resumes)).desk key front.stage w p (renews_stand d key outs outs2 sound sit resumes front.stage w p s left)
-  renews_step resumes p (Some (Over why)) s left = desk_next d key sound sit (desk.Renews key resumes) s tt
+      stays_next outs2 (turn d (pool.Renews key resumes)).pool key front.stage w p (renews_stand d key outs outs2 sound sit resumes front.stage w p s left)
+  renews_step resumes p (Some (Over why)) s left = pool_next d key sound sit (pool.Renews key resumes) s tt
 
   -- as of this application, or of another
   abbrev As : (ℕ → Event) → ℕ → Place → List Passed → Option End → Option End → Type 0
@@ -101,17 +101,17 @@ module _ (d : Desk) (key : ℕ) (outs outs2 : ℕ → Bool) (sound : Sound d) (s
       let v : ⊥ = cc in
       v
 
-  pub waits_if : (k : ℕ) (b : Bool) (p : Place) (o : Option End) → (k == key) ≡ b → StoryOf outs d key p o → (k ≡ key → Away o) → As desk.Waits k p [] o o
-  waits_if k true p o e s away = own desk.Waits k p [] o o e (waits_step p o s (away (eqb-true k key e)))
-  waits_if k false p o e s away = apart_step (desk.Waits k) p o s (λ n. e) (λ is. absurd (never k e is)) e
+  pub waits_if : (k : ℕ) (b : Bool) (p : Place) (o : Option End) → (k == key) ≡ b → StoryOf outs d key p o → (k ≡ key → Away o) → As pool.Waits k p [] o o
+  waits_if k true p o e s away = own pool.Waits k p [] o o e (waits_step p o s (away (eqb-true k key e)))
+  waits_if k false p o e s away = apart_step (pool.Waits k) p o s (λ n. e) (λ is. absurd (never k e is)) e
 
-  pub deed_if : (k : ℕ) (deed : Deed) (b : Bool) (p : Place) (o : Option End) → (k == key) ≡ b → StoryOf outs d key p o → (k ≡ key → IsNotPut deed × MayDo deed o) → As (λ x. desk.Does x deed) k p [] o o
-  deed_if k deed true p o e s may = (let m = may (eqb-true k key e) in own (λ x. desk.Does x deed) k p [] o o e (deed_step deed p o s m.0 m.1))
-  deed_if k deed false p o e s may = apart_step (desk.Does k deed) p o s (λ n. e) tt tt
+  pub action_if : (k : ℕ) (action : Action) (b : Bool) (p : Place) (o : Option End) → (k == key) ≡ b → StoryOf outs d key p o → (k ≡ key → IsNotPut action × MayDo action o) → As (λ x. pool.Does x action) k p [] o o
+  action_if k action true p o e s may = (let m = may (eqb-true k key e) in own (λ x. pool.Does x action) k p [] o o e (action_step action p o s m.0 m.1))
+  action_if k action false p o e s may = apart_step (pool.Does k action) p o s (λ n. e) tt tt
 
-  pub renews_if : (k : ℕ) (resumes b : Bool) (p : Place) (o : Option End) → (k == key) ≡ b → StoryOf outs d key p o → As (λ x. desk.Renews x resumes) k p [] o o
-  renews_if k resumes true p o e s = own (λ x. desk.Renews x resumes) k p [] o o e (renews_step resumes p o s)
-  renews_if k resumes false p o e s = apart_step (desk.Renews k resumes) p o s (λ n. e) tt tt
+  pub renews_if : (k : ℕ) (resumes b : Bool) (p : Place) (o : Option End) → (k == key) ≡ b → StoryOf outs d key p o → As (λ x. pool.Renews x resumes) k p [] o o
+  renews_if k resumes true p o e s = own (λ x. pool.Renews x resumes) k p [] o o e (renews_step resumes p o s)
+  renews_if k resumes false p o e s = apart_step (pool.Renews k resumes) p o s (λ n. e) tt tt
 
   -- ---- Its request goes on
 
@@ -123,64 +123,64 @@ module _ (d : Desk) (key : ℕ) (outs outs2 : ℕ → Bool) (sound : Sound d) (s
   goes_open [] front w asks = refl
   goes_open (p ∷ ps) front w asks = refl
 
-  sent_step : (deed : Deed) (front : Front) (w : Bool) (asks : Option Reset) (p : Place) → Sent d key outs outs2 sound sit deed front.stage w p
-      → Behind (desk.Does key deed) p (gone_on (sent_by d (desk.Does key deed))) (Some (Open front w asks)) (Some (goes_on (sent_by d (desk.Does key deed)) (Open front w asks)))
-  sent_step deed front w asks p s =
-      let ps = sent_by d (desk.Does key deed) in
-      subst (λ (x : End). Told outs2 (turn d (desk.Does key deed)).desk key front.stage p (gone_on ps) x) (goes_open ps front w asks) s.next
+  sent_step : (action : Action) (front : Front) (w : Bool) (asks : Option Reset) (p : Place) → Sent d key outs outs2 sound sit action front.stage w p
+      → Behind (pool.Does key action) p (gone_on (sent_by d (pool.Does key action))) (Some (Open front w asks)) (Some (goes_on (sent_by d (pool.Does key action)) (Open front w asks)))
+  sent_step action front w asks p s =
+      let ps = sent_by d (pool.Does key action) in
+      subst (λ (x : End). Told outs2 (turn d (pool.Does key action)).pool key front.stage p (gone_on ps) x) (goes_open ps front w asks) s.next
 
-  sends_step : (deed : Deed) (p : Place) (o : Option End) → StoryOf outs d key p o → IsPut deed → MayDo deed o → Known d key outs outs2 sound sit → Left (desk.Does key deed)
-      → Behind (desk.Does key deed) p (if_open o (λ front withdrawn. gone_on (sent_by d (desk.Does key deed)))) o (option_map (goes_on (sent_by d (desk.Does key deed))) o)
-  sends_step deed p None s put may known left = stays_gone d key s (desk.Does key deed) tt
-  sends_step deed p (Some (Over why)) s put may known left =
-      subst (λ (x : End). StepOf outs2 (turn d (desk.Does key deed)).desk key p [] (Some (Over why)) (Some x)) (goes_over why (sent_by d (desk.Does key deed))) (desk_next d key sound sit (desk.Does key deed) s tt)
-  sends_step (desk.Puts count) p (Some (Open front w asks)) s put may known left =
-      sent_step (desk.Puts count) front w asks p (puts_stand d key outs outs2 sound sit count front.stage w p s may known left)
-  sends_step (desk.Ends count) p (Some (Open front w asks)) s put may known left =
-      sent_step (desk.Ends count) front w asks p (ends_stand d key outs outs2 sound sit count front.stage w p s may left)
-  sends_step desk.Asks p (Some (Open front w asks)) s put may known left = absurd put
-  sends_step desk.Stops p (Some (Open front w asks)) s put may known left = absurd put
+  sends_step : (action : Action) (p : Place) (o : Option End) → StoryOf outs d key p o → IsPut action → MayDo action o → Known d key outs outs2 sound sit → Left (pool.Does key action)
+      → Behind (pool.Does key action) p (if_open o (λ front withdrawn. gone_on (sent_by d (pool.Does key action)))) o (option_map (goes_on (sent_by d (pool.Does key action))) o)
+  sends_step action p None s put may known left = stays_gone d key s (pool.Does key action) tt
+  sends_step action p (Some (Over why)) s put may known left =
+      subst (λ (x : End). StepOf outs2 (turn d (pool.Does key action)).pool key p [] (Some (Over why)) (Some x)) (goes_over why (sent_by d (pool.Does key action))) (pool_next d key sound sit (pool.Does key action) s tt)
+  sends_step (pool.Puts count) p (Some (Open front w asks)) s put may known left =
+      sent_step (pool.Puts count) front w asks p (puts_stand d key outs outs2 sound sit count front.stage w p s may known left)
+  sends_step (pool.Ends count) p (Some (Open front w asks)) s put may known left =
+      sent_step (pool.Ends count) front w asks p (ends_stand d key outs outs2 sound sit count front.stage w p s may left)
+  sends_step pool.Asks p (Some (Open front w asks)) s put may known left = absurd put
+  sends_step pool.Stops p (Some (Open front w asks)) s put may known left = absurd put
 
-  pub sends_if : (k : ℕ) (deed : Deed) (b : Bool) (p : Place) (o : Option End) → (k == key) ≡ b → StoryOf outs d key p o → IsPut deed → (k ≡ key → MayDo deed o) → Known d key outs outs2 sound sit → Left (desk.Does k deed)
-      → Behind (desk.Does k deed) p (if b then if_open o (λ front withdrawn. gone_on (sent_by d (desk.Does k deed))) else []) o (if b then option_map (goes_on (sent_by d (desk.Does k deed))) o else o)
-  sends_if k deed true p o e s put may known left =
+  pub sends_if : (k : ℕ) (action : Action) (b : Bool) (p : Place) (o : Option End) → (k == key) ≡ b → StoryOf outs d key p o → IsPut action → (k ≡ key → MayDo action o) → Known d key outs outs2 sound sit → Left (pool.Does k action)
+      → Behind (pool.Does k action) p (if b then if_open o (λ front withdrawn. gone_on (sent_by d (pool.Does k action))) else []) o (if b then option_map (goes_on (sent_by d (pool.Does k action))) o else o)
+  sends_if k action true p o e s put may known left =
       let is = eqb-true k key e in
-      let P : ℕ → Type 0 = λ (x : ℕ). Left (desk.Does x deed)
-      → Behind (desk.Does x deed) p (if_open o (λ front withdrawn. gone_on (sent_by d (desk.Does x deed)))) o (option_map (goes_on (sent_by d (desk.Does x deed))) o) in
-      let here : P key = sends_step deed p o s put (may is) known in
+      let P : ℕ → Type 0 = λ (x : ℕ). Left (pool.Does x action)
+      → Behind (pool.Does x action) p (if_open o (λ front withdrawn. gone_on (sent_by d (pool.Does x action)))) o (option_map (goes_on (sent_by d (pool.Does x action))) o) in
+      let here : P key = sends_step action p o s put (may is) known in
       let there : P k = subst P (sym is) here in
       there left
-  sends_if k deed false p o e s put may known left = apart_step (desk.Does k deed) p o s (λ n. e) tt tt left
+  sends_if k action false p o e s put may known left = apart_step (pool.Does k action) p o s (λ n. e) tt tt left
 
   -- ---- It lets its connection go, or that is lost
 
-  lets_step : (gives : Bool) (way : Way) (p : Place) (o : Option End) → StoryOf outs d key p o → IfOpen IsHere o → Behind (desk.Leaves key gives way) p [] o (option_map lets_go o)
-  lets_step gives way p None s may = stays_gone d key s (desk.Leaves key gives way) tt
+  lets_step : (gives : Bool) (way : Way) (p : Place) (o : Option End) → StoryOf outs d key p o → IfOpen IsHere o → Behind (pool.Leaves key gives way) p [] o (option_map lets_go o)
+  lets_step gives way p None s may = stays_gone d key s (pool.Leaves key gives way) tt
   lets_step gives way p (Some (Open front w asks)) s may =
-      stays_next outs2 (turn d (desk.Leaves key gives way)).desk key front.stage false p (lets_stand d key outs outs2 sound sit gives way front.stage w p s may)
-  lets_step gives way p (Some (Over why)) s may = desk_next d key sound sit (desk.Leaves key gives way) s tt
+      stays_next outs2 (turn d (pool.Leaves key gives way)).pool key front.stage false p (lets_stand d key outs outs2 sound sit gives way front.stage w p s may)
+  lets_step gives way p (Some (Over why)) s may = pool_next d key sound sit (pool.Leaves key gives way) s tt
 
   pub lets_if : (k : ℕ) (gives : Bool) (way : Way) (b : Bool) (p : Place) (o : Option End) → (k == key) ≡ b → StoryOf outs d key p o → (k ≡ key → IfOpen IsHere o)
-      → As (λ x. desk.Leaves x gives way) k p [] o (if b then option_map lets_go o else o)
-  lets_if k gives way true p o e s may = own (λ x. desk.Leaves x gives way) k p [] o (option_map lets_go o) e (λ left. lets_step gives way p o s (may (eqb-true k key e)))
-  lets_if k gives way false p o e s may = apart_step (desk.Leaves k gives way) p o s (λ n. e) tt tt
+      → As (λ x. pool.Leaves x gives way) k p [] o (if b then option_map lets_go o else o)
+  lets_if k gives way true p o e s may = own (λ x. pool.Leaves x gives way) k p [] o (option_map lets_go o) e (λ left. lets_step gives way p o s (may (eqb-true k key e)))
+  lets_if k gives way false p o e s may = apart_step (pool.Leaves k gives way) p o s (λ n. e) tt tt
 
-  unlost_step : (n : ℕ) (p : Place) (o : Option End) → StoryOf outs d key p o → (holder d n ≡ Some key → ⊥) → Left (desk.Loses n) → Behind (desk.Loses n) p [] o o
-  unlost_step n p None s apart left = stays_gone d key s (desk.Loses n) tt
+  unlost_step : (n : ℕ) (p : Place) (o : Option End) → StoryOf outs d key p o → (holder d n ≡ Some key → ⊥) → Left (pool.Loses n) → Behind (pool.Loses n) p [] o o
+  unlost_step n p None s apart left = stays_gone d key s (pool.Loses n) tt
   unlost_step n p (Some (Open front w asks)) s apart left =
-      stays_next outs2 (turn d (desk.Loses n)).desk key front.stage w p (unlost_stands d key outs outs2 sound sit n front.stage w p s apart left)
-  unlost_step n p (Some (Over why)) s apart left = desk_next d key sound sit (desk.Loses n) s tt
+      stays_next outs2 (turn d (pool.Loses n)).pool key front.stage w p (unlost_stands d key outs outs2 sound sit n front.stage w p s apart left)
+  unlost_step n p (Some (Over why)) s apart left = pool_next d key sound sit (pool.Loses n) s tt
 
-  lost_step : (n : ℕ) (p : Place) (o : Option End) → StoryOf outs d key p o → Behind (desk.Loses n) p [] o (option_map closes o)
-  lost_step n p None s = stays_gone d key s (desk.Loses n) tt
-  lost_step n p (Some (Open front w asks)) s = desk_next d key sound sit (desk.Loses n) (at_desk outs d key front.stage w p s) tt
-  lost_step n p (Some (Over why)) s = desk_next d key sound sit (desk.Loses n) s tt
+  lost_step : (n : ℕ) (p : Place) (o : Option End) → StoryOf outs d key p o → Behind (pool.Loses n) p [] o (option_map closes o)
+  lost_step n p None s = stays_gone d key s (pool.Loses n) tt
+  lost_step n p (Some (Open front w asks)) s = pool_next d key sound sit (pool.Loses n) (at_pool outs d key front.stage w p s) tt
+  lost_step n p (Some (Over why)) s = pool_next d key sound sit (pool.Loses n) s tt
 
-  replaced_step : (n : ℕ) (p : Place) (o : Option End) → StoryOf outs d key p o → IfOpen IsHere o → holder d n ≡ Some key → Behind (desk.Loses n) p [] o (option_map lets_go o)
-  replaced_step n p None s may mine = stays_gone d key s (desk.Loses n) tt
+  replaced_step : (n : ℕ) (p : Place) (o : Option End) → StoryOf outs d key p o → IfOpen IsHere o → holder d n ≡ Some key → Behind (pool.Loses n) p [] o (option_map lets_go o)
+  replaced_step n p None s may mine = stays_gone d key s (pool.Loses n) tt
   replaced_step n p (Some (Open front w asks)) s may mine =
-      stays_next outs2 (turn d (desk.Loses n)).desk key front.stage false p (replaced_stands d key outs outs2 sound sit n front.stage w p s may mine)
-  replaced_step n p (Some (Over why)) s may mine = desk_next d key sound sit (desk.Loses n) s tt
+      stays_next outs2 (turn d (pool.Loses n)).pool key front.stage false p (replaced_stands d key outs outs2 sound sit n front.stage w p s may mine)
+  replaced_step n p (Some (Over why)) s may mine = pool_next d key sound sit (pool.Loses n) s tt
 
   -- somebody's, who is this application or another
   not_some : (k : ℕ) (who : Option ℕ) → who ≡ Some k → (k == key) ≡ false → who ≡ Some key → ⊥
@@ -189,23 +189,23 @@ module _ (d : Desk) (key : ℕ) (outs outs2 : ℕ → Bool) (sound : Sound d) (s
   not_none : (who : Option ℕ) → who ≡ None → who ≡ Some key → ⊥
   not_none who e f = (let two : None ≡ Some key = sym e ∙ f in let u : ⊥ = cc in u)
 
-  loses_if : (n k : ℕ) (b : Bool) (p : Place) (o : Option End) → holder d n ≡ Some k → (k == key) ≡ b → StoryOf outs d key p o → Left (desk.Loses n) → Behind (desk.Loses n) p [] o (if b then option_map closes o else o)
+  loses_if : (n k : ℕ) (b : Bool) (p : Place) (o : Option End) → holder d n ≡ Some k → (k == key) ≡ b → StoryOf outs d key p o → Left (pool.Loses n) → Behind (pool.Loses n) p [] o (if b then option_map closes o else o)
   loses_if n k true p o h e s left = lost_step n p o s
   loses_if n k false p o h e s left = unlost_step n p o s (not_some k (holder d n) h e) left
 
-  pub loses_whose : (n : ℕ) (who : Option ℕ) (p : Place) (o : Option End) → holder d n ≡ who → StoryOf outs d key p o → Left (desk.Loses n) → Behind (desk.Loses n) p [] o (whose_by key who closes o)
+  pub loses_whose : (n : ℕ) (who : Option ℕ) (p : Place) (o : Option End) → holder d n ≡ who → StoryOf outs d key p o → Left (pool.Loses n) → Behind (pool.Loses n) p [] o (whose_by key who closes o)
   loses_whose n None p o h s left = unlost_step n p o s (not_none (holder d n) h) left
   loses_whose n (Some k) p o h s left = loses_if n k (k == key) p o h refl s left
 
-  replaces_if : (n k : ℕ) (b : Bool) (p : Place) (o : Option End) → holder d n ≡ Some k → (k == key) ≡ b → StoryOf outs d key p o → (k ≡ key → IfOpen IsHere o) → Left (desk.Loses n)
-      → Behind (desk.Loses n) p [] o (if b then option_map lets_go o else o)
+  replaces_if : (n k : ℕ) (b : Bool) (p : Place) (o : Option End) → holder d n ≡ Some k → (k == key) ≡ b → StoryOf outs d key p o → (k ≡ key → IfOpen IsHere o) → Left (pool.Loses n)
+      → Behind (pool.Loses n) p [] o (if b then option_map lets_go o else o)
   replaces_if n k true p o h e s may left =
       let is = eqb-true k key e in
       replaced_step n p o s (may is) (h ∙ ap (λ (x : ℕ). Some x) is)
   replaces_if n k false p o h e s may left = unlost_step n p o s (not_some k (holder d n) h e) left
 
-  pub replaces_whose : (n : ℕ) (who : Option ℕ) (p : Place) (o : Option End) → holder d n ≡ who → StoryOf outs d key p o → (who ≡ Some key → IfOpen IsHere o) → Left (desk.Loses n)
-      → Behind (desk.Loses n) p [] o (whose_by key who lets_go o)
+  pub replaces_whose : (n : ℕ) (who : Option ℕ) (p : Place) (o : Option End) → holder d n ≡ who → StoryOf outs d key p o → (who ≡ Some key → IfOpen IsHere o) → Left (pool.Loses n)
+      → Behind (pool.Loses n) p [] o (whose_by key who lets_go o)
   replaces_whose n None p o h s may left = unlost_step n p o s (not_none (holder d n) h) left
   replaces_whose n (Some k) p o h s may left = replaces_if n k (k == key) p o h refl s (λ is. may (ap (λ (x : ℕ). Some x) is)) left
 
@@ -214,42 +214,42 @@ module _ (d : Desk) (key : ℕ) (outs outs2 : ℕ → Bool) (sound : Sound d) (s
   abbrev Heard : ℕ → Part Token → Option End → List Passed
   Heard n part o = if_open o (λ front withdrawn. unless_withdrawn withdrawn (said_in (done_by d n part)))
 
-  told_over : (why : Option FrontFault) (what : Rattle.tds_relay.specs.declared.desk.coming.What.What) → Over why ≡ told what (Over why)
-  told_over why Rattle.tds_relay.specs.declared.desk.coming.What.TheVariants.Goes = refl
-  told_over why Rattle.tds_relay.specs.declared.desk.coming.What.TheVariants.Finished = refl
-  told_over why Rattle.tds_relay.specs.declared.desk.coming.What.TheVariants.Acknowledged = refl
-  told_over why Rattle.tds_relay.specs.declared.desk.coming.What.TheVariants.Closed = refl
+  told_over : (why : Option FrontFault) (what : Rattle.tds_relay.specs.declared.pool.coming.What.What) → Over why ≡ told what (Over why)
+  told_over why Rattle.tds_relay.specs.declared.pool.coming.What.TheVariants.Goes = refl
+  told_over why Rattle.tds_relay.specs.declared.pool.coming.What.TheVariants.Finished = refl
+  told_over why Rattle.tds_relay.specs.declared.pool.coming.What.TheVariants.Acknowledged = refl
+  told_over why Rattle.tds_relay.specs.declared.pool.coming.What.TheVariants.Closed = refl
 
-  heard_step : (n : ℕ) (part : Part Token) (way : Way) (p : Place) (o : Option End) → StoryOf outs d key p o → whose d n ≡ Some key → Left (desk.Comes n part way)
-      → Behind (desk.Comes n part way) p (Heard n part o) o (option_map (told (what_in (done_by d n part))) o)
-  heard_step n part way p None s mine left = stays_gone d key s (desk.Comes n part way) tt
+  heard_step : (n : ℕ) (part : Part Token) (way : Way) (p : Place) (o : Option End) → StoryOf outs d key p o → whose d n ≡ Some key → Left (pool.Comes n part way)
+      → Behind (pool.Comes n part way) p (Heard n part o) o (option_map (told (what_in (done_by d n part))) o)
+  heard_step n part way p None s mine left = stays_gone d key s (pool.Comes n part way) tt
   heard_step n part way p (Some (Open front w asks)) s mine left = hears_stand d key outs outs2 sound sit n part way front w asks p s mine left
   heard_step n part way p (Some (Over why)) s mine left =
-      subst (λ (x : End). StepOf outs2 (turn d (desk.Comes n part way)).desk key p [] (Some (Over why)) (Some x)) (told_over why (what_in (done_by d n part))) (desk_next d key sound sit (desk.Comes n part way) s tt)
+      subst (λ (x : End). StepOf outs2 (turn d (pool.Comes n part way)).pool key p [] (Some (Over why)) (Some x)) (told_over why (what_in (done_by d n part))) (pool_next d key sound sit (pool.Comes n part way) s tt)
 
-  unheard_step : (n : ℕ) (part : Part Token) (way : Way) (p : Place) (o : Option End) → StoryOf outs d key p o → (whose d n ≡ Some key → ⊥) → Left (desk.Comes n part way) → Behind (desk.Comes n part way) p [] o o
-  unheard_step n part way p None s apart left = stays_gone d key s (desk.Comes n part way) tt
+  unheard_step : (n : ℕ) (part : Part Token) (way : Way) (p : Place) (o : Option End) → StoryOf outs d key p o → (whose d n ≡ Some key → ⊥) → Left (pool.Comes n part way) → Behind (pool.Comes n part way) p [] o o
+  unheard_step n part way p None s apart left = stays_gone d key s (pool.Comes n part way) tt
   unheard_step n part way p (Some (Open front w asks)) s apart left =
-      stays_next outs2 (turn d (desk.Comes n part way)).desk key front.stage w p (unheard_stands d key outs outs2 sound sit n part way front.stage w p s apart left)
-  unheard_step n part way p (Some (Over why)) s apart left = desk_next d key sound sit (desk.Comes n part way) s tt
+      stays_next outs2 (turn d (pool.Comes n part way)).pool key front.stage w p (unheard_stands d key outs outs2 sound sit n part way front.stage w p s apart left)
+  unheard_step n part way p (Some (Over why)) s apart left = pool_next d key sound sit (pool.Comes n part way) s tt
 
-  comes_if : (n k : ℕ) (part : Part Token) (way : Way) (b : Bool) (p : Place) (o : Option End) → whose d n ≡ Some k → (k == key) ≡ b → StoryOf outs d key p o → Left (desk.Comes n part way)
-      → Behind (desk.Comes n part way) p (if b then Heard n part o else []) o (if b then option_map (told (what_in (done_by d n part))) o else o)
+  comes_if : (n k : ℕ) (part : Part Token) (way : Way) (b : Bool) (p : Place) (o : Option End) → whose d n ≡ Some k → (k == key) ≡ b → StoryOf outs d key p o → Left (pool.Comes n part way)
+      → Behind (pool.Comes n part way) p (if b then Heard n part o else []) o (if b then option_map (told (what_in (done_by d n part))) o else o)
   comes_if n k part way true p o h e s left = heard_step n part way p o s (h ∙ ap (λ (x : ℕ). Some x) (eqb-true k key e)) left
   comes_if n k part way false p o h e s left = unheard_step n part way p o s (not_some k (whose d n) h e) left
 
-  pub comes_whose : (n : ℕ) (part : Part Token) (way : Way) (who : Option ℕ) (p : Place) (o : Option End) → whose d n ≡ who → StoryOf outs d key p o → Left (desk.Comes n part way)
-      → Behind (desk.Comes n part way) p (if_whose key who (Heard n part o)) o (whose_by key who (told (what_in (done_by d n part))) o)
+  pub comes_whose : (n : ℕ) (part : Part Token) (way : Way) (who : Option ℕ) (p : Place) (o : Option End) → whose d n ≡ who → StoryOf outs d key p o → Left (pool.Comes n part way)
+      → Behind (pool.Comes n part way) p (if_whose key who (Heard n part o)) o (whose_by key who (told (what_in (done_by d n part))) o)
   comes_whose n part way None p o h s left = unheard_step n part way p o s (not_none (whose d n) h) left
   comes_whose n part way (Some k) p o h s left = comes_if n k part way (k == key) p o h refl s left
 
   -- ---- It quits
 
-  quits_step : (gives : Bool) (way : Way) (p : Place) (o : Option End) → StoryOf outs d key p o → Behind (desk.Leaves key gives way) p [] o None
-  quits_step gives way p None s = stays_gone d key s (desk.Leaves key gives way) tt
-  quits_step gives way p (Some (Open front w asks)) s = quits_gone d key gives way sound (at_desk outs d key front.stage w p s)
+  quits_step : (gives : Bool) (way : Way) (p : Place) (o : Option End) → StoryOf outs d key p o → Behind (pool.Leaves key gives way) p [] o None
+  quits_step gives way p None s = stays_gone d key s (pool.Leaves key gives way) tt
+  quits_step gives way p (Some (Open front w asks)) s = quits_gone d key gives way sound (at_pool outs d key front.stage w p s)
   quits_step gives way p (Some (Over why)) s = quits_gone d key gives way sound s
 
-  pub quits_if : (k : ℕ) (gives : Bool) (way : Way) (b : Bool) (p : Place) (o : Option End) → (k == key) ≡ b → StoryOf outs d key p o → As (λ x. desk.Leaves x gives way) k p [] o (if b then None else o)
-  quits_if k gives way true p o e s = own (λ x. desk.Leaves x gives way) k p [] o None e (λ left. quits_step gives way p o s)
-  quits_if k gives way false p o e s = apart_step (desk.Leaves k gives way) p o s (λ n. e) tt tt
+  pub quits_if : (k : ℕ) (gives : Bool) (way : Way) (b : Bool) (p : Place) (o : Option End) → (k == key) ≡ b → StoryOf outs d key p o → As (λ x. pool.Leaves x gives way) k p [] o (if b then None else o)
+  quits_if k gives way true p o e s = own (λ x. pool.Leaves x gives way) k p [] o None e (λ left. quits_step gives way p o s)
+  quits_if k gives way false p o e s = apart_step (pool.Leaves k gives way) p o s (λ n. e) tt tt

@@ -12,9 +12,9 @@ use Rattle.tds_service.specs.Line.{Line, Act, Answer, Packet, Turn, turn}
 use Rattle.tds_service.specs.History.{history, line_after}
 use Rattle.tds_service.specs.Refusing.{packets}
 use Rattle.tds_service.specs.Ties.{sent_in}
-use Rattle.tds_relay.specs.Desk as desk
+use Rattle.tds_relay.specs.Pool as pool
 use Rattle.tds_relay.specs.Behind.{gone_on}
-use Rattle.tds_relay.specs.Hall.{IsBegun, IsHere, IsWhole}
+use Rattle.tds_relay.specs.Core.{IsBegun, IsHere, IsWhole}
 use Rattle.tds_relay.proofs.ends.Fronting.{line_at, out_of, place_of}
 use Rattle.tds_relay.proofs.ends.Outs.{out_after}
 use Rattle.tds_relay.proofs.ends.Leading.{IsGone, Leads, leads_nothing}
@@ -49,14 +49,14 @@ not_here_stopping stage e h = let u : IsHere stages.Stopping = subst IsHere e h 
 
 -- ---- A request is asked; nothing of it passes the end
 
-abbrev StageAfter : Line → desk.Deed → line.Stage
-StageAfter l deed = (line_after l (acts_done l deed)).stage
+abbrev StageAfter : Line → pool.Action → line.Stage
+StageAfter l action = (line_after l (acts_done l action)).stage
 
-abbrev OutAfter : Bool → Line → desk.Deed → Bool
-OutAfter out l deed = out_after out (history l (acts_done l deed))
+abbrev OutAfter : Bool → Line → pool.Action → Bool
+OutAfter out l action = out_after out (history l (acts_done l action))
 
 asks_at : (n : ℕ) (s : line.Stage) (h : Heard) (stage : Stage) (w : Bool) (p : Place) (out : Bool) → Tied stage w p s out
-    → Tied stage w p (StageAfter (line_at n s h) desk.Asks) (OutAfter out (line_at n s h) desk.Asks)
+    → Tied stage w p (StageAfter (line_at n s h) pool.Asks) (OutAfter out (line_at n s h) pool.Asks)
 asks_at n line.Idle h stage true p out t = let e : line.Idle ≡ line.Cancelling = t.0 in absurd (let u : ⊥ = cc in u)
 asks_at n line.Idle h stage false p out t = t
 asks_at n (line.Sending begun) h stage w p out t = t
@@ -64,13 +64,13 @@ asks_at n line.Reading h stage w p out t = t
 asks_at n line.Cancelling h stage w p out t = t
 asks_at n (line.Broken fault) h stage w p out t = t
 
-pub asks_tied : (l : Line) (stage : Stage) (w : Bool) (p : Place) (out : Bool) → Tied stage w p l.stage out → Tied stage w p (StageAfter l desk.Asks) (OutAfter out l desk.Asks)
+pub asks_tied : (l : Line) (stage : Stage) (w : Bool) (p : Place) (out : Bool) → Tied stage w p l.stage out → Tied stage w p (StageAfter l pool.Asks) (OutAfter out l pool.Asks)
 asks_tied l stage w p out t = asks_at l.asked l.stage l.heard stage w p out t
 
 -- ---- It is taken back where nothing of it has gone on
 
 stops_at : (n : ℕ) (s : line.Stage) (h : Heard) (stage : Stage) (w : Bool) (p : Place) (out : Bool) → Tied stage w p s out → IsHere stage
-    → Tied stage w p (StageAfter (line_at n s h) desk.Stops) (OutAfter out (line_at n s h) desk.Stops)
+    → Tied stage w p (StageAfter (line_at n s h) pool.Stops) (OutAfter out (line_at n s h) pool.Stops)
 stops_at n line.Idle h stage w p out t here = t
 stops_at n (line.Sending false) h stage true p out t here = let e : line.Sending false ≡ line.Cancelling = t.0 in absurd (let u : ⊥ = cc in u)
 stops_at n (line.Sending false) h stage false p out t here = t
@@ -81,7 +81,7 @@ stops_at n line.Reading h stage false p out t here = absurd (not_here_underway s
 stops_at n line.Cancelling h stage w p out t here = t
 stops_at n (line.Broken fault) h stage w p out t here = t
 
-pub stops_tied : (l : Line) (stage : Stage) (w : Bool) (p : Place) (out : Bool) → Tied stage w p l.stage out → IsHere stage → Tied stage w p (StageAfter l desk.Stops) (OutAfter out l desk.Stops)
+pub stops_tied : (l : Line) (stage : Stage) (w : Bool) (p : Place) (out : Bool) → Tied stage w p l.stage out → IsHere stage → Tied stage w p (StageAfter l pool.Stops) (OutAfter out l pool.Stops)
 stops_tied l stage w p out t here = stops_at l.asked l.stage l.heard stage w p out t here
 
 -- ---- Where it lets its connection go, the place behind it is ready
@@ -133,8 +133,8 @@ gone_at (line.Broken fault) stage false p out t gone = absurd t.0
 
 -- an attention goes out
 pub record Stopped (l : Line) (out : Bool) : Type 0 where
-  pub stage_is : StageAfter l desk.Stops ≡ line.Cancelling
-  pub out_is : OutAfter out l desk.Stops ≡ out
+  pub stage_is : StageAfter l pool.Stops ≡ line.Cancelling
+  pub out_is : OutAfter out l pool.Stops ≡ out
 
 pub stopped_sending : (l : Line) (out : Bool) → l.stage ≡ line.Sending true → Stopped l out
 stopped_sending l out e = subst (λ (s : line.Stage). Stopped (line_at l.asked s l.heard) out) (sym e) (record { stage_is = refl; out_is = refl })
@@ -269,7 +269,7 @@ at_ready : (stage : Stage) (p : Place) (out : Bool) (l : Line) (acts : List (Act
 at_ready stage p out l acts e s = subst (λ (x : Place). SentBy stage false x out l acts) (sym e) s
 
 puts_at : (n : ℕ) (s : line.Stage) (h : Heard) (count : ℕ) (stage : Stage) (w : Bool) (p : Place) (out : Bool) → Tied stage w p s out → IsBegun stage → out_of s out ≡ out
-    → SentBy stage w p out (line_at n s h) (acts_done (line_at n s h) (desk.Puts count))
+    → SentBy stage w p out (line_at n s h) (acts_done (line_at n s h) (pool.Puts count))
 puts_at n line.Idle h count stage w p out t b e = sent_nothing (line_at n line.Idle h) stage w p out t
 puts_at n (line.Sending begun) h count stage true p out t b e = let e : line.Sending begun ≡ line.Cancelling = t.0 in absurd (let u : ⊥ = cc in u)
 puts_at n (line.Sending begun) h count stage false p out t b e =
@@ -279,7 +279,7 @@ puts_at n line.Cancelling h count stage w p out t b e = sent_nothing (line_at n 
 puts_at n (line.Broken fault) h count stage w p out t b e = sent_nothing (line_at n (line.Broken fault) h) stage w p out t
 
 ends_by : (n : ℕ) (s : line.Stage) (h : Heard) (count : ℕ) (stage : Stage) (w : Bool) (p : Place) (out : Bool) → Tied stage w p s out → IsWhole stage
-    → SentBy stage w p out (line_at n s h) (acts_done (line_at n s h) (desk.Ends count))
+    → SentBy stage w p out (line_at n s h) (acts_done (line_at n s h) (pool.Ends count))
 ends_by n line.Idle h count stage w p out t b = sent_nothing (line_at n line.Idle h) stage w p out t
 ends_by n (line.Sending begun) h count stage true p out t b = let e : line.Sending begun ≡ line.Cancelling = t.0 in absurd (let u : ⊥ = cc in u)
 ends_by n (line.Sending begun) h count stage false p out t b = at_ready stage p out (line_at n (line.Sending begun) h) (packets count ++ line.Send true ∷ []) t.1 (sent_ends n h begun count stage out b)
@@ -288,8 +288,8 @@ ends_by n line.Cancelling h count stage w p out t b = sent_nothing (line_at n li
 ends_by n (line.Broken fault) h count stage w p out t b = sent_nothing (line_at n (line.Broken fault) h) stage w p out t
 
 pub puts_tied : (l : Line) (count : ℕ) (stage : Stage) (w : Bool) (p : Place) (out : Bool) → Tied stage w p l.stage out → IsBegun stage → out_of l.stage out ≡ out
-    → SentBy stage w p out l (acts_done l (desk.Puts count))
+    → SentBy stage w p out l (acts_done l (pool.Puts count))
 puts_tied l count stage w p out t b e = puts_at l.asked l.stage l.heard count stage w p out t b e
 
-pub ends_tied : (l : Line) (count : ℕ) (stage : Stage) (w : Bool) (p : Place) (out : Bool) → Tied stage w p l.stage out → IsWhole stage → SentBy stage w p out l (acts_done l (desk.Ends count))
+pub ends_tied : (l : Line) (count : ℕ) (stage : Stage) (w : Bool) (p : Place) (out : Bool) → Tied stage w p l.stage out → IsWhole stage → SentBy stage w p out l (acts_done l (pool.Ends count))
 ends_tied l count stage w p out t b = ends_by l.asked l.stage l.heard count stage w p out t b

@@ -11,10 +11,10 @@ use Rattle.tds_service.specs.Service as calls
 use Rattle.tds_service.specs.Service.{Service, Step, Call, Leased, Seat, find_by, is_lendable, lease_at, on, on_one, seat_numbered, step, steps, does}
 use Rattle.tds_service.proofs.Numbered.{added_here, change_here}
 use Rattle.tds_service.proofs.Tests.{above}
-use Rattle.tds_relay.specs.declared.desk.Hold.{Hold}
-use Rattle.tds_relay.specs.Desk as desk
-use Rattle.tds_relay.specs.Desk.{Desk, Event, Deed, Turn, Way, Hearing, find_key, holding, lent_in, moves, ticket_in, turn, without_lease}
-use Rattle.tds_relay.specs.Hall.{is_in}
+use Rattle.tds_relay.specs.declared.pool.Hold.{Hold}
+use Rattle.tds_relay.specs.Pool as pool
+use Rattle.tds_relay.specs.Pool.{Pool, Event, Action, Turn, Way, Hearing, find_key, holding, lent_in, moves, ticket_in, turn, without_lease}
+use Rattle.tds_relay.specs.Core.{is_in}
 use Rattle.tds_relay.specs.Promises.{Each}
 use Rattle.tds_relay.proofs.promises.Seats.{found_meets}
 use Rattle.tds_relay.proofs.promises.Tidy.{UpTo}
@@ -27,11 +27,11 @@ use Rattle.tds_relay.proofs.held.Ours.{Gone}
 use Rattle.tds_relay.proofs.held.Kept.{IsLent}
 
 -- It holds none, and waits once at most.
-pub record IsAbsent (key : ℕ) (d : Desk) : Type 0 where
+pub record IsAbsent (key : ℕ) (d : Pool) : Type 0 where
   pub none : theirs key d.holds ≡ []
   pub once : Once key d.line
 
-pub gone_absent : (key : ℕ) (d : Desk) → Gone key d → IsAbsent key d
+pub gone_absent : (key : ℕ) (d : Pool) → Gone key d → IsAbsent key d
 gone_absent key d gone = record { none = gone.holds; once = inl gone.waits }
 
 -- who doesn't wait has no place
@@ -45,20 +45,20 @@ no_place key (k ∷ ks) e = no_place_by key k ks (k == key) e (no_place key ks)
 
 -- ---- What leaves it away
 
-module _ (d : Desk) (key : ℕ) (none : theirs key d.holds ≡ []) (L : List ℕ → Type 0) (once : L d.line) (left : (p : ℕ → Bool) (line : List ℕ) → L line → L (filter p line)) where
+module _ (d : Pool) (key : ℕ) (none : theirs key d.holds ≡ []) (L : List ℕ → Type 0) (once : L d.line) (left : (p : ℕ → Bool) (line : List ℕ) → L line → L (filter p line)) where
   -- it holds none still, and the line is so still
   abbrev pub StaysOut : Turn → Type 0
-  StaysOut t = (theirs key t.desk.holds ≡ []) × L t.desk.line
+  StaysOut t = (theirs key t.pool.holds ≡ []) × L t.pool.line
 
-  brings_away : (s : Service) (gives : Bool) (way : Way) (o : Option desk.Loan) → StaysOut (desk.brings_by d s gives way o)
+  brings_away : (s : Service) (gives : Bool) (way : Way) (o : Option pool.Loan) → StaysOut (pool.brings_by d s gives way o)
   brings_away s gives way None = (none, once)
   brings_away s gives way (Some loan) = (none, once)
 
-  does_away : (deed : Deed) (o : Option Hold) → StaysOut (desk.does d deed o)
-  does_away deed None = (none, once)
-  does_away deed (Some x) = (none, once)
+  does_away : (action : Action) (o : Option Hold) → StaysOut (pool.does d action o)
+  does_away action None = (none, once)
+  does_away action (Some x) = (none, once)
 
-  leaves_away : (other : ℕ) (gives : Bool) (way : Way) (o : Option Hold) → StaysOut (desk.leaves d other gives way o)
+  leaves_away : (other : ℕ) (gives : Bool) (way : Way) (o : Option Hold) → StaysOut (pool.leaves d other gives way o)
   leaves_away other gives way None = (none, left (λ (k : ℕ). not (k == other)) d.line once)
   leaves_away other gives way (Some x) =
       (theirs_still key (λ (y : Hold). not (y.lease == x.lease)) d.holds none, left (λ (k : ℕ). not (k == other)) d.line once)
@@ -74,7 +74,7 @@ module _ (d : Desk) (key : ℕ) (none : theirs key d.holds ≡ []) (L : List ℕ
   differs : (other : ℕ) (x : Hold) → find_key other d.holds ≡ Some x → (x.key == key) ≡ false
   differs other x found = let b : (x.key == key) ≡ false = differs_by other x (x.key == key) refl found in b
 
-  renews_by_away : (other : ℕ) (x : Hold) (ticket : ℕ) (o : Option desk.Loan) (resumes : Bool) → find_key other d.holds ≡ Some x → StaysOut (desk.renews_by d x ticket o resumes)
+  renews_by_away : (other : ℕ) (x : Hold) (ticket : ℕ) (o : Option pool.Loan) (resumes : Bool) → find_key other d.holds ≡ Some x → StaysOut (pool.renews_by d x ticket o resumes)
   renews_by_away other x ticket o false e = (theirs_still key (λ (y : Hold). not (y.number == x.number)) d.holds none, once)
   renews_by_away other x ticket None true e = (theirs_still key (λ (y : Hold). not (y.number == x.number)) d.holds none, once)
   renews_by_away other x ticket (Some loan) true e = (
@@ -82,49 +82,49 @@ module _ (d : Desk) (key : ℕ) (none : theirs key d.holds ≡ []) (L : List ℕ
     once,
   )
 
-  keeps_by_away : (other : ℕ) (x : Hold) (resumes : Bool) (s : Service) (o : Option ℕ) → find_key other d.holds ≡ Some x → StaysOut (desk.keeps_by d x resumes s o)
+  keeps_by_away : (other : ℕ) (x : Hold) (resumes : Bool) (s : Service) (o : Option ℕ) → find_key other d.holds ≡ Some x → StaysOut (pool.keeps_by d x resumes s o)
   keeps_by_away other x resumes s None e = (none, once)
   keeps_by_away other x resumes s (Some ticket) e = renews_by_away other x ticket (lent_in (step {T = Token} s (calls.Resume ticket)).reply) resumes e
 
-  renews_away : (other : ℕ) (resumes : Bool) (o : Option Hold) → find_key other d.holds ≡ o → StaysOut (desk.renews d resumes o)
+  renews_away : (other : ℕ) (resumes : Bool) (o : Option Hold) → find_key other d.holds ≡ o → StaysOut (pool.renews d resumes o)
   renews_away other resumes None e = (none, once)
   renews_away other resumes (Some x) e =
       let kept = step {T = Token} d.service (calls.Keep x.lease) in
       keeps_by_away other x resumes kept.service (ticket_in kept.reply) e
 
-  comes_away : (number : ℕ) (call : Call Token) (s : Service) (way : Way) (o : Option ℕ) (hearing : Hearing) → StaysOut (desk.comes_by d call s number way o hearing)
-  comes_away number call s way o desk.Goes = (none, once)
-  comes_away number call s way o desk.Settled = (none, once)
-  comes_away number call s way o desk.Wrong = (theirs_still key (λ (y : Hold). not (y.number == number)) d.holds none, once)
+  comes_away : (number : ℕ) (call : Call Token) (s : Service) (way : Way) (o : Option ℕ) (hearing : Hearing) → StaysOut (pool.comes_by d call s number way o hearing)
+  comes_away number call s way o pool.Goes = (none, once)
+  comes_away number call s way o pool.Settled = (none, once)
+  comes_away number call s way o pool.Wrong = (theirs_still key (λ (y : Hold). not (y.number == number)) d.holds none, once)
 
-  serves_by_away : (k : ℕ) (others : List ℕ) (o : Option desk.Loan) → (k == key) ≡ false → L others → StaysOut (desk.serves_by d k others o)
+  serves_by_away : (k : ℕ) (others : List ℕ) (o : Option pool.Loan) → (k == key) ≡ false → L others → StaysOut (pool.serves_by d k others o)
   serves_by_away k others None ne behind = (none, once)
   serves_by_away k others (Some loan) ne behind = (theirs_other key (holding k loan.lease loan.number) d.holds [] none ne, behind)
 
-  pub serves_others : (k : ℕ) (others : List ℕ) → d.line ≡ k ∷ others → (k == key) ≡ false → L others → StaysOut (turn d desk.Serves)
+  pub serves_others : (k : ℕ) (others : List ℕ) → d.line ≡ k ∷ others → (k == key) ≡ false → L others → StaysOut (turn d pool.Serves)
   serves_others k others waits ne behind =
-      subst (λ (y : List ℕ). StaysOut (desk.serves d y)) (sym waits) (serves_by_away k others (lent_in (step {T = Token} d.service calls.Lease).reply) ne behind)
+      subst (λ (y : List ℕ). StaysOut (pool.serves d y)) (sym waits) (serves_by_away k others (lent_in (step {T = Token} d.service calls.Lease).reply) ne behind)
 
-  pub serves_nobody : d.line ≡ [] → StaysOut (turn d desk.Serves)
-  serves_nobody waits = subst (λ (y : List ℕ). StaysOut (desk.serves d y)) (sym waits) (none, once)
+  pub serves_nobody : d.line ≡ [] → StaysOut (turn d pool.Serves)
+  serves_nobody waits = subst (λ (y : List ℕ). StaysOut (pool.serves d y)) (sym waits) (none, once)
 
   -- So it is behind any event, where who comes to wait leaves the line so, and the line is served so.
-  pub walk : (Q : Event → Type 0) → ((event : Event) → StaysOut (turn d event) → Q event) → Q desk.Serves → (event : Event) → ((other : ℕ) → event ≡ desk.Waits other → L (d.line ++ other ∷ [])) → Q event
-  walk Q so served (desk.Waits other) waits = so (desk.Waits other) (none, waits other refl)
-  walk Q so served (desk.Unwaits other) waits = so (desk.Unwaits other) (none, left (λ (k : ℕ). not (k == other)) d.line once)
-  walk Q so served desk.Serves waits = served
-  walk Q so served (desk.Brings gives way) waits =
+  pub walk : (Q : Event → Type 0) → ((event : Event) → StaysOut (turn d event) → Q event) → Q pool.Serves → (event : Event) → ((other : ℕ) → event ≡ pool.Waits other → L (d.line ++ other ∷ [])) → Q event
+  walk Q so served (pool.Waits other) waits = so (pool.Waits other) (none, waits other refl)
+  walk Q so served (pool.Unwaits other) waits = so (pool.Unwaits other) (none, left (λ (k : ℕ). not (k == other)) d.line once)
+  walk Q so served pool.Serves waits = served
+  walk Q so served (pool.Brings gives way) waits =
       let lent = step {T = Token} d.service calls.Lease in
-      so (desk.Brings gives way) (brings_away lent.service gives way (lent_in lent.reply))
-  walk Q so served (desk.Does other deed) waits = so (desk.Does other deed) (does_away deed (find_key other d.holds))
-  walk Q so served (desk.Leaves other gives way) waits = so (desk.Leaves other gives way) (leaves_away other gives way (find_key other d.holds))
-  walk Q so served (desk.Renews other resumes) waits = so (desk.Renews other resumes) (renews_away other resumes (find_key other d.holds) refl)
-  walk Q so served (desk.Comes number part way) waits =
+      so (pool.Brings gives way) (brings_away lent.service gives way (lent_in lent.reply))
+  walk Q so served (pool.Does other action) waits = so (pool.Does other action) (does_away action (find_key other d.holds))
+  walk Q so served (pool.Leaves other gives way) waits = so (pool.Leaves other gives way) (leaves_away other gives way (find_key other d.holds))
+  walk Q so served (pool.Renews other resumes) waits = so (pool.Renews other resumes) (renews_away other resumes (find_key other d.holds) refl)
+  walk Q so served (pool.Comes number part way) waits =
       let heard = step {T = Token} d.service (calls.Came number part) in
-      so (desk.Comes number part way) (comes_away number (calls.Came number part) heard.service way (lease_at (seat_numbered number d.service.seats)) (desk.hearing heard.dones))
-  walk Q so served (desk.Loses number) waits = so (desk.Loses number) (theirs_still key (λ (y : Hold). not (y.number == number)) d.holds none, once)
+      so (pool.Comes number part way) (comes_away number (calls.Came number part) heard.service way (lease_at (seat_numbered number d.service.seats)) (pool.hearing heard.dones))
+  walk Q so served (pool.Loses number) waits = so (pool.Loses number) (theirs_still key (λ (y : Hold). not (y.number == number)) d.holds none, once)
 
-waits_once : (d : Desk) (key other : ℕ) (b : Bool) → Once key d.line → (other == key) ≡ b → (other ≡ key → places key d.line ≡ []) → Once key (d.line ++ other ∷ [])
+waits_once : (d : Pool) (key other : ℕ) (b : Bool) → Once key d.line → (other == key) ≡ b → (other ≡ key → places key d.line ≡ []) → Once key (d.line ++ other ∷ [])
 waits_once d key other true once e away =
     let is : other ≡ key = eqb-true other key e in
     let line = line_one key d.line (away is) in
@@ -134,20 +134,20 @@ waits_once d key other false once e away = subst (λ (x : List ℕ). (x ≡ []) 
 -- ---- It's lent one
 
 -- It was clean, and is marked; or it's new, and nothing is done there yet.
-pub data Origin (d : Desk) (number : ℕ) (l : Line) : Type 0 where
+pub data Origin (d : Pool) (number : ℕ) (l : Line) : Type 0 where
   Clean : (was : Line) → was.stage ≡ line.Idle → l ≡ line_after {T = Token} was (line.Mark Full ∷ []) → Origin d number l
-  New : number ≡ suc d.service.last → l ≡ new_line → on number (steps d.service (turn d desk.Serves).calls) ≡ [] → Origin d number l
+  New : number ≡ suc d.service.last → l ≡ new_line → on number (steps d.service (turn d pool.Serves).calls) ≡ [] → Origin d number l
 
-pub record IsServed (key : ℕ) (d : Desk) : Type 0 where
+pub record IsServed (key : ℕ) (d : Pool) : Type 0 where
   pub hold : Hold
   pub seat : Seat
-  pub its : Its (turn d desk.Serves).desk key hold seat
+  pub its : Its (turn d pool.Serves).pool key hold seat
   pub origin : Origin d hold.number seat.line
 
 pub full_idle : (l : Line) → l.stage ≡ line.Idle → (line_after {T = Token} l (line.Mark Full ∷ [])).stage ≡ line.Idle
 full_idle l is = ap (λ (st : Stage). (line.marks {T = Token} l Full st).line.stage) is ∙ is
 
-pub origin_idle : (d : Desk) (number : ℕ) (l : Line) → Origin d number l → l.stage ≡ line.Idle
+pub origin_idle : (d : Pool) (number : ℕ) (l : Line) → Origin d number l → l.stage ≡ line.Idle
 origin_idle d number l (Clean was idle is) = ap (λ (x : Line). x.stage) is ∙ full_idle was idle
 origin_idle d number l (New at is out) = ap (λ (x : Line). x.stage) is
 
@@ -158,25 +158,25 @@ numbered_none last (c ∷ cs) h =
     let ne : (c.number == suc last) ≡ false = above c.number (suc last) (omega arith) in
     rw ne (numbered_none last cs h.1)
 
-module _ (d : Desk) (key k : ℕ) (others : List ℕ) (x : IsAbsent key d) (sound : Sound d) (waits : d.line ≡ k ∷ others) (mine : (k == key) ≡ true) where
+module _ (d : Pool) (key k : ℕ) (others : List ℕ) (x : IsAbsent key d) (sound : Sound d) (waits : d.line ≡ k ∷ others) (mine : (k == key) ≡ true) where
   abbrev Served : Type 0
-  Served = IsServed key d ⊎ IsAbsent key (turn d desk.Serves).desk
+  Served = IsServed key d ⊎ IsAbsent key (turn d pool.Serves).pool
 
   is_first : (lease number : ℕ) (l : Line) → lent_in (step {T = Token} d.service calls.Lease).reply ≡ Some (record { lease = lease; number = number })
       → seat_numbered number (step {T = Token} d.service calls.Lease).service.seats ≡ Some (record { number = number; place = Leased lease; line = l }) → Origin d number l → Served
   is_first lease number l lent there origin =
       let h = holding k lease number in
       let c : Seat = record { number = number; place = Leased lease; line = l } in
-      let t : turn d desk.Serves ≡ moves d (d.holds ++ h ∷ []) others (calls.Lease ∷ []) = ap (λ (y : List ℕ). desk.serves d y) waits ∙ ap (λ (y : Option desk.Loan). desk.serves_by d k others y) lent in
+      let t : turn d pool.Serves ≡ moves d (d.holds ++ h ∷ []) others (calls.Lease ∷ []) = ap (λ (y : List ℕ). pool.serves d y) waits ∙ ap (λ (y : Option pool.Loan). pool.serves_by d k others y) lent in
       let once : Once key (k ∷ others) = subst (λ (y : List ℕ). Once key y) waits x.once in
-      let its : Its (turn d desk.Serves).desk key h c =
-      subst (λ (y : Turn). Its y.desk key h c) (sym t) (record { sole = theirs_one key h d.holds x.none mine; there = there; lent = refl; line = none_behind key k others once mine }) in
+      let its : Its (turn d pool.Serves).pool key h c =
+      subst (λ (y : Turn). Its y.pool key h c) (sym t) (record { sole = theirs_one key h d.holds x.none mine; there = there; lent = refl; line = none_behind key k others once mine }) in
       inl (record { hold = h; seat = c; its = its; origin = origin })
 
   not_lent : lent_in (step {T = Token} d.service calls.Lease).reply ≡ None → Served
   not_lent none =
-      let t : turn d desk.Serves ≡ moves d d.holds d.line [] = ap (λ (y : List ℕ). desk.serves d y) waits ∙ ap (λ (y : Option desk.Loan). desk.serves_by d k others y) none in
-      inr (record { none = ap (λ (y : Turn). theirs key y.desk.holds) t ∙ x.none; once = subst (λ (y : Turn). Once key y.desk.line) (sym t) x.once })
+      let t : turn d pool.Serves ≡ moves d d.holds d.line [] = ap (λ (y : List ℕ). pool.serves d y) waits ∙ ap (λ (y : Option pool.Loan). pool.serves_by d k others y) none in
+      inr (record { none = ap (λ (y : Turn). theirs key y.pool.holds) t ∙ x.none; once = subst (λ (y : Turn). Once key y.pool.line) (sym t) x.once })
 
   lent_used : (c : Seat) → find_by is_lendable d.service.seats ≡ Some c → Served
   lent_used c e =
@@ -197,9 +197,9 @@ module _ (d : Desk) (key k : ℕ) (others : List ℕ) (x : IsAbsent key d) (soun
       ap (λ (o : Option Seat). calls.lends {T = Token} d.service o) e ∙ ap (λ (b : Bool). calls.opens {T = Token} d.service b) room in
       let there : seat_numbered number (d.service.seats ++ c ∷ []) ≡ Some c = added_here c d.service.seats (numbered_none d.service.last d.service.seats sound.tidy.upto) in
       let lent : lent_in (step {T = Token} d.service calls.Lease).reply ≡ Some (record { lease = lease; number = number }) = ap (λ (t : Step Token). lent_in t.reply) did in
-      let t : turn d desk.Serves ≡ moves d (d.holds ++ holding k lease number ∷ []) others (calls.Lease ∷ []) =
-      ap (λ (y : List ℕ). desk.serves d y) waits ∙ ap (λ (y : Option desk.Loan). desk.serves_by d k others y) lent in
-      let out : on number (steps d.service (turn d desk.Serves).calls) ≡ [] = ap (λ (y : Turn). on number (steps d.service y.calls)) t
+      let t : turn d pool.Serves ≡ moves d (d.holds ++ holding k lease number ∷ []) others (calls.Lease ∷ []) =
+      ap (λ (y : List ℕ). pool.serves d y) waits ∙ ap (λ (y : Option pool.Loan). pool.serves_by d k others y) lent in
+      let out : on number (steps d.service (turn d pool.Serves).calls) ≡ [] = ap (λ (y : Turn). on number (steps d.service y.calls)) t
       ∙ ap (λ (y : Step Token). on_one (y.number == number) y.dones []) did ∙ none_on (0 == number) [] in
       is_first lease number new_line lent (ap (λ (y : Step Token). seat_numbered number y.service.seats) did ∙ there) (New refl refl out)
 
@@ -213,15 +213,15 @@ module _ (d : Desk) (key k : ℕ) (others : List ℕ) (x : IsAbsent key d) (soun
 
 -- ---- Any event
 
-abbrev Then : ℕ → Desk → Type 0
+abbrev Then : ℕ → Pool → Type 0
 Then key d = IsLent key d ⊎ IsAbsent key d
 
 -- It waits only where it doesn't.
-abbrev pub WaitsOnce : ℕ → Desk → Event → Type 0
-WaitsOnce key d (desk.Waits other) = other ≡ key → (find_key key d.holds ≡ None) × (places key d.line ≡ [])
+abbrev pub WaitsOnce : ℕ → Pool → Event → Type 0
+WaitsOnce key d (pool.Waits other) = other ≡ key → (find_key key d.holds ≡ None) × (places key d.line ≡ [])
 WaitsOnce key d event = Unit {0}
 
-module _ (d : Desk) (key : ℕ) (x : IsAbsent key d) (sound : Sound d) where
+module _ (d : Pool) (key : ℕ) (x : IsAbsent key d) (sound : Sound d) where
   abbrev L : List ℕ → Type 0
   L line = Once key line
 
@@ -231,60 +231,60 @@ module _ (d : Desk) (key : ℕ) (x : IsAbsent key d) (sound : Sound d) where
   abbrev Q : Turn → Type 0
   Q t = StaysOut d key x.none L x.once left t
 
-  stays : (event : Event) → Q (turn d event) → IsAbsent key (turn d event).desk
+  stays : (event : Event) → Q (turn d event) → IsAbsent key (turn d event).pool
   stays event p = record { none = p.0; once = p.1 }
 
-  serves_first : (k : ℕ) (others : List ℕ) (b : Bool) → (k == key) ≡ b → d.line ≡ k ∷ others → IsServed key d ⊎ IsAbsent key (turn d desk.Serves).desk
+  serves_first : (k : ℕ) (others : List ℕ) (b : Bool) → (k == key) ≡ b → d.line ≡ k ∷ others → IsServed key d ⊎ IsAbsent key (turn d pool.Serves).pool
   serves_first k others true mine waits = lent_by d key k others x sound waits mine (find_by is_lendable d.service.seats) refl
   serves_first k others false mine waits =
-      inr (stays desk.Serves (serves_others d key x.none L x.once left k others waits mine (once_behind key k others (subst L waits x.once) mine)))
+      inr (stays pool.Serves (serves_others d key x.none L x.once left k others waits mine (once_behind key k others (subst L waits x.once) mine)))
 
-  serves_line : (waiting : List ℕ) → d.line ≡ waiting → IsServed key d ⊎ IsAbsent key (turn d desk.Serves).desk
-  serves_line [] waits = inr (stays desk.Serves (serves_nobody d key x.none L x.once left waits))
+  serves_line : (waiting : List ℕ) → d.line ≡ waiting → IsServed key d ⊎ IsAbsent key (turn d pool.Serves).pool
+  serves_line [] waits = inr (stays pool.Serves (serves_nobody d key x.none L x.once left waits))
   serves_line (k ∷ others) waits = serves_first k others (k == key) refl waits
 
   -- the line is served
-  pub served : IsServed key d ⊎ IsAbsent key (turn d desk.Serves).desk
+  pub served : IsServed key d ⊎ IsAbsent key (turn d pool.Serves).pool
   served = serves_line d.line refl
 
   -- or anything else happens
-  pub away_walk : (Q : Event → Type 0) → ((event : Event) → IsAbsent key (turn d event).desk → Q event) → Q desk.Serves → (event : Event) → ((other : ℕ) → event ≡ desk.Waits other → other ≡ key → places key d.line ≡ []) → Q event
+  pub away_walk : (Q : Event → Type 0) → ((event : Event) → IsAbsent key (turn d event).pool → Q event) → Q pool.Serves → (event : Event) → ((other : ℕ) → event ≡ pool.Waits other → other ≡ key → places key d.line ≡ []) → Q event
   away_walk Q so serves event waits =
       walk d key x.none L x.once left Q (λ e p. so e (stays e p)) serves event (λ other is. waits_once d key other (other == key) x.once refl (waits other is))
 
-  lent_then : IsServed key d ⊎ IsAbsent key (turn d desk.Serves).desk → Then key (turn d desk.Serves).desk
+  lent_then : IsServed key d ⊎ IsAbsent key (turn d pool.Serves).pool → Then key (turn d pool.Serves).pool
   lent_then (inl lent) = inl (record { hold = lent.hold; seat = lent.seat; its = lent.its; idle = origin_idle d lent.hold.number lent.seat.line lent.origin })
   lent_then (inr absent) = inr absent
 
-  pub away : (event : Event) → WaitsOnce key d event → Then key (turn d event).desk
+  pub away : (event : Event) → WaitsOnce key d event → Then key (turn d event).pool
   away event once =
-      away_walk (λ e. Then key (turn d e).desk) (λ e absent. inr absent) (lent_then served) event
+      away_walk (λ e. Then key (turn d e).pool) (λ e absent. inr absent) (lent_then served) event
       (λ other is mine. (let w : other ≡ key → (find_key key d.holds ≡ None) × (places key d.line ≡ []) = subst (λ (e : Event). WaitsOnce key d e) is once in (w mine).1))
 
 -- ---- One that isn't there neither holds nor waits
 
 -- It comes to wait no more.
 abbrev pub WaitsNot : ℕ → Event → Type 0
-WaitsNot key (desk.Waits other) = (other == key) ≡ false
+WaitsNot key (pool.Waits other) = (other == key) ≡ false
 WaitsNot key event = Unit {0}
 
-module _ (d : Desk) (key : ℕ) (x : Gone key d) where
+module _ (d : Pool) (key : ℕ) (x : Gone key d) where
   abbrev G : List ℕ → Type 0
   G line = places key line ≡ []
 
   out : (p : ℕ → Bool) (line : List ℕ) → G line → G (filter p line)
   out p line none = none_filtered key p line none
 
-  gone_by : (event : Event) → StaysOut d key x.holds G x.waits out (turn d event) → Gone key (turn d event).desk
+  gone_by : (event : Event) → StaysOut d key x.holds G x.waits out (turn d event) → Gone key (turn d event).pool
   gone_by event p = record { holds = p.0; waits = p.1 }
 
-  gone_serves : (waiting : List ℕ) → d.line ≡ waiting → Gone key (turn d desk.Serves).desk
-  gone_serves [] waits = gone_by desk.Serves (serves_nobody d key x.holds G x.waits out waits)
+  gone_serves : (waiting : List ℕ) → d.line ≡ waiting → Gone key (turn d pool.Serves).pool
+  gone_serves [] waits = gone_by pool.Serves (serves_nobody d key x.holds G x.waits out waits)
   gone_serves (k ∷ others) waits =
       let f = first_other key k others (subst G waits x.waits) in
-      gone_by desk.Serves (serves_others d key x.holds G x.waits out k others waits f.0 f.1)
+      gone_by pool.Serves (serves_others d key x.holds G x.waits out k others waits f.0 f.1)
 
-  pub stays_gone : (event : Event) → WaitsNot key event → Gone key (turn d event).desk
+  pub stays_gone : (event : Event) → WaitsNot key event → Gone key (turn d event).pool
   stays_gone event others =
-      walk d key x.holds G x.waits out (λ e. Gone key (turn d e).desk) gone_by (gone_serves d.line refl) event
+      walk d key x.holds G x.waits out (λ e. Gone key (turn d e).pool) gone_by (gone_serves d.line refl) event
       (λ other is. (let ne : (other == key) ≡ false = subst (λ (e : Event). WaitsNot key e) is others in line_other key other d.line ne ∙ x.waits))

@@ -6,11 +6,11 @@ use Rattle.tds_wire.specs.declared.told.Token.{Token}
 use Rattle.tds_service.specs.Parts.{Part}
 use Rattle.tds_service.specs.Service as calls
 use Rattle.tds_service.specs.Service.{Call, Service, lease_at, seat_numbered, step}
-use Rattle.tds_relay.specs.declared.desk.Hold.{Hold}
-use Rattle.tds_relay.specs.Desk as desk
-use Rattle.tds_relay.specs.Desk.{Deed, Desk, Event, Hearing, Loan, Way, brings_by, comes_by, does, find_key, find_lease, find_number, hearing, holding, keeps_by, key_of, lent_in, renews, renews_by, serves, serves_by, ticket_in, turn, whose, without_lease, without_number}
-use Rattle.tds_relay.specs.Hall as hall
-use Rattle.tds_relay.specs.Hall.{CausesMove, Hall, IsQuiet, Move, Moves, holder, moved, moved_all}
+use Rattle.tds_relay.specs.declared.pool.Hold.{Hold}
+use Rattle.tds_relay.specs.Pool as pool
+use Rattle.tds_relay.specs.Pool.{Action, Pool, Event, Hearing, Loan, Way, brings_by, comes_by, does, find_key, find_lease, find_number, hearing, holding, keeps_by, key_of, lent_in, renews, renews_by, serves, serves_by, ticket_in, turn, whose, without_lease, without_number}
+use Rattle.tds_relay.specs.Core as core
+use Rattle.tds_relay.specs.Core.{CausesMove, Core, IsQuiet, Move, Moves, holder, moved, moved_all}
 use Rattle.tds_relay.specs.Promises.{Each}
 use Rattle.tds_relay.specs.Ties.{Application, Causes, Connection, IsReached, Neither, Parking}
 use Rattle.tds_relay.proofs.ends.Standing.{cared_number}
@@ -51,27 +51,27 @@ other_left m n key hs (inr differs) e = ap key_of (sym (same_left m n hs differs
 -- ---- What is done
 
 -- Each who holds a connection held it.
-abbrev pub HoldsFewer : Desk → Desk → Type 0
+abbrev pub HoldsFewer : Pool → Pool → Type 0
 HoldsFewer a b = (n key : ℕ) → key_of (find_number n b.holds) ≡ Some key → key_of (find_number n a.holds) ≡ Some key
 
-fewer_same : (a b : Desk) → b.holds ≡ a.holds → HoldsFewer a b
+fewer_same : (a b : Pool) → b.holds ≡ a.holds → HoldsFewer a b
 fewer_same a b same = λ n key e. ap (λ (hs : List Hold). key_of (find_number n hs)) (sym same) ∙ e
 
-fewer_without : (a b : Desk) (m : ℕ) → b.holds ≡ without_number m a.holds → HoldsFewer a b
+fewer_without : (a b : Pool) (m : ℕ) → b.holds ≡ without_number m a.holds → HoldsFewer a b
 fewer_without a b m same = λ n key e. other_left m n key a.holds (cases_eq m n) (ap (λ (hs : List Hold). key_of (find_number n hs)) (sym same) ∙ e)
 
 -- Fewer wait, or as many do, and then each who holds a connection held it.
-record Thins (a b : Desk) : Type 0 where
+record Thins (a b : Pool) : Type 0 where
   shorter : length b.line ≤ length a.line
   fewer : length b.line ≡ length a.line → HoldsFewer a b
 
-thins_as : (a b : Desk) → b.line ≡ a.line → HoldsFewer a b → Thins a b
+thins_as : (a b : Pool) → b.line ≡ a.line → HoldsFewer a b → Thins a b
 thins_as a b line fewer = record {
   shorter = (let same : length b.line ≡ length a.line = ap (λ (ks : List ℕ). length ks) line in let u : length b.line ≤ length a.line = omega (arith, same) in u);
   fewer = λ e. fewer;
 }
 
-thins_both : (a b c : Desk) → Thins a b → Thins b c → Thins a c
+thins_both : (a b c : Pool) → Thins a b → Thins b c → Thins a c
 thins_both a b c h k =
     let one : length b.line ≤ length a.line = h.shorter in
     let two : length c.line ≤ length b.line = k.shorter in
@@ -84,8 +84,8 @@ thins_both a b c h k =
           h.fewer first n key (k.fewer last n key is);
     }
 
-serves_by_thins : (d : Desk) (k : ℕ) (others : List ℕ) (o : Option Loan) → d.line ≡ k ∷ others → Thins d (serves_by d k others o).desk
-serves_by_thins d k others None is = thins_as d (serves_by d k others None).desk refl (fewer_same d (serves_by d k others None).desk refl)
+serves_by_thins : (d : Pool) (k : ℕ) (others : List ℕ) (o : Option Loan) → d.line ≡ k ∷ others → Thins d (serves_by d k others o).pool
+serves_by_thins d k others None is = thins_as d (serves_by d k others None).pool refl (fewer_same d (serves_by d k others None).pool refl)
 serves_by_thins d k others (Some lent) is =
     let all : length d.line ≡ suc (length others) = ap (λ (ks : List ℕ). length ks) is in
     record {
@@ -93,68 +93,68 @@ serves_by_thins d k others (Some lent) is =
       fewer = λ e. absurd (let same : length others ≡ length d.line = e in let u : ⊥ = omega (arith, all, same) in u);
     }
 
-serves_thins : (d : Desk) (waiting : List ℕ) → d.line ≡ waiting → Thins d (serves d waiting).desk
-serves_thins d [] is = thins_as d (serves d []).desk refl (fewer_same d (serves d []).desk refl)
+serves_thins : (d : Pool) (waiting : List ℕ) → d.line ≡ waiting → Thins d (serves d waiting).pool
+serves_thins d [] is = thins_as d (serves d []).pool refl (fewer_same d (serves d []).pool refl)
 serves_thins d (k ∷ others) is = serves_by_thins d k others (lent_in (step {T = Token} d.service calls.Lease).reply) is
 
-brings_thins : (d : Desk) (s : Service) (gives : Bool) (way : Way) (o : Option Loan) → Thins d (brings_by d s gives way o).desk
-brings_thins d s gives way None = thins_as d (brings_by d s gives way None).desk refl (fewer_same d (brings_by d s gives way None).desk refl)
-brings_thins d s gives way (Some lent) = thins_as d (brings_by d s gives way (Some lent)).desk refl (fewer_same d (brings_by d s gives way (Some lent)).desk refl)
+brings_thins : (d : Pool) (s : Service) (gives : Bool) (way : Way) (o : Option Loan) → Thins d (brings_by d s gives way o).pool
+brings_thins d s gives way None = thins_as d (brings_by d s gives way None).pool refl (fewer_same d (brings_by d s gives way None).pool refl)
+brings_thins d s gives way (Some lent) = thins_as d (brings_by d s gives way (Some lent)).pool refl (fewer_same d (brings_by d s gives way (Some lent)).pool refl)
 
-does_thins : (d : Desk) (deed : Deed) (o : Option Hold) → Thins d (does d deed o).desk
-does_thins d deed None = thins_as d (does d deed None).desk refl (fewer_same d (does d deed None).desk refl)
-does_thins d deed (Some h) = thins_as d (does d deed (Some h)).desk refl (fewer_same d (does d deed (Some h)).desk refl)
+does_thins : (d : Pool) (action : Action) (o : Option Hold) → Thins d (does d action o).pool
+does_thins d action None = thins_as d (does d action None).pool refl (fewer_same d (does d action None).pool refl)
+does_thins d action (Some h) = thins_as d (does d action (Some h)).pool refl (fewer_same d (does d action (Some h)).pool refl)
 
-lost_thins : (d : Desk) (m : ℕ) → Thins d (turn d (desk.Loses m)).desk
-lost_thins d m = thins_as d (turn d (desk.Loses m)).desk refl (fewer_without d (turn d (desk.Loses m)).desk m refl)
+lost_thins : (d : Pool) (m : ℕ) → Thins d (turn d (pool.Loses m)).pool
+lost_thins d m = thins_as d (turn d (pool.Loses m)).pool refl (fewer_without d (turn d (pool.Loses m)).pool m refl)
 
-pub loses_fewer : (d : Desk) (m : ℕ) → HoldsFewer d (turn d (desk.Loses m)).desk
-loses_fewer d m = fewer_without d (turn d (desk.Loses m)).desk m refl
+pub loses_fewer : (d : Pool) (m : ℕ) → HoldsFewer d (turn d (pool.Loses m)).pool
+loses_fewer d m = fewer_without d (turn d (pool.Loses m)).pool m refl
 
-event_thins : (d : Desk) (event : Event) → Causes Neither event → Thins d (turn d event).desk
-event_thins d (desk.Waits key) cause = absurd cause
-event_thins d (desk.Unwaits key) cause = absurd (let e : Neither ≡ Application key = cause in let u : ⊥ = cc in u)
-event_thins d desk.Serves cause = serves_thins d d.line refl
-event_thins d (desk.Brings gives way) cause =
+event_thins : (d : Pool) (event : Event) → Causes Neither event → Thins d (turn d event).pool
+event_thins d (pool.Waits key) cause = absurd cause
+event_thins d (pool.Unwaits key) cause = absurd (let e : Neither ≡ Application key = cause in let u : ⊥ = cc in u)
+event_thins d pool.Serves cause = serves_thins d d.line refl
+event_thins d (pool.Brings gives way) cause =
     let lent = step {T = Token} d.service calls.Lease in
     brings_thins d lent.service gives way (lent_in lent.reply)
-event_thins d (desk.Does key deed) cause = does_thins d deed (find_key key d.holds)
-event_thins d (desk.Leaves key gives way) cause = absurd (let e : Neither ≡ Application key = cause in let u : ⊥ = cc in u)
-event_thins d (desk.Renews key resumes) cause = absurd cause
-event_thins d (desk.Comes m part way) cause = absurd (let e : Neither ≡ Connection m = cause in let u : ⊥ = cc in u)
-event_thins d (desk.Loses m) cause = lost_thins d m
+event_thins d (pool.Does key action) cause = does_thins d action (find_key key d.holds)
+event_thins d (pool.Leaves key gives way) cause = absurd (let e : Neither ≡ Application key = cause in let u : ⊥ = cc in u)
+event_thins d (pool.Renews key resumes) cause = absurd cause
+event_thins d (pool.Comes m part way) cause = absurd (let e : Neither ≡ Connection m = cause in let u : ⊥ = cc in u)
+event_thins d (pool.Loses m) cause = lost_thins d m
 
-move_thins : (h : Hall) (move : Move) → CausesMove Neither move → IsQuiet move → Thins h.desk (moved h move).desk
-move_thins h (hall.Does event) cause quiet = event_thins h.desk event cause
-move_thins h (hall.Sends key deed) cause quiet = does_thins h.desk deed (find_key key h.desk.holds)
-move_thins h (hall.LetsGo key true gives way) cause quiet = absurd (let e : Neither ≡ Parking key = cause in let u : ⊥ = cc in u)
-move_thins h (hall.LetsGo key false gives way) cause quiet = absurd (let e : Neither ≡ Application key = cause in let u : ⊥ = cc in u)
-move_thins h (hall.Loses m) cause quiet = lost_thins h.desk m
-move_thins h (hall.Replaces m) cause quiet = absurd (let e : Neither ≡ Connection m = cause in let u : ⊥ = cc in u)
-move_thins h (hall.Comes m part way) cause quiet = absurd quiet
-move_thins h (hall.Feeds key bytes) cause quiet = absurd quiet
-move_thins h (hall.Closes key) cause quiet = thins_as h.desk h.desk refl (fewer_same h.desk h.desk refl)
-move_thins h (hall.Enters key ends) cause quiet = absurd quiet
-move_thins h (hall.Quits key gives way) cause quiet = absurd quiet
+move_thins : (h : Core) (move : Move) → CausesMove Neither move → IsQuiet move → Thins h.pool (moved h move).pool
+move_thins h (core.Does event) cause quiet = event_thins h.pool event cause
+move_thins h (core.Sends key action) cause quiet = does_thins h.pool action (find_key key h.pool.holds)
+move_thins h (core.LetsGo key true gives way) cause quiet = absurd (let e : Neither ≡ Parking key = cause in let u : ⊥ = cc in u)
+move_thins h (core.LetsGo key false gives way) cause quiet = absurd (let e : Neither ≡ Application key = cause in let u : ⊥ = cc in u)
+move_thins h (core.Loses m) cause quiet = lost_thins h.pool m
+move_thins h (core.Replaces m) cause quiet = absurd (let e : Neither ≡ Connection m = cause in let u : ⊥ = cc in u)
+move_thins h (core.Comes m part way) cause quiet = absurd quiet
+move_thins h (core.Feeds key bytes) cause quiet = absurd quiet
+move_thins h (core.Closes key) cause quiet = thins_as h.pool h.pool refl (fewer_same h.pool h.pool refl)
+move_thins h (core.Enters key ends) cause quiet = absurd quiet
+move_thins h (core.Quits key gives way) cause quiet = absurd quiet
 
-all_thin : (h : Hall) (moves : List Move) → Each (CausesMove Neither) moves → Each IsQuiet moves → Thins h.desk (moved_all h moves).desk
-all_thin h [] caused quiet = thins_as h.desk h.desk refl (fewer_same h.desk h.desk refl)
+all_thin : (h : Core) (moves : List Move) → Each (CausesMove Neither) moves → Each IsQuiet moves → Thins h.pool (moved_all h moves).pool
+all_thin h [] caused quiet = thins_as h.pool h.pool refl (fewer_same h.pool h.pool refl)
 all_thin h (move ∷ moves) caused quiet =
-    thins_both h.desk (moved h move).desk (moved_all (moved h move) moves).desk (move_thins h move caused.0 quiet.0) (all_thin (moved h move) moves caused.1 quiet.1)
+    thins_both h.pool (moved h move).pool (moved_all (moved h move) moves).pool (move_thins h move caused.0 quiet.0) (all_thin (moved h move) moves caused.1 quiet.1)
 
-pub fewer_moved : (a b : Hall) → Moves Neither a b → b.desk.line ≡ a.desk.line → HoldsFewer a.desk b.desk
+pub fewer_moved : (a b : Core) → Moves Neither a b → b.pool.line ≡ a.pool.line → HoldsFewer a.pool b.pool
 fewer_moved a b m line =
-    let t : Thins a.desk b.desk = subst (λ (h : Hall). Thins a.desk h.desk) m.are (all_thin a m.moves m.caused m.quiet) in
+    let t : Thins a.pool b.pool = subst (λ (h : Core). Thins a.pool h.pool) m.are (all_thin a m.moves m.caused m.quiet) in
     t.fewer (ap (λ (ks : List ℕ). length ks) line)
 
 -- ---- A packet comes
 
-comes_fewer_by : (d : Desk) (call : Call Token) (s : Service) (m : ℕ) (way : Way) (lease : Option ℕ) (h : Hearing) → HoldsFewer d (comes_by d call s m way lease h).desk
-comes_fewer_by d call s m way lease desk.Goes = fewer_same d (comes_by d call s m way lease desk.Goes).desk refl
-comes_fewer_by d call s m way lease desk.Settled = fewer_same d (comes_by d call s m way lease desk.Settled).desk refl
-comes_fewer_by d call s m way lease desk.Wrong = fewer_without d (comes_by d call s m way lease desk.Wrong).desk m refl
+comes_fewer_by : (d : Pool) (call : Call Token) (s : Service) (m : ℕ) (way : Way) (lease : Option ℕ) (h : Hearing) → HoldsFewer d (comes_by d call s m way lease h).pool
+comes_fewer_by d call s m way lease pool.Goes = fewer_same d (comes_by d call s m way lease pool.Goes).pool refl
+comes_fewer_by d call s m way lease pool.Settled = fewer_same d (comes_by d call s m way lease pool.Settled).pool refl
+comes_fewer_by d call s m way lease pool.Wrong = fewer_without d (comes_by d call s m way lease pool.Wrong).pool m refl
 
-pub comes_fewer : (d : Desk) (m : ℕ) (part : Part Token) (way : Way) → HoldsFewer d (turn d (desk.Comes m part way)).desk
+pub comes_fewer : (d : Pool) (m : ℕ) (part : Part Token) (way : Way) → HoldsFewer d (turn d (pool.Comes m part way)).pool
 comes_fewer d m part way =
     let heard = step {T = Token} d.service (calls.Came m part) in
     comes_fewer_by d (calls.Came m part) heard.service m way (lease_at (seat_numbered m d.service.seats)) (hearing heard.dones)
@@ -184,9 +184,9 @@ leased_number l h [] apart e = absurd (let u : ⊥ = cc in u)
 leased_number l h (x ∷ xs) apart e = leased_by (x.lease == l) (x.number == h.number) l h x xs refl e apart.0 (λ f. leased_number l h xs apart.1 f)
 
 -- to whom a packet is handed holds its connection
-pub whose_holds : (d : Desk) (n key : ℕ) → IsReached d → whose d n ≡ Some key → holder d n ≡ Some key
+pub whose_holds : (d : Pool) (n key : ℕ) → IsReached d → whose d n ≡ Some key → holder d n ≡ Some key
 whose_holds d n key reached e =
-    let sound : Sound d = subst (λ (x : Desk). Sound x) reached.2 (always_sound reached.0 reached.1) in
+    let sound : Sound d = subst (λ (x : Pool). Sound x) reached.2 (always_sound reached.0 reached.1) in
     let handed = handed_to_holder d n key sound e in
     let here : handed.hold.number ≡ n = cared_number d handed.hold n handed.seat sound handed.its handed.there handed.lent in
     let found : find_number handed.hold.number d.holds ≡ Some handed.hold = leased_number handed.hold.lease handed.hold d.holds (apart_at d reached) handed.its in
@@ -277,45 +277,45 @@ some_key None key e = absurd (let u : ⊥ = cc in u)
 some_key (Some h) key e = record { hold = h; is = refl; key_is = (let u : h.key ≡ key = cc in u) }
 
 -- Whoever holds a connection held it; or it is this one.
-abbrev HoldsBut : ℕ → Desk → Desk → Type 0
+abbrev HoldsBut : ℕ → Pool → Pool → Type 0
 HoldsBut key a b = (n k : ℕ) → key_of (find_number n b.holds) ≡ Some k → (k ≡ key) ⊎ (key_of (find_number n a.holds) ≡ Some k)
 
-but_kept : (p : Hold → Bool) (key : ℕ) (a b : Desk) → Apart a.holds → b.holds ≡ filter p a.holds → HoldsBut key a b
+but_kept : (p : Hold → Bool) (key : ℕ) (a b : Pool) → Apart a.holds → b.holds ≡ filter p a.holds → HoldsBut key a b
 but_kept p key a b apart same = λ n k e.
     let y = some_key (find_number n (filter p a.holds)) k (ap (λ (hs : List Hold). key_of (find_number n hs)) (sym same) ∙ e) in
     inr (ap key_of (kept_number p n y.hold a.holds apart y.is) ∙ ap (λ (m : ℕ). Some m) y.key_is)
 
-but_added_by : (key n k : ℕ) (a : Desk) (h x : Hold) (hs : List Hold) → x.key ≡ key → h.key ≡ k → (find_number n hs ≡ Some h → key_of (find_number n a.holds) ≡ Some k) → (find_number n hs ≡ Some h) ⊎ (h ≡ x)
+but_added_by : (key n k : ℕ) (a : Pool) (h x : Hold) (hs : List Hold) → x.key ≡ key → h.key ≡ k → (find_number n hs ≡ Some h → key_of (find_number n a.holds) ≡ Some k) → (find_number n hs ≡ Some h) ⊎ (h ≡ x)
     → (k ≡ key) ⊎ (key_of (find_number n a.holds) ≡ Some k)
 but_added_by key n k a h x hs mine is f (inl found) = inr (f found)
 but_added_by key n k a h x hs mine is f (inr same) = inl (sym is ∙ ap (λ (y : Hold). y.key) same ∙ mine)
 
-but_added : (p : Hold → Bool) (key : ℕ) (x : Hold) (a b : Desk) → Apart a.holds → x.key ≡ key → b.holds ≡ filter p a.holds ++ x ∷ [] → HoldsBut key a b
+but_added : (p : Hold → Bool) (key : ℕ) (x : Hold) (a b : Pool) → Apart a.holds → x.key ≡ key → b.holds ≡ filter p a.holds ++ x ∷ [] → HoldsBut key a b
 but_added p key x a b apart mine same = λ n k e.
     let y = some_key (find_number n (filter p a.holds ++ x ∷ [])) k (ap (λ (hs : List Hold). key_of (find_number n hs)) (sym same) ∙ e) in
     but_added_by key n k a y.hold x (filter p a.holds) mine y.key_is
     (λ found. ap key_of (kept_number p n y.hold a.holds apart found) ∙ ap (λ (m : ℕ). Some m) y.key_is)
     (added_number n y.hold x (filter p a.holds) y.is)
 
-but_same : (key : ℕ) (a b : Desk) → b.holds ≡ a.holds → HoldsBut key a b
+but_same : (key : ℕ) (a b : Pool) → b.holds ≡ a.holds → HoldsBut key a b
 but_same key a b same = λ n k e. inr (ap (λ (hs : List Hold). key_of (find_number n hs)) (sym same) ∙ e)
 
-module _ (d : Desk) (key : ℕ) (apart : Apart d.holds) where
-  renews_by_but : (h : Hold) (ticket : ℕ) (o : Option Loan) (resumes : Bool) → h.key ≡ key → HoldsBut key d (renews_by d h ticket o resumes).desk
-  renews_by_but h ticket o false mine = but_kept (λ (y : Hold). not (y.number == h.number)) key d (renews_by d h ticket o false).desk apart refl
-  renews_by_but h ticket None true mine = but_kept (λ (y : Hold). not (y.number == h.number)) key d (renews_by d h ticket None true).desk apart refl
+module _ (d : Pool) (key : ℕ) (apart : Apart d.holds) where
+  renews_by_but : (h : Hold) (ticket : ℕ) (o : Option Loan) (resumes : Bool) → h.key ≡ key → HoldsBut key d (renews_by d h ticket o resumes).pool
+  renews_by_but h ticket o false mine = but_kept (λ (y : Hold). not (y.number == h.number)) key d (renews_by d h ticket o false).pool apart refl
+  renews_by_but h ticket None true mine = but_kept (λ (y : Hold). not (y.number == h.number)) key d (renews_by d h ticket None true).pool apart refl
   renews_by_but h ticket (Some lent) true mine =
-      but_added (λ (y : Hold). not (y.lease == h.lease)) key (holding h.key lent.lease lent.number) d (renews_by d h ticket (Some lent) true).desk apart mine refl
+      but_added (λ (y : Hold). not (y.lease == h.lease)) key (holding h.key lent.lease lent.number) d (renews_by d h ticket (Some lent) true).pool apart mine refl
 
-  keeps_by_but : (h : Hold) (resumes : Bool) (s : Service) (o : Option ℕ) → h.key ≡ key → HoldsBut key d (keeps_by d h resumes s o).desk
-  keeps_by_but h resumes s None mine = but_same key d (keeps_by d h resumes s None).desk refl
+  keeps_by_but : (h : Hold) (resumes : Bool) (s : Service) (o : Option ℕ) → h.key ≡ key → HoldsBut key d (keeps_by d h resumes s o).pool
+  keeps_by_but h resumes s None mine = but_same key d (keeps_by d h resumes s None).pool refl
   keeps_by_but h resumes s (Some ticket) mine = renews_by_but h ticket (lent_in (step {T = Token} s (calls.Resume ticket)).reply) resumes mine
 
-  renews_but : (resumes : Bool) (o : Option Hold) → find_key key d.holds ≡ o → HoldsBut key d (renews d resumes o).desk
-  renews_but resumes None e = but_same key d (renews d resumes None).desk refl
+  renews_but : (resumes : Bool) (o : Option Hold) → find_key key d.holds ≡ o → HoldsBut key d (renews d resumes o).pool
+  renews_but resumes None e = but_same key d (renews d resumes None).pool refl
   renews_but resumes (Some h) e =
       let kept = step {T = Token} d.service (calls.Keep h.lease) in
       keeps_by_but h resumes kept.service (ticket_in kept.reply) (eqb-true h.key key (found_key key h d.holds e))
 
-pub renewed_but : (d : Desk) (key : ℕ) (resumes : Bool) → IsReached d → HoldsBut key d (turn d (desk.Renews key resumes)).desk
+pub renewed_but : (d : Pool) (key : ℕ) (resumes : Bool) → IsReached d → HoldsBut key d (turn d (pool.Renews key resumes)).pool
 renewed_but d key resumes reached = renews_but d key (apart_at d reached) resumes (find_key key d.holds) refl

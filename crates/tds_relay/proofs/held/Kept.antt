@@ -10,9 +10,9 @@ use Rattle.tds_service.specs.History.{history, line_after}
 use Rattle.tds_service.specs.Service as calls
 use Rattle.tds_service.specs.Service.{Step, Call, Place, Leased, Cleaning, Kept, Free, Draining, Seat, find_by, change_by, has_lease, has_ticket, has_number, is_idle, is_open, keeps, may_keep, seat_numbered, on, on_one, step, steps, does, nothing}
 use Rattle.tds_service.proofs.Numbered.{change_here, change_other, is_found}
-use Rattle.tds_relay.specs.declared.desk.Hold.{Hold}
-use Rattle.tds_relay.specs.Desk as desk
-use Rattle.tds_relay.specs.Desk.{Desk, Turn, holding, lent_in, moves, ticket_in, turn, without_lease, without_number}
+use Rattle.tds_relay.specs.declared.pool.Hold.{Hold}
+use Rattle.tds_relay.specs.Pool as pool
+use Rattle.tds_relay.specs.Pool.{Pool, Turn, holding, lent_in, moves, ticket_in, turn, without_lease, without_number}
 use Rattle.tds_relay.specs.Promises.{CaresFor, IsCaredFor}
 use Rattle.tds_relay.proofs.promises.Seats.{Distinct, each_found, found_meets, found_other}
 use Rattle.tds_relay.proofs.promises.Tidy.{step_rises}
@@ -32,14 +32,14 @@ may_idle c may = idle_is c.line.stage (and_first (is_idle c.line.stage) (is_open
 
 -- ---- The connection that is kept is found by its ticket
 
-not_kept : (d : Desk) (ticket n : ℕ) (place : Place) (l : line.Line) → IsCaredFor d.holds n place l → keeps ticket place ≡ true → ⊥
+not_kept : (d : Pool) (ticket n : ℕ) (place : Place) (l : line.Line) → IsCaredFor d.holds n place l → keeps ticket place ≡ true → ⊥
 not_kept d ticket n (Leased lease) l h e = let u : ⊥ = cc in u
 not_kept d ticket n (Cleaning lease) l h e = let u : ⊥ = cc in u
 not_kept d ticket n (Kept other) l h e = h
 not_kept d ticket n Free l h e = let u : ⊥ = cc in u
 not_kept d ticket n Draining l h e = let u : ⊥ = cc in u
 
-ticket_by : (d : Desk) (ticket : ℕ) (h : Hold) (c x : Seat) (b : Bool) → Sound d → find_by (has_lease h.lease) d.service.seats ≡ Some c → (c.number == x.number) ≡ b → has_ticket ticket x ≡ true
+ticket_by : (d : Pool) (ticket : ℕ) (h : Hold) (c x : Seat) (b : Bool) → Sound d → find_by (has_lease h.lease) d.service.seats ≡ Some c → (c.number == x.number) ≡ b → has_ticket ticket x ≡ true
     → seat_numbered x.number (change_by (has_lease h.lease) (Some (Kept ticket)) c.line d.service.seats) ≡ Some x → Some x ≡ Some (record { number = c.number; place = Kept ticket; line = c.line })
 ticket_by d ticket h c x true sound by e meets there =
     let number : c.number ≡ x.number = eqb-true c.number x.number e in
@@ -53,7 +53,7 @@ ticket_by d ticket h c x false sound by e meets there =
     let cared : CaresFor d.holds x = each_found (CaresFor d.holds) (has_number x.number) x d.service.seats sound.cared was in
     absurd (not_kept d ticket x.number x.place x.line cared meets)
 
-ticket_of : (d : Desk) (ticket : ℕ) (h : Hold) (c : Seat) (o : Option Seat) → Sound d → find_by (has_lease h.lease) d.service.seats ≡ Some c
+ticket_of : (d : Pool) (ticket : ℕ) (h : Hold) (c : Seat) (o : Option Seat) → Sound d → find_by (has_lease h.lease) d.service.seats ≡ Some c
     → Distinct (change_by (has_lease h.lease) (Some (Kept ticket)) c.line d.service.seats)
     → find_by (has_ticket ticket) (change_by (has_lease h.lease) (Some (Kept ticket)) c.line d.service.seats) ≡ o → o ≡ Some (record { number = c.number; place = Kept ticket; line = c.line })
 ticket_of d ticket h c None sound by distinct e =
@@ -72,7 +72,7 @@ marked_idle l is = ap (λ (st : Stage). (line.marks {T = Token} l KeepTransactio
 -- ---- What comes of it
 
 -- It holds an idle connection where it held one.
-pub record IsLent (key : ℕ) (d : Desk) : Type 0 where
+pub record IsLent (key : ℕ) (d : Pool) : Type 0 where
   pub hold : Hold
   pub seat : Seat
   pub its : Its d key hold seat
@@ -82,32 +82,32 @@ abbrev pub relent : ℕ → Seat → Seat
 relent lease c = record { number = c.number; place = Leased lease; line = line_after {T = Token} c.line (line.Mark KeepTransaction ∷ []) }
 
 -- It holds the one that it held, by another lease. That is marked, and nothing else is done there.
-pub record IsRelent (d : Desk) (key : ℕ) (h : Hold) (c : Seat) (resumes : Bool) : Type 0 where
+pub record IsRelent (d : Pool) (key : ℕ) (h : Hold) (c : Seat) (resumes : Bool) : Type 0 where
   pub lease : ℕ
-  pub its : Its (turn d (desk.Renews key resumes)).desk key (holding h.key lease c.number) (relent lease c)
-  pub out : on c.number (steps d.service (turn d (desk.Renews key resumes)).calls) ≡ history {T = Token} c.line (line.Mark KeepTransaction ∷ [])
+  pub its : Its (turn d (pool.Renews key resumes)).pool key (holding h.key lease c.number) (relent lease c)
+  pub out : on c.number (steps d.service (turn d (pool.Renews key resumes)).calls) ≡ history {T = Token} c.line (line.Mark KeepTransaction ∷ [])
 
-pub relent_lent : (d : Desk) (key : ℕ) (h : Hold) (c : Seat) (resumes : Bool) → c.line.stage ≡ line.Idle → IsRelent d key h c resumes → IsLent key (turn d (desk.Renews key resumes)).desk
+pub relent_lent : (d : Pool) (key : ℕ) (h : Hold) (c : Seat) (resumes : Bool) → c.line.stage ≡ line.Idle → IsRelent d key h c resumes → IsLent key (turn d (pool.Renews key resumes)).pool
 relent_lent d key h c resumes idle r = record { hold = holding h.key r.lease c.number; seat = relent r.lease c; its = r.its; idle = marked_idle c.line idle }
 
-abbrev pub ticket_for : Desk → Hold → Option ℕ
+abbrev pub ticket_for : Pool → Hold → Option ℕ
 ticket_for d h = ticket_in (step {T = Token} d.service (calls.Keep h.lease)).reply
 
-pub data Renewed (d : Desk) (key : ℕ) (h : Hold) (c : Seat) (resumes : Bool) : Type 0 where
+pub data Renewed (d : Pool) (key : ℕ) (h : Hold) (c : Seat) (resumes : Bool) : Type 0 where
   -- nothing is done
-  Rests : ticket_for d h ≡ None → turn d (desk.Renews key resumes) ≡ desk.rests d → Renewed d key h c resumes
+  Rests : ticket_for d h ≡ None → turn d (pool.Renews key resumes) ≡ pool.rests d → Renewed d key h c resumes
   -- it was idle, and is; or, where memory is refused to it, it is gone
   Lends : (ticket : ℕ) → ticket_for d h ≡ Some ticket → resumes ≡ true → c.line.stage ≡ line.Idle → IsRelent d key h c resumes → Renewed d key h c resumes
-  Goes : (ticket : ℕ) → ticket_for d h ≡ Some ticket → resumes ≡ false → c.line.stage ≡ line.Idle → Gone key (turn d (desk.Renews key resumes)).desk → Renewed d key h c resumes
+  Goes : (ticket : ℕ) → ticket_for d h ≡ Some ticket → resumes ≡ false → c.line.stage ≡ line.Idle → Gone key (turn d (pool.Renews key resumes)).pool → Renewed d key h c resumes
 
-module _ (d : Desk) (key : ℕ) (h : Hold) (c : Seat) (sound : Sound d) (its : Its d key h c) where
+module _ (d : Pool) (key : ℕ) (h : Hold) (c : Seat) (sound : Sound d) (its : Its d key h c) where
   unkept : (resumes : Bool) → may_keep c ≡ false → Renewed d key h c resumes
   unkept resumes may =
       let by = by_lease d key h c sound its in
       let f = found d key h c sound its in
       let kept = step {T = Token} d.service (calls.Keep h.lease) in
       let none : ticket_in kept.reply ≡ None = rw (by, may) refl in
-      Rests none (ap (λ (x : Option Hold). desk.renews d resumes x) f ∙ ap (λ (x : Option ℕ). desk.keeps_by d h resumes kept.service x) none)
+      Rests none (ap (λ (x : Option Hold). pool.renews d resumes x) f ∙ ap (λ (x : Option ℕ). pool.keeps_by d h resumes kept.service x) none)
 
   kept : may_keep c ≡ true → Renewed d key h c true
   kept may =
@@ -132,19 +132,19 @@ module _ (d : Desk) (key : ℕ) (h : Hold) (c : Seat) (sound : Sound d) (its : I
       let h2 = holding h.key lease c.number in
       let more = without_lease h.lease d.holds ++ h2 ∷ [] in
       let all : List (Call Token) = calls.Keep h.lease ∷ calls.Resume ticket ∷ [] in
-      let t : turn d (desk.Renews key true) ≡ moves d more d.line all = ap (λ (x : Option Hold). desk.renews d true x) f
-      ∙ ap (λ (x : Step Token). desk.keeps_by d h true x.service (ticket_in x.reply)) keeping ∙ ap (λ (x : Step Token). desk.renews_by d h ticket (lent_in x.reply) true) resuming in
+      let t : turn d (pool.Renews key true) ≡ moves d more d.line all = ap (λ (x : Option Hold). pool.renews d true x) f
+      ∙ ap (λ (x : Step Token). pool.keeps_by d h true x.service (ticket_in x.reply)) keeping ∙ ap (λ (x : Step Token). pool.renews_by d h ticket (lent_in x.reply) true) resuming in
       let c2 : Seat = relent lease c in
       let there : seat_numbered c.number resume2.service.seats ≡ Some c2 = change_here (has_ticket ticket) c1 (Leased lease) l2 s1.seats distinct found1 in
-      let there2 : seat_numbered c.number (moves d more d.line all).desk.service.seats ≡ Some c2 =
+      let there2 : seat_numbered c.number (moves d more d.line all).pool.service.seats ≡ Some c2 =
       ap (λ (x : Step Token). seat_numbered c.number (step {T = Token} x.service (calls.Resume ticket)).service.seats) keeping
       ∙ ap (λ (x : Step Token). seat_numbered c.number x.service.seats) resuming ∙ there in
       let yes : (h.key == key) ≡ true = eq-eqb h.key key (key_is d key h c sound its) in
       let sole : theirs key more ≡ h2 ∷ [] =
       theirs_one key h2 (without_lease h.lease d.holds) (theirs_left key h (λ (x : Hold). not (x.lease == h.lease)) d.holds its.sole (not_same h.lease)) yes in
-      let its2 : Its (turn d (desk.Renews key true)).desk key h2 c2 = subst (λ (x : Turn). Its x.desk key h2 c2) (sym t) (record { sole = sole; there = there2; lent = refl; line = its.line }) in
+      let its2 : Its (turn d (pool.Renews key true)).pool key h2 c2 = subst (λ (x : Turn). Its x.pool key h2 c2) (sym t) (record { sole = sole; there = there2; lent = refl; line = its.line }) in
       let done = history {T = Token} c.line (line.Mark KeepTransaction ∷ []) in
-      let out : on c.number (steps d.service (turn d (desk.Renews key true)).calls) ≡ done = ap (λ (x : Turn). on c.number (steps d.service x.calls)) t
+      let out : on c.number (steps d.service (turn d (pool.Renews key true)).calls) ≡ done = ap (λ (x : Turn). on c.number (steps d.service x.calls)) t
       ∙ ap (λ (x : Step Token). on_one (x.number == c.number) x.dones (on_one ((step {T = Token} x.service (calls.Resume ticket)).number == c.number) (step {T = Token} x.service (calls.Resume ticket)).dones [])) keeping
       ∙ ap (λ (x : Step Token). on_one (c.number == c.number) [] (on_one (x.number == c.number) x.dones [])) resuming
       ∙ none_on (c.number == c.number) (on_one (c.number == c.number) done []) ∙ on_here (c.number == c.number) done (same_number c.number) ∙ append_done done in
@@ -159,9 +159,9 @@ module _ (d : Desk) (key : ℕ) (h : Hold) (c : Seat) (sound : Sound d) (its : I
       let keep = step {T = Token} d.service (calls.Keep h.lease) in
       let some : ticket_in keep.reply ≡ Some ticket = rw (by, may) refl in
       let t2 : Turn = moves d (without_number h.number d.holds) d.line (calls.Keep h.lease ∷ calls.Lost h.number ∷ []) in
-      let t : turn d (desk.Renews key false) ≡ t2 = ap (λ (x : Option Hold). desk.renews d false x) f ∙ ap (λ (x : Option ℕ). desk.keeps_by d h false keep.service x) some in
-      let gone : Gone key t2.desk = record { holds = theirs_left key h (λ (x : Hold). not (x.number == h.number)) d.holds its.sole (not_same h.number); waits = its.line } in
-      Goes ticket some refl (may_idle c may) (subst (λ (x : Turn). Gone key x.desk) (sym t) gone)
+      let t : turn d (pool.Renews key false) ≡ t2 = ap (λ (x : Option Hold). pool.renews d false x) f ∙ ap (λ (x : Option ℕ). pool.keeps_by d h false keep.service x) some in
+      let gone : Gone key t2.pool = record { holds = theirs_left key h (λ (x : Hold). not (x.number == h.number)) d.holds its.sole (not_same h.number); waits = its.line } in
+      Goes ticket some refl (may_idle c may) (subst (λ (x : Turn). Gone key x.pool) (sym t) gone)
 
   by : (resumes b : Bool) → may_keep c ≡ b → Renewed d key h c resumes
   by resumes false may = unkept resumes may

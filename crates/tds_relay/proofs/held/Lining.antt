@@ -2,11 +2,11 @@
 use Rattle.std.proofs.Common.{◌≡◌, ◌∙◌, ◌==◌, ℕ, not, Bool, true, false, List, [], ◌∷◌, ◌++◌, refl, sym, ap, subst, inl, inr}
 use Rattle.std.specs.Prelude.{Option, Some, None, filter, if◌then◌else◌}
 use Rattle.tds_wire.specs.declared.told.Token.{Token}
-use Rattle.tds_relay.specs.declared.desk.Hold.{Hold}
+use Rattle.tds_relay.specs.declared.pool.Hold.{Hold}
 use Rattle.tds_service.specs.Service as calls
 use Rattle.tds_service.specs.Service.{Service, Call, lease_at, seat_numbered, step}
-use Rattle.tds_relay.specs.Desk as desk
-use Rattle.tds_relay.specs.Desk.{Desk, Event, Deed, Way, find_key, holding, lent_in, ticket_in, turn}
+use Rattle.tds_relay.specs.Pool as pool
+use Rattle.tds_relay.specs.Pool.{Pool, Event, Action, Way, find_key, holding, lent_in, ticket_in, turn}
 use Rattle.tds_relay.specs.Promises.{IsAmong, comes_to_wait, LendsFirst}
 
 -- ---- The line
@@ -37,60 +37,60 @@ filtered_among : (p : ℕ → Bool) (ys zs : List ℕ) → IsAmong (filter p ys)
 filtered_among p [] zs = tt
 filtered_among p (y ∷ ys) zs = kept_among y (filter p ys) ys zs (p y) (filtered_among p ys zs)
 
-serves_among : (d : Desk) (key : ℕ) (others : List ℕ) (o : Option desk.Loan) → d.line ≡ key ∷ others → IsAmong (desk.serves_by d key others o).desk.line (d.line ++ [])
+serves_among : (d : Pool) (key : ℕ) (others : List ℕ) (o : Option pool.Loan) → d.line ≡ key ∷ others → IsAmong (pool.serves_by d key others o).pool.line (d.line ++ [])
 serves_among d key others None e = among_same d.line []
 serves_among d key others (Some lent) e = subst (λ (ks : List ℕ). IsAmong others (ks ++ [])) (sym e) (among_more key others (others ++ []) (among_same others []))
 
-serves_line : (d : Desk) (waiting : List ℕ) → d.line ≡ waiting → IsAmong (desk.serves d waiting).desk.line (d.line ++ [])
+serves_line : (d : Pool) (waiting : List ℕ) → d.line ≡ waiting → IsAmong (pool.serves d waiting).pool.line (d.line ++ [])
 serves_line d [] e = among_same d.line []
 serves_line d (key ∷ others) e = serves_among d key others (lent_in (step {T = Token} d.service calls.Lease).reply) e
 
-brings_line : (d : Desk) (s : Service) (gives : Bool) (way : Way) (o : Option desk.Loan) → IsAmong (desk.brings_by d s gives way o).desk.line (d.line ++ [])
+brings_line : (d : Pool) (s : Service) (gives : Bool) (way : Way) (o : Option pool.Loan) → IsAmong (pool.brings_by d s gives way o).pool.line (d.line ++ [])
 brings_line d s gives way None = among_same d.line []
 brings_line d s gives way (Some lent) = among_same d.line []
 
-does_line : (d : Desk) (deed : Deed) (o : Option Hold) → IsAmong (desk.does d deed o).desk.line (d.line ++ [])
-does_line d deed None = among_same d.line []
-does_line d deed (Some h) = among_same d.line []
+does_line : (d : Pool) (action : Action) (o : Option Hold) → IsAmong (pool.does d action o).pool.line (d.line ++ [])
+does_line d action None = among_same d.line []
+does_line d action (Some h) = among_same d.line []
 
-leaves_line : (d : Desk) (key : ℕ) (gives : Bool) (way : Way) (o : Option Hold) → IsAmong (desk.leaves d key gives way o).desk.line (d.line ++ [])
+leaves_line : (d : Pool) (key : ℕ) (gives : Bool) (way : Way) (o : Option Hold) → IsAmong (pool.leaves d key gives way o).pool.line (d.line ++ [])
 leaves_line d key gives way None = filtered_among (λ (k : ℕ). not (k == key)) d.line []
 leaves_line d key gives way (Some h) = filtered_among (λ (k : ℕ). not (k == key)) d.line []
 
-renews_by_line : (d : Desk) (h : Hold) (ticket : ℕ) (o : Option desk.Loan) (resumes : Bool) → IsAmong (desk.renews_by d h ticket o resumes).desk.line (d.line ++ [])
+renews_by_line : (d : Pool) (h : Hold) (ticket : ℕ) (o : Option pool.Loan) (resumes : Bool) → IsAmong (pool.renews_by d h ticket o resumes).pool.line (d.line ++ [])
 renews_by_line d h ticket o false = among_same d.line []
 renews_by_line d h ticket None true = among_same d.line []
 renews_by_line d h ticket (Some lent) true = among_same d.line []
 
-keeps_by_line : (d : Desk) (h : Hold) (resumes : Bool) (s : Service) (o : Option ℕ) → IsAmong (desk.keeps_by d h resumes s o).desk.line (d.line ++ [])
+keeps_by_line : (d : Pool) (h : Hold) (resumes : Bool) (s : Service) (o : Option ℕ) → IsAmong (pool.keeps_by d h resumes s o).pool.line (d.line ++ [])
 keeps_by_line d h resumes s None = among_same d.line []
 keeps_by_line d h resumes s (Some ticket) = renews_by_line d h ticket (lent_in (step {T = Token} s (calls.Resume ticket)).reply) resumes
 
-renews_line : (d : Desk) (resumes : Bool) (o : Option Hold) → IsAmong (desk.renews d resumes o).desk.line (d.line ++ [])
+renews_line : (d : Pool) (resumes : Bool) (o : Option Hold) → IsAmong (pool.renews d resumes o).pool.line (d.line ++ [])
 renews_line d resumes None = among_same d.line []
 renews_line d resumes (Some h) =
     let kept = step {T = Token} d.service (calls.Keep h.lease) in
     keeps_by_line d h resumes kept.service (ticket_in kept.reply)
 
-comes_line : (d : Desk) (call : Call Token) (s : Service) (n : ℕ) (way : Way) (lease : Option ℕ) (h : desk.Hearing) → IsAmong (desk.comes_by d call s n way lease h).desk.line (d.line ++ [])
-comes_line d call s n way lease desk.Goes = among_same d.line []
-comes_line d call s n way lease desk.Settled = among_same d.line []
-comes_line d call s n way lease desk.Wrong = among_same d.line []
+comes_line : (d : Pool) (call : Call Token) (s : Service) (n : ℕ) (way : Way) (lease : Option ℕ) (h : pool.Hearing) → IsAmong (pool.comes_by d call s n way lease h).pool.line (d.line ++ [])
+comes_line d call s n way lease pool.Goes = among_same d.line []
+comes_line d call s n way lease pool.Settled = among_same d.line []
+comes_line d call s n way lease pool.Wrong = among_same d.line []
 
-pub keeps_order : (d : Desk) (event : Event) → IsAmong (turn d event).desk.line (d.line ++ comes_to_wait event)
-keeps_order d (desk.Waits key) = among_all (d.line ++ key ∷ [])
-keeps_order d (desk.Unwaits key) = filtered_among (λ (k : ℕ). not (k == key)) d.line []
-keeps_order d desk.Serves = serves_line d d.line refl
-keeps_order d (desk.Brings gives way) =
+pub keeps_order : (d : Pool) (event : Event) → IsAmong (turn d event).pool.line (d.line ++ comes_to_wait event)
+keeps_order d (pool.Waits key) = among_all (d.line ++ key ∷ [])
+keeps_order d (pool.Unwaits key) = filtered_among (λ (k : ℕ). not (k == key)) d.line []
+keeps_order d pool.Serves = serves_line d d.line refl
+keeps_order d (pool.Brings gives way) =
     let lent = step {T = Token} d.service calls.Lease in
     brings_line d lent.service gives way (lent_in lent.reply)
-keeps_order d (desk.Does key deed) = does_line d deed (find_key key d.holds)
-keeps_order d (desk.Leaves key gives way) = leaves_line d key gives way (find_key key d.holds)
-keeps_order d (desk.Renews key resumes) = renews_line d resumes (find_key key d.holds)
-keeps_order d (desk.Comes number part way) =
+keeps_order d (pool.Does key action) = does_line d action (find_key key d.holds)
+keeps_order d (pool.Leaves key gives way) = leaves_line d key gives way (find_key key d.holds)
+keeps_order d (pool.Renews key resumes) = renews_line d resumes (find_key key d.holds)
+keeps_order d (pool.Comes number part way) =
     let heard = step d.service (calls.Came number part) in
-    comes_line d (calls.Came number part) heard.service number way (lease_at (seat_numbered number d.service.seats)) (desk.hearing heard.dones)
-keeps_order d (desk.Loses number) = among_same d.line []
+    comes_line d (calls.Came number part) heard.service number way (lease_at (seat_numbered number d.service.seats)) (pool.hearing heard.dones)
+keeps_order d (pool.Loses number) = among_same d.line []
 
 one_longer : (hs : List Hold) (h : Hold) → hs ≡ hs ++ h ∷ [] → ⊥
 one_longer [] h e = let u : ⊥ = cc in u
@@ -100,16 +100,16 @@ last_same : (hs : List Hold) (x y : Hold) → hs ++ x ∷ [] ≡ hs ++ y ∷ [] 
 last_same [] x y e = let u : x ≡ y = cc in u
 last_same (z ∷ zs) x y e = last_same zs x y (let u : zs ++ x ∷ [] ≡ zs ++ y ∷ [] = cc in u)
 
-first_by_loan : (d : Desk) (key : ℕ) (others : List ℕ) (o : Option desk.Loan) (h : Hold) → d.line ≡ key ∷ others → (desk.serves_by d key others o).desk.holds ≡ d.holds ++ h ∷ []
-    → d.line ≡ h.key ∷ (desk.serves_by d key others o).desk.line
+first_by_loan : (d : Pool) (key : ℕ) (others : List ℕ) (o : Option pool.Loan) (h : Hold) → d.line ≡ key ∷ others → (pool.serves_by d key others o).pool.holds ≡ d.holds ++ h ∷ []
+    → d.line ≡ h.key ∷ (pool.serves_by d key others o).pool.line
 first_by_loan d key others None h e more = absurd (one_longer d.holds h more)
 first_by_loan d key others (Some lent) h e more =
     let same : holding key lent.lease lent.number ≡ h = last_same d.holds (holding key lent.lease lent.number) h more in
     e ∙ ap (λ (x : Hold). x.key ∷ others) same
 
-first_by_line : (d : Desk) (waiting : List ℕ) (h : Hold) → d.line ≡ waiting → (desk.serves d waiting).desk.holds ≡ d.holds ++ h ∷ [] → d.line ≡ h.key ∷ (desk.serves d waiting).desk.line
+first_by_line : (d : Pool) (waiting : List ℕ) (h : Hold) → d.line ≡ waiting → (pool.serves d waiting).pool.holds ≡ d.holds ++ h ∷ [] → d.line ≡ h.key ∷ (pool.serves d waiting).pool.line
 first_by_line d [] h e more = absurd (one_longer d.holds h more)
 first_by_line d (key ∷ others) h e more = first_by_loan d key others (lent_in (step {T = Token} d.service calls.Lease).reply) h e more
 
-pub lends_first : (d : Desk) → LendsFirst d
+pub lends_first : (d : Pool) → LendsFirst d
 lends_first d h more = first_by_line d d.line h refl more

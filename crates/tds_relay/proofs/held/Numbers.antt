@@ -12,9 +12,9 @@ use Rattle.tds_service.specs.Service as calls
 use Rattle.tds_service.specs.Service.{Service, Reply, Step, Leased, Seat, find_by, change_by, has_ticket, is_lendable, is_idle, does, lease_at, nothing, seat_numbered, step, service_after}
 use Rattle.tds_service.proofs.Numbered.{added_here, change_here}
 use Rattle.tds_service.proofs.Tests.{above}
-use Rattle.tds_relay.specs.declared.desk.Hold.{Hold}
-use Rattle.tds_relay.specs.Desk as desk
-use Rattle.tds_relay.specs.Desk.{Desk, Event, Hearing, Way, Turn, desk_after, find_key, find_number, key_of, new_desk, holding, lent_in, moves, ticket_in, turn, without_lease, without_number}
+use Rattle.tds_relay.specs.declared.pool.Hold.{Hold}
+use Rattle.tds_relay.specs.Pool as pool
+use Rattle.tds_relay.specs.Pool.{Pool, Event, Hearing, Way, Turn, pool_after, find_key, find_number, key_of, new_pool, holding, lent_in, moves, ticket_in, turn, without_lease, without_number}
 use Rattle.tds_relay.specs.Promises.{Each}
 use Rattle.tds_relay.specs.Ties.{IsReached}
 use Rattle.tds_relay.proofs.held.Lists.{found_key}
@@ -72,12 +72,12 @@ front_of P x (y ∷ ys) h = let k = front_of P x ys h.1 in ((h.0, k.0), k.1)
 -- ---- The connection that is lent is there
 
 module _ (s : Service) (tidy : Tidy s) where
-  pub record IsThere (t : Step Token) (loan : desk.Loan) : Type 0 where
+  pub record IsThere (t : Step Token) (loan : pool.Loan) : Type 0 where
     pub seat : Seat
     pub there : seat_numbered loan.number t.service.seats ≡ Some seat
 
   abbrev LentThere : Step Token → Type 0
-  LentThere t = (loan : desk.Loan) → lent_in t.reply ≡ Some loan → IsThere t loan
+  LentThere t = (loan : pool.Loan) → lent_in t.reply ≡ Some loan → IsThere t loan
 
   none_there : (reply : Reply) → lent_in reply ≡ None → LentThere (nothing s reply)
   none_there reply none loan is = absurd (let u : None ≡ Some loan = sym none ∙ is in let v : ⊥ = cc in v)
@@ -87,10 +87,10 @@ module _ (s : Service) (tidy : Tidy s) where
   placed_there given test d all e loan is =
       let l = line_after d.line all in
       let d2 : Seat = record { number = d.number; place = Leased given; line = l } in
-      let one : desk.Loan = record { lease = given; number = d.number } in
+      let one : pool.Loan = record { lease = given; number = d.number } in
       let here : seat_numbered d.number (change_by test (Some (Leased given)) l s.seats) ≡ Some d2 = change_here test d (Leased given) l s.seats tidy.distinct e in
       let same : one ≡ loan = cc in
-      subst (λ (y : desk.Loan). IsThere (does s given test d (Some (Leased given)) all (calls.Lent given d.number true)) y) same (record { seat = d2; there = here })
+      subst (λ (y : pool.Loan). IsThere (does s given test d (Some (Leased given)) all (calls.Lent given d.number true)) y) same (record { seat = d2; there = here })
 
   numbered_none : (last : ℕ) (cs : List Seat) → Each (UpTo last) cs → seat_numbered (suc last) cs ≡ None
   numbered_none last [] h = refl
@@ -103,10 +103,10 @@ module _ (s : Service) (tidy : Tidy s) where
   opened_there false loan is = none_there calls.AllInUse refl loan is
   opened_there true loan is =
       let c : Seat = record { number = suc s.last; place = Leased (suc s.given); line = new_line } in
-      let one : desk.Loan = record { lease = suc s.given; number = suc s.last } in
+      let one : pool.Loan = record { lease = suc s.given; number = suc s.last } in
       let here : seat_numbered (suc s.last) (s.seats ++ c ∷ []) ≡ Some c = added_here c s.seats (numbered_none s.last s.seats tidy.upto) in
       let same : one ≡ loan = cc in
-      subst (λ (y : desk.Loan). IsThere (calls.opens {T = Token} s true) y) same (record { seat = c; there = here })
+      subst (λ (y : pool.Loan). IsThere (calls.opens {T = Token} s true) y) same (record { seat = c; there = here })
 
   lent_by : (o : Option Seat) → find_by is_lendable s.seats ≡ o → LentThere (calls.lends {T = Token} s o)
   lent_by None e = opened_there (nat_lt (length s.seats) s.max)
@@ -130,7 +130,7 @@ module _ (s : Service) (tidy : Tidy s) where
 -- ---- Behind each event
 
 -- one that is lent is put behind those that are held
-module _ (d : Desk) (sound : Sound d) (sit : AllSit d) (hs : List Hold) (x : Hold) (are : d.holds ≡ hs ++ x ∷ []) (seat : Seat) (there : seat_numbered x.number d.service.seats ≡ Some seat) where
+module _ (d : Pool) (sound : Sound d) (sit : AllSit d) (hs : List Hold) (x : Hold) (are : d.holds ≡ hs ++ x ∷ []) (seat : Seat) (there : seat_numbered x.number d.service.seats ≡ Some seat) where
   differs : (y : Hold) → Sits d.service x → Sits d.service y → y.lease < x.lease → x.number ≢ y.number
   differs y mine theirs lt = λ e.
       let one : seat.place ≡ Leased x.lease = mine.lent seat there in
@@ -146,80 +146,80 @@ module _ (d : Desk) (sound : Sound d) (sit : AllSit d) (hs : List Hold) (x : Hol
       subst Apart (sym are)
       (apart_added x hs apart (each_weaker (λ (y : Hold). Sits d.service y × (y.lease < x.lease)) (λ (y : Hold). x.number ≢ y.number) (λ y h. differs y sits.1 h.0 h.1) hs (both_each (λ (y : Hold). Sits d.service y) (λ (y : Hold). y.lease < x.lease) hs sits.0 rise.0)))
 
-module _ (d : Desk) (sound : Sound d) (apart : Apart d.holds) where
-  -- each desk that sits, where it is sound
+module _ (d : Pool) (sound : Sound d) (apart : Apart d.holds) where
+  -- each pool that sits, where it is sound
   abbrev P : Turn → Type 0
-  P t = Sound t.desk → AllSit t.desk → Apart t.desk.holds
+  P t = Sound t.pool → AllSit t.pool → Apart t.pool.holds
 
-  serves_by : (k : ℕ) (others : List ℕ) (o : Option desk.Loan) → lent_in (step {T = Token} d.service calls.Lease).reply ≡ o → P (desk.serves_by d k others o)
+  serves_by : (k : ℕ) (others : List ℕ) (o : Option pool.Loan) → lent_in (step {T = Token} d.service calls.Lease).reply ≡ o → P (pool.serves_by d k others o)
   serves_by k others None e next sits = apart
   serves_by k others (Some loan) e next sits =
       let there = lent_there d.service sound.tidy loan e in
-      apart_last (desk.serves_by d k others (Some loan)).desk next sits d.holds (holding k loan.lease loan.number) refl there.seat there.there apart
+      apart_last (pool.serves_by d k others (Some loan)).pool next sits d.holds (holding k loan.lease loan.number) refl there.seat there.there apart
 
-  serves : (waiting : List ℕ) → P (desk.serves d waiting)
+  serves : (waiting : List ℕ) → P (pool.serves d waiting)
   serves [] next sits = apart
   serves (k ∷ others) next sits = serves_by k others (lent_in (step {T = Token} d.service calls.Lease).reply) refl next sits
 
-  brings : (gives : Bool) (way : Way) (s : Service) (o : Option desk.Loan) → P (desk.brings_by d s gives way o)
+  brings : (gives : Bool) (way : Way) (s : Service) (o : Option pool.Loan) → P (pool.brings_by d s gives way o)
   brings gives way s None next sits = apart
   brings gives way s (Some loan) next sits = apart
 
-  does_apart : (deed : desk.Deed) (o : Option Hold) → P (desk.does d deed o)
-  does_apart deed None next sits = apart
-  does_apart deed (Some h) next sits = apart
+  does_apart : (action : pool.Action) (o : Option Hold) → P (pool.does d action o)
+  does_apart action None next sits = apart
+  does_apart action (Some h) next sits = apart
 
-  leaves : (key : ℕ) (gives : Bool) (way : Way) (o : Option Hold) → P (desk.leaves d key gives way o)
+  leaves : (key : ℕ) (gives : Bool) (way : Way) (o : Option Hold) → P (pool.leaves d key gives way o)
   leaves key gives way None next sits = apart
   leaves key gives way (Some h) next sits = apart_kept (λ (y : Hold). not (y.lease == h.lease)) d.holds apart
 
-  renews_by : (h : Hold) (ticket : ℕ) (o : Option desk.Loan) (resumes : Bool) → lent_in (step {T = Token} (step {T = Token} d.service (calls.Keep h.lease)).service (calls.Resume ticket)).reply ≡ o → P (desk.renews_by d h ticket o resumes)
+  renews_by : (h : Hold) (ticket : ℕ) (o : Option pool.Loan) (resumes : Bool) → lent_in (step {T = Token} (step {T = Token} d.service (calls.Keep h.lease)).service (calls.Resume ticket)).reply ≡ o → P (pool.renews_by d h ticket o resumes)
   renews_by h ticket o false e next sits = apart_kept (λ (y : Hold). not (y.number == h.number)) d.holds apart
   renews_by h ticket None true e next sits = apart_kept (λ (y : Hold). not (y.number == h.number)) d.holds apart
   renews_by h ticket (Some loan) true e next sits =
       let s = (step {T = Token} d.service (calls.Keep h.lease)).service in
       let there = resumed_there s (step_rises d.service (calls.Keep h.lease) sound.tidy).tidy ticket loan e in
-      apart_last (desk.renews_by d h ticket (Some loan) true).desk next sits (without_lease h.lease d.holds) (holding h.key loan.lease loan.number) refl there.seat there.there
+      apart_last (pool.renews_by d h ticket (Some loan) true).pool next sits (without_lease h.lease d.holds) (holding h.key loan.lease loan.number) refl there.seat there.there
       (apart_kept (λ (y : Hold). not (y.lease == h.lease)) d.holds apart)
 
-  keeps_by : (h : Hold) (resumes : Bool) (o : Option ℕ) → P (desk.keeps_by d h resumes (step {T = Token} d.service (calls.Keep h.lease)).service o)
+  keeps_by : (h : Hold) (resumes : Bool) (o : Option ℕ) → P (pool.keeps_by d h resumes (step {T = Token} d.service (calls.Keep h.lease)).service o)
   keeps_by h resumes None next sits = apart
   keeps_by h resumes (Some ticket) next sits =
       renews_by h ticket (lent_in (step {T = Token} (step {T = Token} d.service (calls.Keep h.lease)).service (calls.Resume ticket)).reply) resumes refl next sits
 
-  renews : (resumes : Bool) (o : Option Hold) → P (desk.renews d resumes o)
+  renews : (resumes : Bool) (o : Option Hold) → P (pool.renews d resumes o)
   renews resumes None next sits = apart
   renews resumes (Some h) next sits = keeps_by h resumes (ticket_in (step {T = Token} d.service (calls.Keep h.lease)).reply) next sits
 
-  comes : (m : ℕ) (part : Part Token) (s : Service) (way : Way) (o : Option ℕ) (hearing : Hearing) → Apart (desk.comes_by d (calls.Came m part) s m way o hearing).desk.holds
-  comes m part s way o desk.Goes = apart
-  comes m part s way o desk.Settled = apart
-  comes m part s way o desk.Wrong = apart_kept (λ (y : Hold). not (y.number == m)) d.holds apart
+  comes : (m : ℕ) (part : Part Token) (s : Service) (way : Way) (o : Option ℕ) (hearing : Hearing) → Apart (pool.comes_by d (calls.Came m part) s m way o hearing).pool.holds
+  comes m part s way o pool.Goes = apart
+  comes m part s way o pool.Settled = apart
+  comes m part s way o pool.Wrong = apart_kept (λ (y : Hold). not (y.number == m)) d.holds apart
 
   pub turn_apart : (event : Event) → P (turn d event)
-  turn_apart (desk.Waits key) next sits = apart
-  turn_apart (desk.Unwaits key) next sits = apart
-  turn_apart desk.Serves next sits = serves d.line next sits
-  turn_apart (desk.Brings gives way) next sits =
+  turn_apart (pool.Waits key) next sits = apart
+  turn_apart (pool.Unwaits key) next sits = apart
+  turn_apart pool.Serves next sits = serves d.line next sits
+  turn_apart (pool.Brings gives way) next sits =
       let lent = step {T = Token} d.service calls.Lease in
       brings gives way lent.service (lent_in lent.reply) next sits
-  turn_apart (desk.Does key deed) next sits = does_apart deed (find_key key d.holds) next sits
-  turn_apart (desk.Leaves key gives way) next sits = leaves key gives way (find_key key d.holds) next sits
-  turn_apart (desk.Renews key resumes) next sits = renews resumes (find_key key d.holds) next sits
-  turn_apart (desk.Comes m part way) next sits =
+  turn_apart (pool.Does key action) next sits = does_apart action (find_key key d.holds) next sits
+  turn_apart (pool.Leaves key gives way) next sits = leaves key gives way (find_key key d.holds) next sits
+  turn_apart (pool.Renews key resumes) next sits = renews resumes (find_key key d.holds) next sits
+  turn_apart (pool.Comes m part way) next sits =
       let heard = step {T = Token} d.service (calls.Came m part) in
-      comes m part heard.service way (lease_at (seat_numbered m d.service.seats)) (desk.hearing heard.dones)
-  turn_apart (desk.Loses m) next sits = apart_kept (λ (y : Hold). not (y.number == m)) d.holds apart
+      comes m part heard.service way (lease_at (seat_numbered m d.service.seats)) (pool.hearing heard.dones)
+  turn_apart (pool.Loses m) next sits = apart_kept (λ (y : Hold). not (y.number == m)) d.holds apart
 
-all_apart : (d : Desk) (events : List Event) → Sound d → AllSit d → Apart d.holds → Apart (desk_after d events).holds
+all_apart : (d : Pool) (events : List Event) → Sound d → AllSit d → Apart d.holds → Apart (pool_after d events).holds
 all_apart d [] sound sit apart = apart
 all_apart d (event ∷ events) sound sit apart =
-    let next : Sound (turn d event).desk = turn_sound d event sound in
-    let sits : AllSit (turn d event).desk = turn_sits d sound sit event in
-    all_apart (turn d event).desk events next sits (turn_apart d sound apart event next sits)
+    let next : Sound (turn d event).pool = turn_sound d event sound in
+    let sits : AllSit (turn d event).pool = turn_sits d sound sit event in
+    all_apart (turn d event).pool events next sits (turn_apart d sound apart event next sits)
 
-pub apart_at : (d : Desk) → IsReached d → Apart d.holds
-apart_at d r = subst (λ (e : Desk). Apart e.holds) r.2 (all_apart (new_desk r.0) r.1 (always_sound r.0 []) tt tt)
+pub apart_at : (d : Pool) → IsReached d → Apart d.holds
+apart_at d r = subst (λ (e : Pool). Apart e.holds) r.2 (all_apart (new_pool r.0) r.1 (always_sound r.0 []) tt tt)
 
 -- ---- What is found
 

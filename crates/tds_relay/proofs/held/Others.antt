@@ -8,9 +8,9 @@ use Rattle.tds_service.specs.Service as calls
 use Rattle.tds_service.specs.Service.{Service, Call, Place, Leased, Seat, has_lease, has_number, lease_at, seat_numbered, step, service_after}
 use Rattle.tds_service.specs.History.{Done}
 use Rattle.tds_service.proofs.Tests.{above}
-use Rattle.tds_relay.specs.declared.desk.Hold.{Hold}
-use Rattle.tds_relay.specs.Desk as desk
-use Rattle.tds_relay.specs.Desk.{Desk, Event, Deed, Way, Turn, Hearing, find_key, find_lease, without_lease, without_number, holding, moves, cleaning, cleaning_by, releasing, frees, lent_in, ticket_in, turn}
+use Rattle.tds_relay.specs.declared.pool.Hold.{Hold}
+use Rattle.tds_relay.specs.Pool as pool
+use Rattle.tds_relay.specs.Pool.{Pool, Event, Action, Way, Turn, Hearing, find_key, find_lease, without_lease, without_number, holding, moves, cleaning, cleaning_by, releasing, frees, lent_in, ticket_in, turn}
 use Rattle.tds_relay.proofs.promises.Seats.{each_found, found_meets}
 use Rattle.tds_relay.proofs.promises.Tidy.{Tidy, WithinAt, WithinIn, step_rises}
 use Rattle.tds_relay.proofs.promises.Holding.{found_by_lease}
@@ -23,13 +23,13 @@ use Rattle.tds_relay.proofs.held.Sitting.{Sits}
 use Rattle.tds_relay.proofs.held.Seated.{AllSit, each_key}
 
 -- An application holds one connection, and doesn't wait.
-pub record Its (d : Desk) (key : ℕ) (h : Hold) (c : Seat) : Type 0 where
+pub record Its (d : Pool) (key : ℕ) (h : Hold) (c : Seat) : Type 0 where
   pub sole : theirs key d.holds ≡ h ∷ []
   pub there : seat_numbered h.number d.service.seats ≡ Some c
   pub lent : c.place ≡ Leased h.lease
   pub line : places key d.line ≡ []
 
-module _ (d : Desk) (key : ℕ) (h : Hold) (c : Seat) (sound : Sound d) (its : Its d key h c) where
+module _ (d : Pool) (key : ℕ) (h : Hold) (c : Seat) (sound : Sound d) (its : Its d key h c) where
   pub found : find_key key d.holds ≡ Some h
   found = theirs_found key h d.holds its.sole
 
@@ -49,7 +49,7 @@ module _ (d : Desk) (key : ℕ) (h : Hold) (c : Seat) (sound : Sound d) (its : I
       v
 
 -- A lease that others have, or that is given later, is another one.
-differ_by : (d : Desk) (key other : ℕ) (h x : Hold) (b : Bool) → (h.lease == x.lease) ≡ b → find_lease h.lease d.holds ≡ Some h → find_lease x.lease d.holds ≡ Some x → h.key ≡ key → (x.key == other) ≡ true
+differ_by : (d : Pool) (key other : ℕ) (h x : Hold) (b : Bool) → (h.lease == x.lease) ≡ b → find_lease h.lease d.holds ≡ Some h → find_lease x.lease d.holds ≡ Some x → h.key ≡ key → (x.key == other) ≡ true
     → (other == key) ≡ false → b ≡ false
 differ_by d key other h x true e held other_held k x_key ne =
     let lease : h.lease ≡ x.lease = eqb-true h.lease x.lease e in
@@ -65,11 +65,11 @@ later : (lease given : ℕ) → lease ≤ given → (lease == suc given) ≡ fal
 later lease given le = above lease (suc given) (omega arith)
 
 cleaning_spares : (lease n number other : ℕ) (way : Way) → (lease == other) ≡ false → (n == number) ≡ false → SparesAll lease n (cleaning_by number other way)
-cleaning_spares lease n number other (desk.Sent put finish) e ne = (tt, (e, (e, (e, tt))))
-cleaning_spares lease n number other desk.NotLent e ne = (ne, tt)
-cleaning_spares lease n number other desk.NotAsked e ne = (tt, (ne, tt))
-cleaning_spares lease n number other desk.NotPut e ne = (tt, (e, (ne, tt)))
-cleaning_spares lease n number other (desk.NotEnded put) e ne = (tt, (e, (e, (ne, tt))))
+cleaning_spares lease n number other (pool.Sent put finish) e ne = (tt, (e, (e, (e, tt))))
+cleaning_spares lease n number other pool.NotLent e ne = (ne, tt)
+cleaning_spares lease n number other pool.NotAsked e ne = (tt, (ne, tt))
+cleaning_spares lease n number other pool.NotPut e ne = (tt, (e, (ne, tt)))
+cleaning_spares lease n number other (pool.NotEnded put) e ne = (tt, (e, (e, (ne, tt))))
 
 releasing_spares : (s : Service) (lease n other number : ℕ) (gives : Bool) (way : Way) → Tidy s → lease ≤ s.given → (lease == other) ≡ false → (n == number) ≡ false → SparesAll lease n (releasing s other number gives way)
 releasing_spares s lease n other number false way tidy le e ne = (ne, tt)
@@ -81,30 +81,30 @@ releasing_spares s lease n other number true way tidy le e ne =
     )
 
 -- What a turn by others leaves.
-pub record Passes (d : Desk) (key n : ℕ) (h : Hold) (t : Turn) : Type 0 where
-  pub service : t.desk.service ≡ service_after d.service t.calls
+pub record Passes (d : Pool) (key n : ℕ) (h : Hold) (t : Turn) : Type 0 where
+  pub service : t.pool.service ≡ service_after d.service t.calls
   pub spares : SparesAll h.lease n t.calls
-  pub sole : theirs key t.desk.holds ≡ h ∷ []
-  pub line : places key t.desk.line ≡ []
+  pub sole : theirs key t.pool.holds ≡ h ∷ []
+  pub line : places key t.pool.line ≡ []
 
 -- An event that isn't the application's, nor comes on its connection.
 abbrev pub IsOthers : ℕ → ℕ → Event → Type 0
-IsOthers key n (desk.Waits other) = (other == key) ≡ false
-IsOthers key n (desk.Unwaits other) = Unit {0}
-IsOthers key n desk.Serves = Unit {0}
-IsOthers key n (desk.Brings gives way) = Unit {0}
-IsOthers key n (desk.Does other deed) = (other == key) ≡ false
-IsOthers key n (desk.Leaves other gives way) = (other == key) ≡ false
-IsOthers key n (desk.Renews other resumes) = (other == key) ≡ false
-IsOthers key n (desk.Comes number part way) = (n == number) ≡ false
-IsOthers key n (desk.Loses number) = (n == number) ≡ false
+IsOthers key n (pool.Waits other) = (other == key) ≡ false
+IsOthers key n (pool.Unwaits other) = Unit {0}
+IsOthers key n pool.Serves = Unit {0}
+IsOthers key n (pool.Brings gives way) = Unit {0}
+IsOthers key n (pool.Does other action) = (other == key) ≡ false
+IsOthers key n (pool.Leaves other gives way) = (other == key) ≡ false
+IsOthers key n (pool.Renews other resumes) = (other == key) ≡ false
+IsOthers key n (pool.Comes number part way) = (n == number) ≡ false
+IsOthers key n (pool.Loses number) = (n == number) ≡ false
 
 unequal : (b : Bool) → b ≡ false → not b ≡ true
 unequal true e = absurd (let u : ⊥ = cc in u)
 unequal false e = refl
 
 -- the connection that is brought is another
-brought_by : (d : Desk) (h : Hold) (c : Seat) (b : Brought d) (t : Bool) → (h.number == b.number) ≡ t → c.number ≡ h.number → c.place ≡ Leased h.lease → h.lease ≤ d.service.given
+brought_by : (d : Pool) (h : Hold) (c : Seat) (b : Brought d) (t : Bool) → (h.number == b.number) ≡ t → c.number ≡ h.number → c.place ≡ Leased h.lease → h.lease ≤ d.service.given
     → seat_numbered h.number (step {T = Token} d.service calls.Lease).service.seats ≡ Some c → t ≡ false
 brought_by d h c b true e number lent le there =
     let X : Seat → Type 0 = IsIdleAt (Leased (suc d.service.given)) in
@@ -117,7 +117,7 @@ brought_by d h c b true e number lent le there =
     absurd (let u : ⊥ = omega (arith, lease, le) in u)
 brought_by d h c b false e number lent le there = refl
 
-module _ (d : Desk) (key : ℕ) (h : Hold) (c : Seat) (sound : Sound d) (sit : AllSit d) (its : Its d key h c) where
+module _ (d : Pool) (key : ℕ) (h : Hold) (c : Seat) (sound : Sound d) (sit : AllSit d) (its : Its d key h c) where
   abbrev P : Turn → Type 0
   P t = Passes d key h.number h t
 
@@ -150,7 +150,7 @@ module _ (d : Desk) (key : ℕ) (h : Hold) (c : Seat) (sound : Sound d) (sit : A
   numbers_differ : (other : ℕ) (x : Hold) → find_key other d.holds ≡ Some x → (h.lease == x.lease) ≡ false → (h.number == x.number) ≡ false
   numbers_differ other x found ne = let b : (h.number == x.number) ≡ false = number_by other x (h.number == x.number) refl found ne in b
 
-  serves_by_pass : (k : ℕ) (others : List ℕ) (o : Option desk.Loan) → (k == key) ≡ false → places key others ≡ [] → P (desk.serves_by d k others o)
+  serves_by_pass : (k : ℕ) (others : List ℕ) (o : Option pool.Loan) → (k == key) ≡ false → places key others ≡ [] → P (pool.serves_by d k others o)
   serves_by_pass k others None ne e = rests_pass d.line its.line
   serves_by_pass k others (Some loan) ne e = record {
     service = refl;
@@ -159,16 +159,16 @@ module _ (d : Desk) (key : ℕ) (h : Hold) (c : Seat) (sound : Sound d) (sit : A
     line = e;
   }
 
-  serves_pass : (waiting : List ℕ) → places key waiting ≡ [] → P (desk.serves d waiting)
+  serves_pass : (waiting : List ℕ) → places key waiting ≡ [] → P (pool.serves d waiting)
   serves_pass [] e = rests_pass d.line its.line
   serves_pass (k ∷ others) e =
       let f = first_other key k others e in
       serves_by_pass k others (lent_in (step {T = Token} d.service calls.Lease).reply) f.0 f.1
 
-  brings_pass : (gives : Bool) (way : Way) → (lent_in (step {T = Token} d.service calls.Lease).reply ≡ None) ⊎ Brought d → P (desk.brings d gives way)
+  brings_pass : (gives : Bool) (way : Way) → (lent_in (step {T = Token} d.service calls.Lease).reply ≡ None) ⊎ Brought d → P (pool.brings d gives way)
   brings_pass gives way (inl none) =
       let s = (step {T = Token} d.service calls.Lease).service in
-      subst (λ (o : Option desk.Loan). P (desk.brings_by d s gives way o)) (sym none) (rests_pass d.line its.line)
+      subst (λ (o : Option pool.Loan). P (pool.brings_by d s gives way o)) (sym none) (rests_pass d.line its.line)
   brings_pass gives way (inr b) =
       let s = (step {T = Token} d.service calls.Lease).service in
       let all : List (Call Token) = releasing s (suc d.service.given) b.number gives way in
@@ -187,23 +187,23 @@ module _ (d : Desk) (key : ℕ) (h : Hold) (c : Seat) (sound : Sound d) (sit : A
         sole = its.sole;
         line = its.line;
       } in
-      subst (λ (o : Option desk.Loan). P (desk.brings_by d s gives way o)) (sym b.lent) t
+      subst (λ (o : Option pool.Loan). P (pool.brings_by d s gives way o)) (sym b.lent) t
 
-  deed_spares : (other : ℕ) (deed : Deed) → (h.lease == other) ≡ false → Spares h.lease h.number (desk.call_of other deed)
-  deed_spares other desk.Asks e = e
-  deed_spares other (desk.Puts count) e = e
-  deed_spares other (desk.Ends count) e = e
-  deed_spares other desk.Stops e = e
+  action_spares : (other : ℕ) (action : Action) → (h.lease == other) ≡ false → Spares h.lease h.number (pool.call_of other action)
+  action_spares other pool.Asks e = e
+  action_spares other (pool.Puts count) e = e
+  action_spares other (pool.Ends count) e = e
+  action_spares other pool.Stops e = e
 
-  does_pass : (other : ℕ) (deed : Deed) (o : Option Hold) → find_key other d.holds ≡ o → (other == key) ≡ false → P (desk.does d deed o)
-  does_pass other deed None e ne = rests_pass d.line its.line
-  does_pass other deed (Some x) e ne = record { service = refl; spares = (deed_spares x.lease deed (differs other x e ne), tt); sole = its.sole; line = its.line }
+  does_pass : (other : ℕ) (action : Action) (o : Option Hold) → find_key other d.holds ≡ o → (other == key) ≡ false → P (pool.does d action o)
+  does_pass other action None e ne = rests_pass d.line its.line
+  does_pass other action (Some x) e ne = record { service = refl; spares = (action_spares x.lease action (differs other x e ne), tt); sole = its.sole; line = its.line }
 
   without_its : (x : Hold) → (h.lease == x.lease) ≡ false → theirs key (without_lease x.lease d.holds) ≡ h ∷ []
   without_its x e = theirs_kept key h (λ (y : Hold). not (y.lease == x.lease)) d.holds its.sole (unequal (h.lease == x.lease) e)
 
-  leaves_pass : (other : ℕ) (gives : Bool) (way : Way) (o : Option Hold) → find_key other d.holds ≡ o → (other == key) ≡ false → P (desk.leaves d other gives way o)
-  leaves_pass other gives way None e ne = rests_pass (desk.without other d.line) (none_filtered key (λ (k : ℕ). not (k == other)) d.line its.line)
+  leaves_pass : (other : ℕ) (gives : Bool) (way : Way) (o : Option Hold) → find_key other d.holds ≡ o → (other == key) ≡ false → P (pool.leaves d other gives way o)
+  leaves_pass other gives way None e ne = rests_pass (pool.without other d.line) (none_filtered key (λ (k : ℕ). not (k == other)) d.line its.line)
   leaves_pass other gives way (Some x) e ne = record {
     service = refl;
     spares = releasing_spares d.service h.lease h.number x.lease x.number gives way sound.tidy (within d key h c sound its) (differs other x e ne) (numbers_differ other x e (differs other x e ne));
@@ -221,7 +221,7 @@ module _ (d : Desk) (key : ℕ) (h : Hold) (c : Seat) (sound : Sound d) (sit : A
       let ne = numbers_differ other x found e in
       record { service = refl; spares = (e, (ne, tt)); sole = without_others x.number ne; line = its.line }
 
-  renews_by_pass : (other : ℕ) (x : Hold) (ticket : ℕ) (o : Option desk.Loan) (resumes : Bool) → find_key other d.holds ≡ Some x → (other == key) ≡ false → P (desk.renews_by d x ticket o resumes)
+  renews_by_pass : (other : ℕ) (x : Hold) (ticket : ℕ) (o : Option pool.Loan) (resumes : Bool) → find_key other d.holds ≡ Some x → (other == key) ≡ false → P (pool.renews_by d x ticket o resumes)
   renews_by_pass other x ticket o false e ne = closed_pass other x e ne
   renews_by_pass other x ticket None true e ne = closed_pass other x e ne
   renews_by_pass other x ticket (Some loan) true e ne =
@@ -234,11 +234,11 @@ module _ (d : Desk) (key : ℕ) (h : Hold) (c : Seat) (sound : Sound d) (sit : A
         line = its.line;
       }
 
-  keeps_by_pass : (other : ℕ) (x : Hold) (resumes : Bool) (s : Service) (o : Option ℕ) → find_key other d.holds ≡ Some x → (other == key) ≡ false → P (desk.keeps_by d x resumes s o)
+  keeps_by_pass : (other : ℕ) (x : Hold) (resumes : Bool) (s : Service) (o : Option ℕ) → find_key other d.holds ≡ Some x → (other == key) ≡ false → P (pool.keeps_by d x resumes s o)
   keeps_by_pass other x resumes s None e ne = rests_pass d.line its.line
   keeps_by_pass other x resumes s (Some ticket) e ne = renews_by_pass other x ticket (lent_in (step {T = Token} s (calls.Resume ticket)).reply) resumes e ne
 
-  renews_pass : (other : ℕ) (resumes : Bool) (o : Option Hold) → find_key other d.holds ≡ o → (other == key) ≡ false → P (desk.renews d resumes o)
+  renews_pass : (other : ℕ) (resumes : Bool) (o : Option Hold) → find_key other d.holds ≡ o → (other == key) ≡ false → P (pool.renews d resumes o)
   renews_pass other resumes None e ne = rests_pass d.line its.line
   renews_pass other resumes (Some x) e ne =
       let kept = step {T = Token} d.service (calls.Keep x.lease) in
@@ -252,32 +252,32 @@ module _ (d : Desk) (key : ℕ) (h : Hold) (c : Seat) (sound : Sound d) (sit : A
       absurd (let u : None ≡ Some h = sym none ∙ found in let v : ⊥ = cc in v)
   unleased_by l false e none = refl
 
-  settles_of_spares : (s : Service) (m l : ℕ) (way : Way) (o : Option Hold) → (h.number == m) ≡ false → find_lease l d.holds ≡ o → SparesAll h.lease h.number (desk.settles_of s m l way o)
+  settles_of_spares : (s : Service) (m l : ℕ) (way : Way) (o : Option Hold) → (h.number == m) ≡ false → find_lease l d.holds ≡ o → SparesAll h.lease h.number (pool.settles_of s m l way o)
   settles_of_spares s m l way (Some x) nm e = tt
   settles_of_spares s m l way None nm e =
       let ne : (h.lease == l) ≡ false = (let b : (h.lease == l) ≡ false = unleased_by l (h.lease == l) refl e in b) in
       let b = frees (step {T = Token} s (calls.Cleaned l)).reply in
       (ne, if_all_spare h.lease h.number b [] (calls.Lost m ∷ []) tt (nm, tt))
 
-  settles_spares : (s : Service) (m : ℕ) (way : Way) (o : Option ℕ) → (h.number == m) ≡ false → h.lease ≤ s.given → SparesAll h.lease h.number (desk.settles d.holds s m way o)
+  settles_spares : (s : Service) (m : ℕ) (way : Way) (o : Option ℕ) → (h.number == m) ≡ false → h.lease ≤ s.given → SparesAll h.lease h.number (pool.settles d.holds s m way o)
   settles_spares s m way (Some l) nm le = settles_of_spares s m l way (find_lease l d.holds) nm refl
   settles_spares s m way None nm le = cleaning_spares h.lease h.number m (suc s.given) way (later h.lease s.given le) nm
 
   comes_by_pass : (m : ℕ) (part : Part Token) (s : Service) (way : Way) (o : Option ℕ) (dones : List (Done Token)) (hearing : Hearing) → (h.number == m) ≡ false → h.lease ≤ s.given
-      → P (desk.with_broken m dones (desk.comes_by d (calls.Came m part) s m way o hearing))
-  comes_by_pass m part s way o dones desk.Goes e le = record { service = refl; spares = (e, tt); sole = its.sole; line = its.line }
-  comes_by_pass m part s way o dones desk.Settled e le = record { service = refl; spares = (e, settles_spares s m way o e le); sole = its.sole; line = its.line }
-  comes_by_pass m part s way o dones desk.Wrong e le = record { service = refl; spares = (e, (e, tt)); sole = without_others m e; line = its.line }
+      → P (pool.with_broken m dones (pool.comes_by d (calls.Came m part) s m way o hearing))
+  comes_by_pass m part s way o dones pool.Goes e le = record { service = refl; spares = (e, tt); sole = its.sole; line = its.line }
+  comes_by_pass m part s way o dones pool.Settled e le = record { service = refl; spares = (e, settles_spares s m way o e le); sole = its.sole; line = its.line }
+  comes_by_pass m part s way o dones pool.Wrong e le = record { service = refl; spares = (e, (e, tt)); sole = without_others m e; line = its.line }
 
   pub passes : (event : Event) → IsOthers key h.number event → P (turn d event)
-  passes (desk.Waits other) e = rests_pass (d.line ++ other ∷ []) (line_other key other d.line e ∙ its.line)
-  passes (desk.Unwaits other) e = rests_pass (desk.without other d.line) (none_filtered key (λ (k : ℕ). not (k == other)) d.line its.line)
-  passes desk.Serves e = serves_pass d.line its.line
-  passes (desk.Brings gives way) e = brings_pass gives way (brought d sound)
-  passes (desk.Does other deed) e = does_pass other deed (find_key other d.holds) refl e
-  passes (desk.Leaves other gives way) e = leaves_pass other gives way (find_key other d.holds) refl e
-  passes (desk.Renews other resumes) e = renews_pass other resumes (find_key other d.holds) refl e
-  passes (desk.Comes m part way) e =
+  passes (pool.Waits other) e = rests_pass (d.line ++ other ∷ []) (line_other key other d.line e ∙ its.line)
+  passes (pool.Unwaits other) e = rests_pass (pool.without other d.line) (none_filtered key (λ (k : ℕ). not (k == other)) d.line its.line)
+  passes pool.Serves e = serves_pass d.line its.line
+  passes (pool.Brings gives way) e = brings_pass gives way (brought d sound)
+  passes (pool.Does other action) e = does_pass other action (find_key other d.holds) refl e
+  passes (pool.Leaves other gives way) e = leaves_pass other gives way (find_key other d.holds) refl e
+  passes (pool.Renews other resumes) e = renews_pass other resumes (find_key other d.holds) refl e
+  passes (pool.Comes m part way) e =
       let heard = step {T = Token} d.service (calls.Came m part) in
-      comes_by_pass m part heard.service way (lease_at (seat_numbered m d.service.seats)) heard.dones (desk.hearing heard.dones) e (rises (calls.Came m part))
-  passes (desk.Loses m) e = record { service = refl; spares = (e, tt); sole = without_others m e; line = its.line }
+      comes_by_pass m part heard.service way (lease_at (seat_numbered m d.service.seats)) heard.dones (pool.hearing heard.dones) e (rises (calls.Came m part))
+  passes (pool.Loses m) e = record { service = refl; spares = (e, tt); sole = without_others m e; line = its.line }

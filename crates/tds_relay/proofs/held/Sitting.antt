@@ -14,9 +14,9 @@ use Rattle.tds_service.specs.Service as calls
 use Rattle.tds_service.specs.Service.{Service, Call, Reply, Step, Place, Leased, Cleaning, Kept, Free, Draining, Seat, find_by, change_by, has_lease, has_ticket, has_number, is_lendable, is_idle, may_keep, clean_place, drained, rests, rests_cleaned, does, nothing, acts_unless, lease_at, seat_numbered, step, service_after}
 use Rattle.tds_service.proofs.Numbered.{added_here, added_other, change_here, change_other, change_out, is_found}
 use Rattle.tds_service.proofs.Tests.{above, below}
-use Rattle.tds_relay.specs.declared.desk.Hold.{Hold}
-use Rattle.tds_relay.specs.Desk as desk
-use Rattle.tds_relay.specs.Desk.{Desk, Event, Deed, Way, Turn, Hearing, find_key, find_lease, without_lease, without_number, holding, moves, cleaning, cleaning_by, releasing, frees, lent_in, ticket_in, turn}
+use Rattle.tds_relay.specs.declared.pool.Hold.{Hold}
+use Rattle.tds_relay.specs.Pool as pool
+use Rattle.tds_relay.specs.Pool.{Pool, Event, Action, Way, Turn, Hearing, find_key, find_lease, without_lease, without_number, holding, moves, cleaning, cleaning_by, releasing, frees, lent_in, ticket_in, turn}
 use Rattle.tds_relay.specs.Promises.{Each}
 use Rattle.tds_relay.proofs.promises.Seats.{Distinct, each_found, found_meets}
 use Rattle.tds_relay.proofs.promises.Tidy.{Tidy, UpTo, step_rises}
@@ -201,14 +201,14 @@ all_sit s x (call ∷ all) tidy h sits = all_sit (step s call).service x all (st
 
 module _ (s : Service) (tidy : Tidy s) (key : ℕ) where
   abbrev LentSits : Step Token → Type 0
-  LentSits t = (loan : desk.Loan) → lent_in t.reply ≡ Some loan → Sits t.service (holding key loan.lease loan.number)
+  LentSits t = (loan : pool.Loan) → lent_in t.reply ≡ Some loan → Sits t.service (holding key loan.lease loan.number)
 
   placed_sits : (given : ℕ) (test : Seat → Bool) (d : Seat) (all : List (Act Token)) → find_by test s.seats ≡ Some d
       → LentSits (does s given test d (Some (Leased given)) all (calls.Lent given d.number true))
   placed_sits given test d all e loan is =
       let l = line_after d.line all in
       let d2 : Seat = record { number = d.number; place = Leased given; line = l } in
-      let one : desk.Loan = record { lease = given; number = d.number } in
+      let one : pool.Loan = record { lease = given; number = d.number } in
       let here : seat_numbered d.number (change_by test (Some (Leased given)) l s.seats) ≡ Some d2 = change_here test d (Leased given) l s.seats tidy.distinct e in
       let low : d.number ≤ s.last = each_found (UpTo s.last) test d s.seats tidy.upto e in
       let sits : Sits (does s given test d (Some (Leased given)) all (calls.Lent given d.number true)).service (holding key given d.number) = record {
@@ -216,7 +216,7 @@ module _ (s : Service) (tidy : Tidy s) (key : ℕ) where
         lent = λ c found. (let same : c ≡ d2 = (let u : Some c ≡ Some d2 = sym found ∙ here in cc) in ap (λ (y : Seat). y.place) same);
       } in
       let same : one ≡ loan = cc in
-      subst (λ (y : desk.Loan). Sits (does s given test d (Some (Leased given)) all (calls.Lent given d.number true)).service (holding key y.lease y.number)) same sits
+      subst (λ (y : pool.Loan). Sits (does s given test d (Some (Leased given)) all (calls.Lent given d.number true)).service (holding key y.lease y.number)) same sits
 
   none_sits : (reply : Reply) → lent_in reply ≡ None → LentSits (nothing s reply)
   none_sits reply none loan is = absurd (let u : None ≡ Some loan = sym none ∙ is in let v : ⊥ = cc in v)
@@ -232,14 +232,14 @@ module _ (s : Service) (tidy : Tidy s) (key : ℕ) where
   opened_sits false loan is = none_sits calls.AllInUse refl loan is
   opened_sits true loan is =
       let c : Seat = record { number = suc s.last; place = Leased (suc s.given); line = new_line } in
-      let one : desk.Loan = record { lease = suc s.given; number = suc s.last } in
+      let one : pool.Loan = record { lease = suc s.given; number = suc s.last } in
       let here : seat_numbered (suc s.last) (s.seats ++ c ∷ []) ≡ Some c = added_here c s.seats (numbered_none s.last s.seats tidy.upto) in
       let sits : Sits (calls.opens {T = Token} s true).service (holding key (suc s.given) (suc s.last)) = record {
         low = (let le : suc s.last ≤ suc s.last = omega arith in le);
         lent = λ d found. (let same : d ≡ c = (let u : Some d ≡ Some c = sym found ∙ here in cc) in ap (λ (y : Seat). y.place) same);
       } in
       let same : one ≡ loan = cc in
-      subst (λ (y : desk.Loan). Sits (calls.opens {T = Token} s true).service (holding key y.lease y.number)) same sits
+      subst (λ (y : pool.Loan). Sits (calls.opens {T = Token} s true).service (holding key y.lease y.number)) same sits
 
   lent_by : (o : Option Seat) → find_by is_lendable s.seats ≡ o → LentSits (calls.lends {T = Token} s o)
   lent_by None e = opened_sits (nat_lt (length s.seats) s.max)

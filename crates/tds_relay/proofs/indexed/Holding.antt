@@ -1,9 +1,9 @@
 -- What is held, beside what stands by its ids.
 use Rattle.std.proofs.Common.{◌≡◌, ◌∙◌, ℕ, Bool, true, false, ◌==◌, List, [], ◌∷◌, ◌++◌, refl, sym, ap}
 use Rattle.std.specs.Prelude.{filter, Option, Some, if◌then◌else◌}
-use Rattle.tds_relay.specs.declared.desk.Hold.{Hold}
+use Rattle.tds_relay.specs.declared.pool.Hold.{Hold}
 use Rattle.tds_relay.specs.declared.index.Indexed.{Indexed}
-use Rattle.tds_relay.specs.Desk.{find_key, find_lease, find_number}
+use Rattle.tds_relay.specs.Pool.{find_key, find_lease, find_number}
 use Rattle.tds_relay.specs.Sorted.{Climbs, first, ids_in, one_if, under}
 use Rattle.tds_relay.specs.Holding.{IsIndexBy, key_in, lease_in, number_in}
 use Rattle.tds_relay.proofs.indexed.Index.{no, yes}

@@ -4,14 +4,14 @@ use Rattle.std.specs.Prelude.{Option, Some, None, ◌⊎◌, nat_lt}
 use Rattle.std.proofs.lemmas.Bool.{eqb-true, eq-eqb}
 use Rattle.tds_wire.specs.declared.told.Token.{Token}
 use Rattle.tds_packet.specs.declared.status.Reset.TheVariants.{Full}
-use Rattle.tds_relay.specs.declared.desk.Hold.{Hold}
+use Rattle.tds_relay.specs.declared.pool.Hold.{Hold}
 use Rattle.tds_service.specs.Line as line
 use Rattle.tds_service.specs.Line.{Line, Stage, cancels, new_line}
 use Rattle.tds_service.specs.History.{line_after}
 use Rattle.tds_service.specs.Service as calls
 use Rattle.tds_service.specs.Service.{Service, Call, Reply, Place, Leased, Cleaning, Kept, Free, Draining, Seat, find_by, change_by, has_lease, has_number, is_lendable, is_idle, is_free, rests, step, service_after, does, nothing}
-use Rattle.tds_relay.specs.Desk as desk
-use Rattle.tds_relay.specs.Desk.{Desk, Event, Sharing, Way, find_key, find_lease, moves, releasing, frees, lent_in, brings_by, turn, desk_after, new_desk}
+use Rattle.tds_relay.specs.Pool as pool
+use Rattle.tds_relay.specs.Pool.{Pool, Event, Sharing, Way, find_key, find_lease, moves, releasing, frees, lent_in, brings_by, turn, pool_after, new_pool}
 use Rattle.tds_relay.specs.Promises.{Each, CaresFor}
 use Rattle.tds_relay.proofs.promises.Seats.{each_weaker, each_added, each_found, each_fails, found_meets}
 use Rattle.tds_relay.proofs.promises.Tidy.{Tidy, UpTo, step_rises, next_is_new}
@@ -60,19 +60,19 @@ releasing_cares held s lease n false way tidy new h =
 releasing_cares held s lease n true way tidy new h = given_by held s lease n way (find_by (has_lease lease) s.seats) refl tidy new h
 
 -- others, before it is lent
-others : (d : Desk) → Sound d → Each (Other d.holds (suc d.service.given)) d.service.seats
+others : (d : Pool) → Sound d → Each (Other d.holds (suc d.service.given)) d.service.seats
 others d sound =
     each_fails (CaresFor d.holds) (Other d.holds (suc d.service.given)) (has_lease (suc d.service.given)) (λ x hx fails. record { cared = hx; not_its = fails }) d.service.seats sound.cared
     (next_is_new d.service sound.tidy)
 
 -- One is lent, to nobody yet: it is idle, and the others are cared for.
-pub record Brought (d : Desk) : Type 0 where
+pub record Brought (d : Pool) : Type 0 where
   pub number : ℕ
   pub given : (step {T = Token} d.service calls.Lease).service.given ≡ suc d.service.given
   pub lent : lent_in (step {T = Token} d.service calls.Lease).reply ≡ Some (record { lease = suc d.service.given; number = number })
   pub phase : Each (Phase number (IsIdleAt (Leased (suc d.service.given))) (Other d.holds (suc d.service.given))) (step {T = Token} d.service calls.Lease).service.seats
 
-brought_open : (d : Desk) (room : Bool) → nat_lt (length d.service.seats) d.service.max ≡ room → find_by is_lendable d.service.seats ≡ None → Sound d
+brought_open : (d : Pool) (room : Bool) → nat_lt (length d.service.seats) d.service.max ≡ room → find_by is_lendable d.service.seats ≡ None → Sound d
     → (lent_in (step {T = Token} d.service calls.Lease).reply ≡ None) ⊎ Brought d
 brought_open d false r e sound = inl (rw (e, r) refl)
 brought_open d true r e sound =
@@ -100,7 +100,7 @@ lendable_idle c e = idle_is c.line.stage (and_second (is_free c.place) (is_idle 
 marked_idle : (l : Line) → l.stage ≡ line.Idle → (line_after {T = Token} l (line.Mark Full ∷ [])).stage ≡ line.Idle
 marked_idle l e = rw e refl
 
-brought_found : (d : Desk) (o : Option Seat) → find_by is_lendable d.service.seats ≡ o → Sound d → (lent_in (step {T = Token} d.service calls.Lease).reply ≡ None) ⊎ Brought d
+brought_found : (d : Pool) (o : Option Seat) → find_by is_lendable d.service.seats ≡ o → Sound d → (lent_in (step {T = Token} d.service calls.Lease).reply ≡ None) ⊎ Brought d
 brought_found d None e sound = brought_open d (nat_lt (length d.service.seats) d.service.max) refl e sound
 brought_found d (Some c) e sound =
     let n = c.number in
@@ -114,37 +114,37 @@ brought_found d (Some c) e sound =
     (record { is_at = refl; idle = marked_idle c.line (lendable_idle c (found_meets is_lendable c d.service.seats e)) }) in
     inr (record { number = c.number; given = rw e refl; lent = rw e refl; phase = subst (λ (cs : List Seat). Each (Phase n X O) cs) (sym seats) all })
 
-pub brought : (d : Desk) → Sound d → (lent_in (step {T = Token} d.service calls.Lease).reply ≡ None) ⊎ Brought d
+pub brought : (d : Pool) → Sound d → (lent_in (step {T = Token} d.service calls.Lease).reply ≡ None) ⊎ Brought d
 brought d sound = brought_found d (find_by is_lendable d.service.seats) refl sound
 
-brings_by_brought : (d : Desk) (gives : Bool) (way : Way) → (lent_in (step {T = Token} d.service calls.Lease).reply ≡ None) ⊎ Brought d → Sound d → Sound (desk.brings d gives way).desk
+brings_by_brought : (d : Pool) (gives : Bool) (way : Way) → (lent_in (step {T = Token} d.service calls.Lease).reply ≡ None) ⊎ Brought d → Sound d → Sound (pool.brings d gives way).pool
 brings_by_brought d gives way (inl none) sound =
-    subst (λ (o : Option desk.Loan). Sound (brings_by d (step {T = Token} d.service calls.Lease).service gives way o).desk) (sym none) (rests_sound d d.line sound)
+    subst (λ (o : Option pool.Loan). Sound (brings_by d (step {T = Token} d.service calls.Lease).service gives way o).pool) (sym none) (rests_sound d d.line sound)
 brings_by_brought d gives way (inr b) sound =
     let s = (step {T = Token} d.service calls.Lease).service in
     let t = step_rises d.service calls.Lease sound.tidy in
     let lease = suc d.service.given in
-    subst (λ (o : Option desk.Loan). Sound (brings_by d s gives way o).desk) (sym b.lent)
+    subst (λ (o : Option pool.Loan). Sound (brings_by d s gives way o).pool) (sym b.lent)
     (sound_by d d.holds d.line (calls.Lease ∷ releasing s lease b.number gives way) sound sound.rising
     (releasing_cares d.holds s lease b.number gives way t.tidy (none_above 0 d.service.given (suc s.given) d.holds sound.rising (omega (arith, b.given))) b.phase))
 
 -- ---- All events
 
-pub turn_sound : (d : Desk) (event : Event) → Sound d → Sound (turn d event).desk
-turn_sound d (desk.Waits key) sound = rests_sound d (d.line ++ key ∷ []) sound
-turn_sound d (desk.Unwaits key) sound = rests_sound d (desk.without key d.line) sound
-turn_sound d desk.Serves sound = serves_sound d d.line sound
-turn_sound d (desk.Brings gives way) sound = brings_by_brought d gives way (brought d sound) sound
-turn_sound d (desk.Does key deed) sound = does_sound d key deed (find_key key d.holds) refl sound
-turn_sound d (desk.Leaves key gives way) sound = leaves_sound d key gives way (find_key key d.holds) refl sound
-turn_sound d (desk.Renews key resumes) sound = renews_sound d key resumes (find_key key d.holds) refl sound
-turn_sound d (desk.Comes number part way) sound = comes_sound d number part way sound
-turn_sound d (desk.Loses number) sound = loses_sound d number sound
+pub turn_sound : (d : Pool) (event : Event) → Sound d → Sound (turn d event).pool
+turn_sound d (pool.Waits key) sound = rests_sound d (d.line ++ key ∷ []) sound
+turn_sound d (pool.Unwaits key) sound = rests_sound d (pool.without key d.line) sound
+turn_sound d pool.Serves sound = serves_sound d d.line sound
+turn_sound d (pool.Brings gives way) sound = brings_by_brought d gives way (brought d sound) sound
+turn_sound d (pool.Does key action) sound = does_sound d key action (find_key key d.holds) refl sound
+turn_sound d (pool.Leaves key gives way) sound = leaves_sound d key gives way (find_key key d.holds) refl sound
+turn_sound d (pool.Renews key resumes) sound = renews_sound d key resumes (find_key key d.holds) refl sound
+turn_sound d (pool.Comes number part way) sound = comes_sound d number part way sound
+turn_sound d (pool.Loses number) sound = loses_sound d number sound
 
-all_sound : (d : Desk) (events : List Event) → Sound d → Sound (desk_after d events)
+all_sound : (d : Pool) (events : List Event) → Sound d → Sound (pool_after d events)
 all_sound d [] sound = sound
-all_sound d (event ∷ events) sound = all_sound (turn d event).desk events (turn_sound d event sound)
+all_sound d (event ∷ events) sound = all_sound (turn d event).pool events (turn_sound d event sound)
 
-pub always_sound : (sharing : Sharing) (events : List Event) → Sound (desk_after (new_desk sharing) events)
+pub always_sound : (sharing : Sharing) (events : List Event) → Sound (pool_after (new_pool sharing) events)
 always_sound sharing events =
-    all_sound (new_desk sharing) events (record { tidy = record { distinct = tt; upto = tt; within = tt }; rising = (let u : 0 ≤ 0 = omega arith in u); cared = tt })
+    all_sound (new_pool sharing) events (record { tidy = record { distinct = tt; upto = tt; within = tt }; rising = (let u : 0 ≤ 0 = omega arith in u); cared = tt })

@@ -5,22 +5,22 @@ use Rattle.std.proofs.lemmas.Bool.{eqb-true, eq-eqb}
 use Rattle.tds_client.specs.declared.fault.ClientRefusal.{ClientRefusal}
 use Rattle.tds_wire.specs.declared.told.Token.{Token}
 use Rattle.tds_packet.specs.declared.status.Reset.TheVariants.{Full}
-use Rattle.tds_relay.specs.declared.desk.Hold.{Hold}
+use Rattle.tds_relay.specs.declared.pool.Hold.{Hold}
 use Rattle.tds_service.specs.Line as line
 use Rattle.tds_service.specs.Line.{Line, Act, Stage, turn, new_line, sends, marks, asks, cancels}
 use Rattle.tds_service.specs.History.{line_after}
 use Rattle.tds_service.specs.Refusing.{packets, refusal_in}
 use Rattle.tds_service.specs.Service as calls
 use Rattle.tds_service.specs.Service.{Service, Call, Reply, Step, Back, Place, Leased, Cleaning, Kept, Free, Draining, Seat, find_by, change_by, has_lease, has_ticket, has_number, holds, is_lendable, is_free, is_idle, rests, acts_unless, step, service_after, does, nothing}
-use Rattle.tds_relay.specs.Desk as desk
-use Rattle.tds_relay.specs.Desk.{Desk, Way, Event, Deed, Turn, find_key, find_lease, without_lease, without_number, holding, moves, cleaning, releasing, frees, lent_in}
+use Rattle.tds_relay.specs.Pool as pool
+use Rattle.tds_relay.specs.Pool.{Pool, Way, Event, Action, Turn, find_key, find_lease, without_lease, without_number, holding, moves, cleaning, releasing, frees, lent_in}
 use Rattle.tds_relay.specs.Promises.{Each, CaresFor, IsCaredFor, IsHeld}
 use Rattle.tds_relay.proofs.promises.Seats.{Distinct, each_weaker, each_added, each_found, each_changed, each_fails, found_meets}
 use Rattle.tds_relay.proofs.promises.Tidy.{Tidy, WithinAt, WithinIn, step_rises, all_rise}
 use Rattle.tds_relay.proofs.promises.Holding.{Rising, rising_more, rising_filtered, rising_added, found_lease, none_above, found_by_lease, added_some, added_none, added_new, filtered_some, filtered_none}
 use Rattle.tds_relay.proofs.promises.Phases.{Choose, Phase, IsIdleAt, as_one, as_other, lost_leaves, cleaning_cares}
 
-pub record Sound (d : Desk) : Type 0 where
+pub record Sound (d : Pool) : Type 0 where
   pub tidy : Tidy d.service
   pub rising : Rising 0 d.service.given d.holds
   pub cared : Each (CaresFor d.holds) d.service.seats
@@ -29,13 +29,13 @@ pub each_both : (P Q : Seat → Type 0) (cs : List Seat) → Each P cs → Each 
 each_both P Q [] h g = tt
 each_both P Q (c ∷ cs) h g = ((h.0, g.0), each_both P Q cs h.1 g.1)
 
-pub sound_by : (d : Desk) (held : List Hold) (waiting : List ℕ) (all : List (Call Token)) → Sound d → Rising 0 d.service.given held
-    → Each (CaresFor held) (service_after d.service all).seats → Sound (moves d held waiting all).desk
+pub sound_by : (d : Pool) (held : List Hold) (waiting : List ℕ) (all : List (Call Token)) → Sound d → Rising 0 d.service.given held
+    → Each (CaresFor held) (service_after d.service all).seats → Sound (moves d held waiting all).pool
 sound_by d held waiting all sound rising cared =
     let rises = all_rise d.service all sound.tidy in
     record { tidy = rises.tidy; rising = rising_more 0 d.service.given (service_after d.service all).given held rises.rises rising; cared = cared }
 
-pub rests_sound : (d : Desk) (waiting : List ℕ) → Sound d → Sound (moves d d.holds waiting []).desk
+pub rests_sound : (d : Pool) (waiting : List ℕ) → Sound d → Sound (moves d d.holds waiting []).pool
 rests_sound d waiting sound = record { tidy = sound.tidy; rising = sound.rising; cared = sound.cared }
 
 -- ---- One more is held
@@ -57,7 +57,7 @@ added_rising : (given key number : ℕ) (held : List Hold) → Rising 0 given he
 added_rising given key number held rising = rising_added 0 given (holding key (suc given) number) held rising (omega arith)
 
 -- A connection that was free is lent to whoever waits first; or a new one is.
-serves_free : (d : Desk) (key : ℕ) (others : List ℕ) (c : Seat) → Sound d → find_by is_lendable d.service.seats ≡ Some c
+serves_free : (d : Pool) (key : ℕ) (others : List ℕ) (c : Seat) → Sound d → find_by is_lendable d.service.seats ≡ Some c
     → Each (CaresFor (d.holds ++ holding key (suc d.service.given) c.number ∷ [])) (change_by is_lendable (Some (Leased (suc d.service.given))) (line_after {T = Token} c.line (line.Mark Full ∷ [])) d.service.seats)
 serves_free d key others c sound e =
     let given = d.service.given in
@@ -67,9 +67,9 @@ serves_free d key others c sound e =
     (λ x h other. more_cares d.holds given (holding key (suc given) c.number) x.number x.place x.line (let u : given < suc given = omega arith in u) h.1 h.0)
     (lent_held d.holds given key c.number sound.rising)
 
-served_sound : (d : Desk) (key number : ℕ) (others : List ℕ) → Sound d → (step {T = Token} d.service calls.Lease).service.given ≡ suc d.service.given
+served_sound : (d : Pool) (key number : ℕ) (others : List ℕ) → Sound d → (step {T = Token} d.service calls.Lease).service.given ≡ suc d.service.given
     → Each (CaresFor (d.holds ++ holding key (suc d.service.given) number ∷ [])) (step {T = Token} d.service calls.Lease).service.seats
-    → Sound (moves d (d.holds ++ holding key (suc d.service.given) number ∷ []) others (calls.Lease ∷ [])).desk
+    → Sound (moves d (d.holds ++ holding key (suc d.service.given) number ∷ []) others (calls.Lease ∷ [])).pool
 served_sound d key number others sound is cared = record {
   tidy = (step_rises d.service calls.Lease sound.tidy).tidy;
   rising = subst (λ (k : ℕ). Rising 0 k (d.holds ++ holding key (suc d.service.given) number ∷ [])) (sym is) (added_rising d.service.given key number d.holds sound.rising);
@@ -79,7 +79,7 @@ served_sound d key number others sound is cared = record {
 opened : Service → Seat
 opened s = record { number = suc s.last; place = Leased (suc s.given); line = new_line }
 
-serves_new : (d : Desk) (key : ℕ) (c : Seat) → Sound d → c.number ≡ suc d.service.last → c.place ≡ Leased (suc d.service.given)
+serves_new : (d : Pool) (key : ℕ) (c : Seat) → Sound d → c.number ≡ suc d.service.last → c.place ≡ Leased (suc d.service.given)
     → Each (CaresFor (d.holds ++ holding key (suc d.service.given) (suc d.service.last) ∷ [])) (d.service.seats ++ c ∷ [])
 serves_new d key c sound number place =
     let given = d.service.given in
@@ -91,8 +91,8 @@ serves_new d key c sound number place =
     (subst (λ (p : Place). IsCaredFor more c.number p c.line) (sym place)
     (subst (λ (k : ℕ). IsHeld more (suc given) k) (sym number) (lent_held d.holds given key (suc d.service.last) sound.rising)))
 
-serves_open : (d : Desk) (key : ℕ) (others : List ℕ) (room : Bool) → nat_lt (length d.service.seats) d.service.max ≡ room → find_by is_lendable d.service.seats ≡ None → Sound d
-    → Sound (desk.serves_by d key others (lent_in (step {T = Token} d.service calls.Lease).reply)).desk
+serves_open : (d : Pool) (key : ℕ) (others : List ℕ) (room : Bool) → nat_lt (length d.service.seats) d.service.max ≡ room → find_by is_lendable d.service.seats ≡ None → Sound d
+    → Sound (pool.serves_by d key others (lent_in (step {T = Token} d.service calls.Lease).reply)).pool
 serves_open d key others false r e sound = rw (e, r) (rests_sound d d.line sound)
 serves_open d key others true r e sound =
     let is : (step {T = Token} d.service calls.Lease).service.given ≡ suc d.service.given = rw (e, r) refl in
@@ -104,8 +104,8 @@ serves_open d key others true r e sound =
     (subst (λ (cs : List Seat). Each (CaresFor more) cs) (sym seats)
     (serves_new d key (record { number = suc d.service.last; place = Leased (suc d.service.given); line = new_line }) sound refl refl)))
 
-serves_by_found : (d : Desk) (key : ℕ) (others : List ℕ) (o : Option Seat) → find_by is_lendable d.service.seats ≡ o → Sound d
-    → Sound (desk.serves_by d key others (lent_in (step {T = Token} d.service calls.Lease).reply)).desk
+serves_by_found : (d : Pool) (key : ℕ) (others : List ℕ) (o : Option Seat) → find_by is_lendable d.service.seats ≡ o → Sound d
+    → Sound (pool.serves_by d key others (lent_in (step {T = Token} d.service calls.Lease).reply)).pool
 serves_by_found d key others None e sound = serves_open d key others (nat_lt (length d.service.seats) d.service.max) refl e sound
 serves_by_found d key others (Some c) e sound =
     let is : (step {T = Token} d.service calls.Lease).service.given ≡ suc d.service.given = rw e refl in
@@ -116,7 +116,7 @@ serves_by_found d key others (Some c) e sound =
     (served_sound d key c.number others sound is
     (subst (λ (cs : List Seat). Each (CaresFor more) cs) (sym seats) (serves_free d key others c sound e)))
 
-pub serves_sound : (d : Desk) (waiting : List ℕ) → Sound d → Sound (desk.serves d waiting).desk
+pub serves_sound : (d : Pool) (waiting : List ℕ) → Sound d → Sound (pool.serves d waiting).pool
 serves_sound d [] sound = rests_sound d d.line sound
 serves_sound d (key ∷ others) sound = serves_by_found d key others (find_by is_lendable d.service.seats) refl sound
 
@@ -137,7 +137,7 @@ held_leased held lease n h (Kept ticket) l e c is = absurd c
 held_leased held lease n h Free l e c is = absurd (let u : ⊥ = cc in u)
 held_leased held lease n h Draining l e c is = absurd (let u : ⊥ = cc in u)
 
-pub found_held : (d : Desk) (h : Hold) (c : Seat) → Sound d → find_lease h.lease d.holds ≡ Some h → find_by (has_lease h.lease) d.service.seats ≡ Some c
+pub found_held : (d : Pool) (h : Hold) (c : Seat) → Sound d → find_lease h.lease d.holds ≡ Some h → find_by (has_lease h.lease) d.service.seats ≡ Some c
     → (c.place ≡ Leased h.lease) × (h.number ≡ c.number)
 found_held d h c sound held e =
     held_leased d.holds h.lease c.number h c.place c.line held (each_found (CaresFor d.holds) (has_lease h.lease) c d.service.seats sound.cared e) (found_meets (has_lease h.lease) c d.service.seats e)
@@ -146,28 +146,28 @@ stays_cared : (held : List Hold) (lease : ℕ) (c : Seat) (l : Line) → c.place
 stays_cared held lease c l e h =
     subst (λ (p : Place). IsCaredFor held c.number p l) (sym e) (let k : IsCaredFor held c.number (Leased lease) c.line = subst (λ (p : Place). IsCaredFor held c.number p c.line) e h in k)
 
-unless_cares : (d : Desk) (h : Hold) (c : Seat) (all : List (Act Token)) (why : Option ClientRefusal) → Sound d → find_lease h.lease d.holds ≡ Some h
+unless_cares : (d : Pool) (h : Hold) (c : Seat) (all : List (Act Token)) (why : Option ClientRefusal) → Sound d → find_lease h.lease d.holds ≡ Some h
     → find_by (has_lease h.lease) d.service.seats ≡ Some c → Each (CaresFor d.holds) (acts_unless d.service (has_lease h.lease) c all why).service.seats
 unless_cares d h c all (Some why) sound held e = sound.cared
 unless_cares d h c all None sound held e =
     each_changed (CaresFor d.holds) (CaresFor d.holds) (has_lease h.lease) (Some c.place) (line_after c.line all) c d.service.seats e sound.tidy.distinct sound.cared (λ x hx other. hx)
     (stays_cared d.holds h.lease c (line_after c.line all) (found_held d h c sound held e).0 (each_found (CaresFor d.holds) (has_lease h.lease) c d.service.seats sound.cared e))
 
-acts_care : (d : Desk) (h : Hold) (first : Act Token) (all : List (Act Token)) (o : Option Seat) → Sound d → find_lease h.lease d.holds ≡ Some h → find_by (has_lease h.lease) d.service.seats ≡ o
+acts_care : (d : Pool) (h : Hold) (first : Act Token) (all : List (Act Token)) (o : Option Seat) → Sound d → find_lease h.lease d.holds ≡ Some h → find_by (has_lease h.lease) d.service.seats ≡ o
     → Each (CaresFor d.holds) (calls.acts d.service (has_lease h.lease) first all o).service.seats
 acts_care d h first all None sound held e = sound.cared
 acts_care d h first all (Some c) sound held e = unless_cares d h c all (refusal_in (turn c.line first).answer) sound held e
 
-deed_cares : (d : Desk) (h : Hold) (deed : Deed) → Sound d → find_lease h.lease d.holds ≡ Some h → Each (CaresFor d.holds) (step d.service (desk.call_of h.lease deed)).service.seats
-deed_cares d h desk.Asks sound held = acts_care d h line.Ask (line.Ask ∷ []) _ sound held refl
-deed_cares d h (desk.Puts count) sound held = acts_care d h (line.Send false) (packets count) _ sound held refl
-deed_cares d h (desk.Ends count) sound held = acts_care d h (line.Send true) (packets count ++ line.Send true ∷ []) _ sound held refl
-deed_cares d h desk.Stops sound held = acts_care d h line.Cancel (line.Cancel ∷ []) _ sound held refl
+action_cares : (d : Pool) (h : Hold) (action : Action) → Sound d → find_lease h.lease d.holds ≡ Some h → Each (CaresFor d.holds) (step d.service (pool.call_of h.lease action)).service.seats
+action_cares d h pool.Asks sound held = acts_care d h line.Ask (line.Ask ∷ []) _ sound held refl
+action_cares d h (pool.Puts count) sound held = acts_care d h (line.Send false) (packets count) _ sound held refl
+action_cares d h (pool.Ends count) sound held = acts_care d h (line.Send true) (packets count ++ line.Send true ∷ []) _ sound held refl
+action_cares d h pool.Stops sound held = acts_care d h line.Cancel (line.Cancel ∷ []) _ sound held refl
 
-pub does_sound : (d : Desk) (key : ℕ) (deed : Deed) (o : Option Hold) → find_key key d.holds ≡ o → Sound d → Sound (desk.does d deed o).desk
-does_sound d key deed None e sound = rests_sound d d.line sound
-does_sound d key deed (Some h) e sound =
-    let behind = sound_by d d.holds d.line (desk.call_of h.lease deed ∷ []) sound sound.rising (deed_cares d h deed sound (found_by_lease key 0 d.service.given h d.holds sound.rising e)) in
+pub does_sound : (d : Pool) (key : ℕ) (action : Action) (o : Option Hold) → find_key key d.holds ≡ o → Sound d → Sound (pool.does d action o).pool
+does_sound d key action None e sound = rests_sound d d.line sound
+does_sound d key action (Some h) e sound =
+    let behind = sound_by d d.holds d.line (pool.call_of h.lease action ∷ []) sound sound.rising (action_cares d h action sound (found_by_lease key 0 d.service.given h d.holds sound.rising e)) in
     record { tidy = behind.tidy; rising = behind.rising; cared = behind.cared }
 
 -- ---- One is let go
@@ -281,7 +281,7 @@ released_by held s lease n way P (Some c) e tidy new h is f g =
     (released held s (has_lease lease) c n place l way P t2 tidy.distinct e (eq-eqb c.number n number) new h
     (λ x px other. f x px (subst (λ (k : ℕ). (x.number == k) ≡ false) number other)) (rested c.line c.line.stage refl))
 
-releases : (d : Desk) (h : Hold) (gives : Bool) (way : Way) → Sound d → find_lease h.lease d.holds ≡ Some h
+releases : (d : Pool) (h : Hold) (gives : Bool) (way : Way) → Sound d → find_lease h.lease d.holds ≡ Some h
     → Each (CaresFor (without_lease h.lease d.holds)) (service_after d.service (releasing d.service h.lease h.number gives way)).seats
 releases d h false way sound held =
     lost_leaves d.service h.number (CaresFor d.holds) (CaresFor d.holds) (CaresFor (without_lease h.lease d.holds)) sound.tidy.distinct (same_phase h.number (CaresFor d.holds) d.service.seats sound.cared)
@@ -292,16 +292,16 @@ releases d h true way sound held =
     sound.cared (λ c e. sym (found_held d h c sound held e).1)
     (λ x hx other. dropped d.holds h x.number x.place x.line held other hx) (λ x hx fails. unheld d.holds h.lease x.number x.place x.line fails hx)
 
-pub leaves_sound : (d : Desk) (key : ℕ) (gives : Bool) (way : Way) (o : Option Hold) → find_key key d.holds ≡ o → Sound d → Sound (desk.leaves d key gives way o).desk
-leaves_sound d key gives way None e sound = rests_sound d (desk.without key d.line) sound
+pub leaves_sound : (d : Pool) (key : ℕ) (gives : Bool) (way : Way) (o : Option Hold) → find_key key d.holds ≡ o → Sound d → Sound (pool.leaves d key gives way o).pool
+leaves_sound d key gives way None e sound = rests_sound d (pool.without key d.line) sound
 leaves_sound d key gives way (Some h) e sound =
-    sound_by d (without_lease h.lease d.holds) (desk.without key d.line) (releasing d.service h.lease h.number gives way) sound
+    sound_by d (without_lease h.lease d.holds) (pool.without key d.line) (releasing d.service h.lease h.number gives way) sound
     (rising_filtered (λ (x : Hold). not (x.lease == h.lease)) 0 d.service.given d.holds sound.rising)
     (releases d h gives way sound (found_by_lease key 0 d.service.given h d.holds sound.rising e))
 
 -- ---- One is lost
 
-pub loses_sound : (d : Desk) (n : ℕ) → Sound d → Sound (moves d (without_number n d.holds) d.line (calls.Lost n ∷ [])).desk
+pub loses_sound : (d : Pool) (n : ℕ) → Sound d → Sound (moves d (without_number n d.holds) d.line (calls.Lost n ∷ [])).pool
 loses_sound d n sound =
     sound_by d (without_number n d.holds) d.line (calls.Lost n ∷ []) sound (rising_filtered (λ (x : Hold). not (x.number == n)) 0 d.service.given d.holds sound.rising)
     (lost_leaves d.service n (CaresFor d.holds) (CaresFor d.holds) (CaresFor (without_number n d.holds)) sound.tidy.distinct (same_phase n (CaresFor d.holds) d.service.seats sound.cared)

@@ -4,7 +4,7 @@ use Rattle.std.specs.Prelude.{Option, Some, None, Result, Ok, Err, if◌then◌e
 use Rattle.std.proofs.lemmas.Bool.{eqb-true}
 use Rattle.tds_wire.specs.declared.told.Token.{Token}
 use Rattle.tds_service.specs.Parts.{Part, is_end, hear_part, heard_until}
-use Rattle.tds_relay.specs.declared.desk.Hold.{Hold}
+use Rattle.tds_relay.specs.declared.pool.Hold.{Hold}
 use Rattle.tds_client.specs.declared.heard.Heard.{Heard}
 use Rattle.tds_client.specs.declared.heard.FinalDone.{FinalDone}
 use Rattle.tds_client.specs.declared.heard.FinalDone.TheVariants.{Awaited, Answered, Acknowledged}
@@ -14,8 +14,8 @@ use Rattle.tds_service.specs.Line.{Line, Act, Stage, turn, comes, reads, skips, 
 use Rattle.tds_service.specs.Service as calls
 use Rattle.tds_service.specs.Service.{Service, Call, Reply, Step, Back, Place, Leased, Cleaning, Kept, Free, Draining, Seat, find_by, change_by, has_lease, has_number, holds, is_idle, is_clean, drained, lease_in, lease_at, rests_clean, clean_place, rests_cleaned, step, service_after, does, nothing}
 use Rattle.tds_service.specs.History.{Done}
-use Rattle.tds_relay.specs.Desk as desk
-use Rattle.tds_relay.specs.Desk.{Desk, Way, find_lease, without_number, moves, cleaning, frees, Hearing, Goes, Settled, Wrong, hearing_of, settles, settles_of, comes_by}
+use Rattle.tds_relay.specs.Pool as pool
+use Rattle.tds_relay.specs.Pool.{Pool, Way, find_lease, without_number, moves, cleaning, frees, Hearing, Goes, Settled, Wrong, hearing_of, settles, settles_of, comes_by}
 use Rattle.tds_relay.specs.Promises.{Each, CaresFor, IsCaredFor}
 use Rattle.tds_relay.proofs.promises.Seats.{Distinct, each_weaker, each_found, each_changed, found_meets}
 use Rattle.tds_relay.proofs.promises.Tidy.{Tidy, step_rises}
@@ -145,14 +145,14 @@ cleaned_by_found held s lease n (Some c) e tidy tidy2 none h =
     cleaned_found held s lease n c (c.number == n) refl (each_found (Phase n (IsIdleAt (Cleaning lease)) (CaresFor held)) (has_lease lease) c s.seats h e) tidy tidy2 none e h
 
 cleaned_cares : (held : List Hold) (s : Service) (lease n : ℕ) → Tidy s → find_lease lease held ≡ None → Each (Phase n (IsIdleAt (Cleaning lease)) (CaresFor held)) s.seats
-    → Each (CaresFor held) (service_after s (desk.cleaned_by s n lease)).seats
+    → Each (CaresFor held) (service_after s (pool.cleaned_by s n lease)).seats
 cleaned_cares held s lease n tidy none h =
     cleaned_by_found held s lease n (find_by (has_lease lease) s.seats) refl tidy (step_rises s (calls.Cleaned lease) tidy).tidy none h
 
 -- ---- A message has ended
 
 -- its connection is an application's, a cleaning's, or nobody's any more
-settles_cares : (d : Desk) (n : ℕ) (way : Way) (c : Seat) (l : Line) (place : Place) → c.place ≡ place → Sound d → find_by (has_number n) d.service.seats ≡ Some c → IsCaredFor d.holds c.number place c.line
+settles_cares : (d : Pool) (n : ℕ) (way : Way) (c : Seat) (l : Line) (place : Place) → c.place ≡ place → Sound d → find_by (has_number n) d.service.seats ≡ Some c → IsCaredFor d.holds c.number place c.line
     → IsAwaiting c.line.stage → l.stage ≡ line.Idle → (s : Service) → s ≡ record { max = d.service.max; last = d.service.last; given = d.service.given; seats = change_by (has_number n) (Some (drained place l.stage)) l d.service.seats }
     → Tidy s → Each (CaresFor d.holds) (service_after s (settles d.holds s n way (lease_in place))).seats
 settles_cares d n way c l (Leased lease) at sound e cared awaits idle s is tidy =
@@ -179,7 +179,7 @@ settles_cares d n way c l Draining at sound e cared awaits idle s is tidy =
     let given : s.given ≡ d.service.given = ap (λ (x : Service). x.given) is in
     cleaning_cares d.holds s n way tidy (none_above 0 d.service.given (suc s.given) d.holds sound.rising (omega (arith, given))) all
 
-heard_seats : (d : Desk) (n : ℕ) (part : Part Token) (c : Seat) → find_by (has_number n) d.service.seats ≡ Some c
+heard_seats : (d : Pool) (n : ℕ) (part : Part Token) (c : Seat) → find_by (has_number n) d.service.seats ≡ Some c
     → (step d.service (calls.Came n part)).service ≡ record {
       max = d.service.max;
       last = d.service.last;
@@ -188,9 +188,9 @@ heard_seats : (d : Desk) (n : ℕ) (part : Part Token) (c : Seat) → find_by (h
     }
 heard_seats d n part c e = rw e refl
 
-comes_found : (d : Desk) (n : ℕ) (part : Part Token) (way : Way) (c : Seat) (h : Hearing) → Sound d → find_by (has_number n) d.service.seats ≡ Some c
+comes_found : (d : Pool) (n : ℕ) (part : Part Token) (way : Way) (c : Seat) (h : Hearing) → Sound d → find_by (has_number n) d.service.seats ≡ Some c
     → HeardAs c.line.stage h (turn c.line (line.Come part)).line.stage
-    → Sound (comes_by d (calls.Came n part) (step d.service (calls.Came n part)).service n way (lease_in c.place) h).desk
+    → Sound (comes_by d (calls.Came n part) (step d.service (calls.Came n part)).service n way (lease_in c.place) h).pool
 comes_found d n part way c Goes sound e fits =
     let l = (turn c.line (line.Come part)).line in
     let seats = ap (λ (x : Service). x.seats) (heard_seats d n part c e) in
@@ -216,26 +216,26 @@ comes_found d n part way c Wrong sound e fits =
     (lost_leaves s n any (CaresFor d.holds) (CaresFor (without_number n d.holds)) (step_rises d.service (calls.Came n part) sound.tidy).tidy.distinct phase
     (λ x other hx. numbered d.holds n x.number x.place x.line other hx))
 
-sound_broken : (n : ℕ) (dones : List (Done Token)) (t : desk.Turn) → Sound t.desk → Sound (desk.with_broken n dones t).desk
+sound_broken : (n : ℕ) (dones : List (Done Token)) (t : pool.Turn) → Sound t.pool → Sound (pool.with_broken n dones t).pool
 sound_broken n dones t sound = record { tidy = sound.tidy; rising = sound.rising; cared = sound.cared }
 
-comes_by_found : (d : Desk) (n : ℕ) (part : Part Token) (way : Way) (o : Option Seat) → find_by (has_number n) d.service.seats ≡ o → Sound d → Sound (desk.comes d n part way).desk
+comes_by_found : (d : Pool) (n : ℕ) (part : Part Token) (way : Way) (o : Option Seat) → find_by (has_number n) d.service.seats ≡ o → Sound d → Sound (pool.comes d n part way).pool
 comes_by_found d n part way None e sound =
     let same : (step d.service (calls.Came n part)).service ≡ d.service = rw e refl in
-    let goes : desk.comes d n part way ≡ moves d d.holds d.line (calls.Came n part ∷ []) = rw e refl in
-    subst (λ (t : desk.Turn). Sound t.desk) (sym goes)
+    let goes : pool.comes d n part way ≡ moves d d.holds d.line (calls.Came n part ∷ []) = rw e refl in
+    subst (λ (t : pool.Turn). Sound t.pool) (sym goes)
     (sound_by d d.holds d.line (calls.Came n part ∷ []) sound sound.rising (subst (λ (x : Service). Each (CaresFor d.holds) x.seats) (sym same) sound.cared))
 comes_by_found d n part way (Some c) e sound =
     let call = calls.Came n part in
     let s = (step d.service call).service in
     let a = (turn c.line (line.Come part)).answer in
     let lease : lease_at (find_by (has_number n) d.service.seats) ≡ lease_in c.place = ap lease_at e in
-    let heard : desk.hearing (step d.service call).dones ≡ hearing_of a = rw e refl in
+    let heard : pool.hearing (step d.service call).dones ≡ hearing_of a = rw e refl in
     let dones = (step d.service call).dones in
-    let goes : desk.comes d n part way ≡ desk.with_broken n dones (comes_by d call s n way (lease_in c.place) (hearing_of a)) =
-    ap (λ (l : Option ℕ). desk.with_broken n dones (comes_by d call s n way l (desk.hearing dones))) lease
-    ∙ ap (λ (h : Hearing). desk.with_broken n dones (comes_by d call s n way (lease_in c.place) h)) heard in
-    subst (λ (t : desk.Turn). Sound t.desk) (sym goes) (sound_broken n dones (comes_by d call s n way (lease_in c.place) (hearing_of a)) (comes_found d n part way c (hearing_of a) sound e (heard_as c.line part c.line.stage)))
+    let goes : pool.comes d n part way ≡ pool.with_broken n dones (comes_by d call s n way (lease_in c.place) (hearing_of a)) =
+    ap (λ (l : Option ℕ). pool.with_broken n dones (comes_by d call s n way l (pool.hearing dones))) lease
+    ∙ ap (λ (h : Hearing). pool.with_broken n dones (comes_by d call s n way (lease_in c.place) h)) heard in
+    subst (λ (t : pool.Turn). Sound t.pool) (sym goes) (sound_broken n dones (comes_by d call s n way (lease_in c.place) (hearing_of a)) (comes_found d n part way c (hearing_of a) sound e (heard_as c.line part c.line.stage)))
 
-pub comes_sound : (d : Desk) (n : ℕ) (part : Part Token) (way : Way) → Sound d → Sound (desk.comes d n part way).desk
+pub comes_sound : (d : Pool) (n : ℕ) (part : Part Token) (way : Way) → Sound d → Sound (pool.comes d n part way).pool
 comes_sound d n part way sound = comes_by_found d n part way (find_by (has_number n) d.service.seats) refl sound

@@ -4,14 +4,14 @@ use Rattle.std.specs.Prelude.{Option, Some, None}
 use Rattle.std.proofs.lemmas.Bool.{eqb-true, eq-eqb}
 use Rattle.tds_wire.specs.declared.told.Token.{Token}
 use Rattle.tds_packet.specs.declared.status.Reset.TheVariants.{Full}
-use Rattle.tds_relay.specs.declared.desk.Hold.{Hold}
+use Rattle.tds_relay.specs.declared.pool.Hold.{Hold}
 use Rattle.tds_service.specs.Line as line
 use Rattle.tds_service.specs.Line.{Line, Act, Stage, turn, sends, marks, asks, cancels}
 use Rattle.tds_service.specs.History.{line_after}
 use Rattle.tds_service.specs.Refusing.{packets, refusal_in}
 use Rattle.tds_service.specs.Service as calls
 use Rattle.tds_service.specs.Service.{Service, Call, Reply, Step, Place, Leased, Cleaning, Kept, Free, Draining, Seat, find_by, change_by, has_lease, has_ticket, has_number, holds, is_lendable, is_free, is_idle, step, service_after, does, nothing}
-use Rattle.tds_relay.specs.Desk.{Way, Sent, NotLent, NotAsked, NotPut, NotEnded, cleaning, find_lease}
+use Rattle.tds_relay.specs.Pool.{Way, Sent, NotLent, NotAsked, NotPut, NotEnded, cleaning, find_lease}
 use Rattle.tds_relay.specs.Promises.{Each, CaresFor, IsCaredFor}
 use Rattle.tds_relay.proofs.promises.Seats.{Distinct, Fits, each_weaker, each_found, each_changed, each_fails, found_meets}
 use Rattle.tds_relay.proofs.promises.Tidy.{Tidy, step_rises, next_is_new}

@@ -12,8 +12,8 @@ use Rattle.tds_service.specs.Refusing.{packets, refusal_in}
 use Rattle.tds_service.specs.Service as calls
 use Rattle.tds_service.specs.Service.{Service, Call, Reply, Step, Place, Leased, Cleaning, Kept, Seat, find_by, change_by, has_lease, has_ticket, has_number, is_lendable, is_idle, may_keep, clean_place, drained, rests, rests_cleaned, does, nothing, acts_unless, seat_numbered, step, service_after}
 use Rattle.tds_service.proofs.Numbered.{change_other, change_out}
-use Rattle.tds_relay.specs.Desk as desk
-use Rattle.tds_relay.specs.Desk.{Way, cleaning}
+use Rattle.tds_relay.specs.Pool as pool
+use Rattle.tds_relay.specs.Pool.{Way, cleaning}
 use Rattle.tds_relay.specs.Few.{HasNumber, SeatStays, has_seat}
 use Rattle.tds_relay.specs.Ties.{is_sent, lost_by}
 use Rattle.tds_relay.proofs.promises.Seats.{Distinct, found_meets}
@@ -211,14 +211,14 @@ then_lost s number (call ∷ all) tidy h =
     let t = (step s call).service in
     stays_both false number s t (service_after t (all ++ calls.Lost number ∷ [])) (same_stays number s t (λ n. step_same s n call h.0)) (then_lost t number all (step_rises s call tidy).tidy h.1)
 
-cleaning_by : (s : Service) (number lease : ℕ) (way : Way) → Tidy s → SeatStays (is_sent way) number s (service_after s (desk.cleaning_by number lease way))
-cleaning_by s number lease (desk.Sent put finish) tidy =
+cleaning_by : (s : Service) (number lease : ℕ) (way : Way) → Tidy s → SeatStays (is_sent way) number s (service_after s (pool.cleaning_by number lease way))
+cleaning_by s number lease (pool.Sent put finish) tidy =
     let all : List (Call Token) = calls.Clean number ∷ calls.Ask lease ∷ calls.Put lease put ∷ calls.Finish lease finish ∷ [] in
     same_stays number s (service_after s all) (λ n. all_keep s n all (tt, (tt, (tt, (tt, tt)))))
-cleaning_by s number lease desk.NotLent tidy = then_lost s number [] tidy tt
-cleaning_by s number lease desk.NotAsked tidy = then_lost s number (calls.Clean number ∷ []) tidy (tt, tt)
-cleaning_by s number lease desk.NotPut tidy = then_lost s number (calls.Clean number ∷ calls.Ask lease ∷ []) tidy (tt, (tt, tt))
-cleaning_by s number lease (desk.NotEnded put) tidy = then_lost s number (calls.Clean number ∷ calls.Ask lease ∷ calls.Put lease put ∷ []) tidy (tt, (tt, (tt, tt)))
+cleaning_by s number lease pool.NotLent tidy = then_lost s number [] tidy tt
+cleaning_by s number lease pool.NotAsked tidy = then_lost s number (calls.Clean number ∷ []) tidy (tt, tt)
+cleaning_by s number lease pool.NotPut tidy = then_lost s number (calls.Clean number ∷ calls.Ask lease ∷ []) tidy (tt, (tt, tt))
+cleaning_by s number lease (pool.NotEnded put) tidy = then_lost s number (calls.Clean number ∷ calls.Ask lease ∷ calls.Put lease put ∷ []) tidy (tt, (tt, (tt, tt)))
 
 pub cleaning_stays : (s : Service) (number : ℕ) (way : Way) → Tidy s → SeatStays (is_sent way) number s (service_after s (cleaning s number way))
 cleaning_stays s number way tidy = cleaning_by s number (suc s.given) way tidy

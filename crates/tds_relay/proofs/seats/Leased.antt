@@ -14,8 +14,8 @@ use Rattle.tds_service.specs.Table.{seat_in, seats_in, service_in}
 use Rattle.tds_service.proofs.Indexing.{lease_id}
 use Rattle.tds_service.proofs.Numbered.{added_here, added_other, is_found}
 use Rattle.tds_service.proofs.Tests.{above}
-use Rattle.tds_relay.specs.Desk as desk
-use Rattle.tds_relay.specs.Desk.{lent_in}
+use Rattle.tds_relay.specs.Pool as pool
+use Rattle.tds_relay.specs.Pool.{lent_in}
 use Rattle.tds_relay.specs.Promises.{Each}
 use Rattle.tds_relay.specs.Few.{HasNumber, has_seat}
 use Rattle.tds_relay.proofs.held.Sitting.{lent_sits}
@@ -98,7 +98,7 @@ leased_holds place lease e = subst (λ (p : Place). holds lease p ≡ true) (sym
 pub lent_on : (s : Service) (new : services.Service) (lease number : ℕ) (had : Bool) → Tidy s → Tidy (service_in new) → service_in new ≡ (step {T = Token} s calls.Lease).service
     → (step {T = Token} s calls.Lease).reply ≡ calls.Lent lease number had → HasNumber lease number (service_in new)
 lent_on s new lease number had tidy next is reply =
-    let loan : desk.Loan = record { lease = lease; number = number } in
+    let loan : pool.Loan = record { lease = lease; number = number } in
     let e : lent_in (step {T = Token} s calls.Lease).reply ≡ Some loan = ap lent_in reply in
     let there = lent_there s tidy loan e in
     let sits = lent_sits s tidy 0 loan e in

@@ -2,7 +2,7 @@
 use Rattle.std.proofs.Common.{◌≡◌, ◌≢◌, ◌∙◌, ◌==◌, ℕ, Bool, true, false, List, [], ◌∷◌, ◌++◌, Option, Some, None, is_some, inl, inr, refl, sym, ap, subst, arith, option_map, if◌then◌else◌}
 use Rattle.std.proofs.lemmas.Bool.{cases_eq, eq-eqb}
 use Rattle.tds_relay.specs.declared.link.Link.{Link}
-use Rattle.tds_relay.specs.Desk.{Desk}
+use Rattle.tds_relay.specs.Pool.{Pool}
 use Rattle.tds_relay.specs.Lent.{AllLast}
 use Rattle.tds_relay.specs.Reads.{Stays, bytes_on, link_at, reader_at, reader_of, waits_on}
 use Rattle.tds_relay.specs.Few.{AreSeated, AreSeatedBut, AreSeatedOff, has_seat}
@@ -79,7 +79,7 @@ pushed_other other l (x ∷ xs) ne = other_if (x.number == other) (link_at other
 
 -- ---- Seats and connections
 
-pub seated_as : (d : Desk) (a b : List Link) → SameThere a b → AreSeated d a → AreSeated d b
+pub seated_as : (d : Pool) (a b : List Link) → SameThere a b → AreSeated d a → AreSeated d b
 seated_as d a b same s = record { reached = s.reached; each = λ number. s.each number ∙ sym (same number) }
 
 not_equal : (b : Bool) (n m : ℕ) → (n == m) ≡ b → n ≢ m → b ≡ false
@@ -87,7 +87,7 @@ not_equal true n m e ne = absurd (ne (let t : n ≡ m = grind arith in t))
 not_equal false n m e ne = refl
 
 -- the one that has come
-pub seated_pushed : (number : ℕ) (d : Desk) (l : Link) (a b : List Link) → b ≡ a ++ l ∷ [] → l.number ≡ number → AreSeatedBut number true d a → AreSeated d b
+pub seated_pushed : (number : ℕ) (d : Pool) (l : Link) (a b : List Link) → b ≡ a ++ l ∷ [] → l.number ≡ number → AreSeatedBut number true d a → AreSeated d b
 seated_pushed number d l a b are is s = record {
   reached = s.off.reached;
   each = λ n. elim (cases_eq n number) [
@@ -106,7 +106,7 @@ none_there : (number : ℕ) (o : Option Link) → option_map reader_of o ≡ Non
 none_there number None e = refl
 none_there number (Some l) e = absurd (let u : None ≡ Some l.reader = sym e in let v : ⊥ = cc in v)
 
-pub seated_gone : (number : ℕ) (d : Desk) (a b : List Link) → reader_at number b ≡ None → ((other : ℕ) → other ≢ number → waits_on other b ≡ waits_on other a) → AreSeatedBut number false d a → AreSeated d b
+pub seated_gone : (number : ℕ) (d : Pool) (a b : List Link) → reader_at number b ≡ None → ((other : ℕ) → other ≢ number → waits_on other b ≡ waits_on other a) → AreSeatedBut number false d a → AreSeated d b
 seated_gone number d a b gone others s = record {
   reached = s.off.reached;
   each = λ n. elim (cases_eq n number) [
@@ -118,14 +118,14 @@ seated_gone number d a b gone others s = record {
 
 -- ---- Where it is so of all but one
 
-pub off_as : (number : ℕ) (d : Desk) (a b : List Link) → SameThere a b → AreSeatedOff number d a → AreSeatedOff number d b
+pub off_as : (number : ℕ) (d : Pool) (a b : List Link) → SameThere a b → AreSeatedOff number d a → AreSeatedOff number d b
 off_as number d a b same s = record { reached = s.reached; others = λ n ne. s.others n ne ∙ sym (same n) }
 
-pub but_as : (number : ℕ) (has : Bool) (d : Desk) (a b : List Link) → SameThere a b → AreSeatedBut number has d a → AreSeatedBut number has d b
+pub but_as : (number : ℕ) (has : Bool) (d : Pool) (a b : List Link) → SameThere a b → AreSeatedBut number has d a → AreSeatedBut number has d b
 but_as number has d a b same s = record { off = off_as number d a b same s.off; here = s.here }
 
 -- where the connection of this number isn't there either
-pub but_gone : (number : ℕ) (d : Desk) (ls : List Link) → is_there number ls ≡ false → AreSeated d ls → AreSeatedBut number false d ls
+pub but_gone : (number : ℕ) (d : Pool) (ls : List Link) → is_there number ls ≡ false → AreSeated d ls → AreSeatedBut number false d ls
 but_gone number d ls gone s = record { off = record { reached = s.reached; others = λ n ne. s.each n }; here = s.each number ∙ gone }
 
 pub gone_there : (number : ℕ) (ls : List Link) → reader_at number ls ≡ None → is_there number ls ≡ false

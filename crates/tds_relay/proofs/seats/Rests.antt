@@ -10,13 +10,13 @@ use Rattle.tds_service.specs.Service as calls
 use Rattle.tds_service.specs.Service.{Call, Seat, Service, Step, change_by, drained, find_by, has_lease, has_number, lease_at, lease_in, seat_numbered, step, service_after}
 use Rattle.tds_service.specs.Table.{StepsIn, rest_of, service_in}
 use Rattle.tds_service.proofs.Numbered.{change_here}
-use Rattle.tds_relay.specs.declared.desk.coming.What.{What}
-use Rattle.tds_relay.specs.declared.desk.coming.What.TheVariants as whats
-use Rattle.tds_relay.specs.declared.desk.Hold.{Hold}
-use Rattle.tds_relay.specs.Desk.{Desk, Way, cleaning, find_key}
+use Rattle.tds_relay.specs.declared.pool.coming.What.{What}
+use Rattle.tds_relay.specs.declared.pool.coming.What.TheVariants as whats
+use Rattle.tds_relay.specs.declared.pool.Hold.{Hold}
+use Rattle.tds_relay.specs.Pool.{Pool, Way, cleaning, find_key}
 use Rattle.tds_relay.specs.Few.{HasNumber, KeepsSeats, SeatIs, SeatStays, has_seat, is_left}
 use Rattle.tds_relay.specs.Ties.{IsReached, Makes, is_sent, lost_by}
-use Rattle.tds_relay.specs.Walkers.{IsLed}
+use Rattle.tds_relay.specs.TokenParsers.{IsLed}
 use Rattle.tds_relay.proofs.bytes.Walking.{led_on, led_tidy}
 use Rattle.tds_relay.proofs.promises.Caring.{Sound, found_held}
 use Rattle.tds_relay.proofs.promises.Holding.{found_by_lease}
@@ -126,10 +126,10 @@ came_on s new number part o led is holder lease e =
 pub heard_stays : (stays : Bool) (number : ℕ) (s t u : Service) (part : Part Token) → t ≡ (step s (calls.Came number part)).service → SeatStays stays number t u → SeatStays stays number s u
 heard_stays stays number s t u part is k = stays_both stays number s t u (kept_stays number s t (calls.Came number part) tt is) k
 
--- ---- At a desk
+-- ---- At a pool
 
 -- an application's hold names the connection that its lease has
-pub held_on : (d : Desk) (key : ℕ) (h : Hold) → IsReached d → find_key key d.holds ≡ Some h → HasNumber h.lease h.number d.service
+pub held_on : (d : Pool) (key : ℕ) (h : Hold) → IsReached d → find_key key d.holds ≡ Some h → HasNumber h.lease h.number d.service
 held_on d key h reached its = λ c found.
     let sound : Sound d = sound_at d reached in
     sym (found_held d h c sound (found_by_lease key 0 d.service.given h d.holds sound.rising its) found).1

@@ -14,13 +14,13 @@ use Rattle.tds_service.specs.Service as calls
 use Rattle.tds_service.specs.Service.{Call, Cleaning, Draining, Free, Kept, Leased, Place, Reply, Seat, Service, Step, acts_unless, does, find_by, has_lease, has_number, is_lendable, nothing, rests, step}
 use Rattle.tds_service.specs.Table.{KeepsClients, KeepsClientsOff, client_of, service_in}
 use Rattle.tds_service.specs.declared.service.Service as services
-use Rattle.tds_relay.specs.Desk.{Desk, find_key, find_lease, new_desk, without_lease, without_number}
+use Rattle.tds_relay.specs.Pool.{Pool, find_key, find_lease, new_pool, without_lease, without_number}
 use Rattle.tds_relay.specs.Promises.{Each, CaresFor, IsCaredFor}
 use Rattle.tds_relay.specs.Sparing.{AsideHeld, AsideStay, Held, IsAside, OffHold, OthersHold, held_by}
-use Rattle.tds_relay.specs.Ties.{IsReached, desk_in}
-use Rattle.tds_relay.specs.Walkers.{IsLed}
-use Rattle.tds_relay.specs.declared.desk.Desk as desks
-use Rattle.tds_relay.specs.declared.desk.Hold.{Hold}
+use Rattle.tds_relay.specs.Ties.{IsReached, pool_in}
+use Rattle.tds_relay.specs.TokenParsers.{IsLed}
+use Rattle.tds_relay.specs.declared.pool.Pool as pools
+use Rattle.tds_relay.specs.declared.pool.Hold.{Hold}
 use Rattle.tds_relay.proofs.bytes.Walking.{led_on, led_tidy}
 use Rattle.tds_relay.proofs.promises.Caring.{Sound}
 use Rattle.tds_relay.proofs.promises.Holding.{found_by_lease, none_above}
@@ -237,7 +237,7 @@ lent_given s n l m had lease e le same =
 
 -- ---- Those that others hold
 
-within_by : (d : Desk) (h : Hold) → (d.service.given < h.lease) ⊎ (h.lease ≤ d.service.given) → Sound d → find_lease h.lease d.holds ≡ Some h → h.lease ≤ d.service.given
+within_by : (d : Pool) (h : Hold) → (d.service.given < h.lease) ⊎ (h.lease ≤ d.service.given) → Sound d → find_lease h.lease d.holds ≡ Some h → h.lease ≤ d.service.given
 within_by d h (inl above) sound held =
     absurd (let none : find_lease h.lease d.holds ≡ None = none_above 0 d.service.given h.lease d.holds sound.rising above in let u : None ≡ Some h = sym none ∙ held in let v : ⊥ = cc in v)
 within_by d h (inr le) sound held = le
@@ -258,24 +258,24 @@ cared_apart hs lease number n h (Kept ticket) l held differs c is same = absurd 
 cared_apart hs lease number n h Free l held differs c is same = let u : false ≡ true = is in let v : ⊥ = cc in v
 cared_apart hs lease number n h Draining l held differs c is same = let u : false ≡ true = is in let v : ⊥ = cc in v
 
-pub led_at : (d : Desk) → IsReached d → IsLed d.service
-led_at d r = (r.0.most, calls_along (new_desk r.0) r.1, sym (service_along (new_desk r.0) r.1) ∙ ap (λ (e : Desk). e.service) r.2)
+pub led_at : (d : Pool) → IsReached d → IsLed d.service
+led_at d r = (r.0.most, calls_along (new_pool r.0) r.1, sym (service_along (new_pool r.0) r.1) ∙ ap (λ (e : Pool). e.service) r.2)
 
 -- one that is another's leaves them
-left_where : (d e : desks.Desk) (key : ℕ) (g : Hold) → find_key key d.holds.items ≡ Some g
+left_where : (d e : pools.Pool) (key : ℕ) (g : Hold) → find_key key d.holds.items ≡ Some g
     → ((other : ℕ) (h : Hold) → find_key other d.holds.items ≡ Some h → h.lease ≢ g.lease → h.number ≢ g.number → find_key other e.holds.items ≡ Some h) → AsideStay g.lease g.number d.service e.service → OthersHold key d e
 left_where d e key g its found stay = record {
   hold = λ reached other differs.
       holds_on d e other (λ h client theirs there.
-      let sound : Sound (desk_in d) = sound_at (desk_in d) reached in
-      let apart : h.lease ≢ g.lease = lease_apart (desk_in d) key other g h sound its theirs differs in
+      let sound : Sound (pool_in d) = sound_at (pool_in d) reached in
+      let apart : h.lease ≢ g.lease = lease_apart (pool_in d) key other g h sound its theirs differs in
       let off : h.number ≢ g.number = λ same. off_others d key other g reached its differs client (is_held d other h client theirs there ∙ ap (λ (n : ℕ). let x : Held = (n, client) in Some x) same) in
-      let held : find_lease h.lease d.holds.items ≡ Some h = found_by_lease other 0 (desk_in d).service.given h d.holds.items sound.rising theirs in
-      let aside : IsAside h.lease g.number (desk_in d).service = record {
-        led = led_at (desk_in d) reached;
-        given = within_by (desk_in d) h (cases_lt (desk_in d).service.given h.lease) sound held;
+      let held : find_lease h.lease d.holds.items ≡ Some h = found_by_lease other 0 (pool_in d).service.given h d.holds.items sound.rising theirs in
+      let aside : IsAside h.lease g.number (pool_in d).service = record {
+        led = led_at (pool_in d) reached;
+        given = within_by (pool_in d) h (cases_lt (pool_in d).service.given h.lease) sound held;
         apart = each_weaker (CaresFor d.holds.items) (λ (c : Seat). has_lease h.lease c ≡ true → c.number ≢ g.number) (λ c cared is. cared_apart d.holds.items h.lease g.number c.number h c.place c.line held off cared is)
-            (desk_in d).service.seats sound.cared;
+            (pool_in d).service.seats sound.cared;
       } in (
         found other h theirs apart off,
         stay h.lease client apart aside there ∙ sym there,
@@ -286,11 +286,11 @@ kept_lease : (other lease : ℕ) (h : Hold) (hs : List Hold) → find_key other 
 kept_lease other lease h hs theirs apart = kept_key (λ (x : Hold). not (x.lease == lease)) other h hs theirs (not_equal (h.lease == lease) h.lease lease refl apart)
 
 -- one that is given back
-pub left_others : (d e : desks.Desk) (key : ℕ) (g : Hold) → find_key key d.holds.items ≡ Some g → e.holds.items ≡ without_lease g.lease d.holds.items → AsideStay g.lease g.number d.service e.service → OthersHold key d e
+pub left_others : (d e : pools.Pool) (key : ℕ) (g : Hold) → find_key key d.holds.items ≡ Some g → e.holds.items ≡ without_lease g.lease d.holds.items → AsideStay g.lease g.number d.service e.service → OthersHold key d e
 left_others d e key g its left stay = left_where d e key g its (λ other h theirs apart off. ap (find_key other) left ∙ kept_lease other g.lease h d.holds.items theirs apart) stay
 
 -- where there is none
-pub none_others : (d e : desks.Desk) (key : ℕ) → e.holds.items ≡ d.holds.items → e.service ≡ d.service → OthersHold key d e
+pub none_others : (d e : pools.Pool) (key : ℕ) → e.holds.items ≡ d.holds.items → e.service ≡ d.service → OthersHold key d e
 none_others d e key holds service = record {
   hold = λ reached other differs.
       inl (ap (λ (s : services.Service). held_by s (find_key other e.holds.items)) service ∙ ap (λ (hs : List Hold). held_by d.service (find_key other hs)) holds);
@@ -302,7 +302,7 @@ kept_given : (lease number own : ℕ) (s t : services.Service) → service_in t 
 kept_given lease number own s t is aside = above_given (service_in t) lease (aside_step lease number (service_in s) (service_in t) (calls.Keep own) tt is aside).given
 
 -- lent again, by another lease
-pub renewed_others : (d e : desks.Desk) (key : ℕ) (g x : Hold) (t : services.Service) → find_key key d.holds.items ≡ Some g → e.holds.items ≡ without_lease g.lease d.holds.items ++ x ∷ []
+pub renewed_others : (d e : pools.Pool) (key : ℕ) (g x : Hold) (t : services.Service) → find_key key d.holds.items ≡ Some g → e.holds.items ≡ without_lease g.lease d.holds.items ++ x ∷ []
     → service_in t ≡ (step {T = Token} (service_in d.service) (calls.Keep g.lease)).service → KeepsClients g.lease d.service t → KeepsClients (t.given + 1) t e.service → OthersHold key d e
 renewed_others d e key g x t its left is keeps again =
     left_where d e key g its
@@ -310,7 +310,7 @@ renewed_others d e key g x t its left is keeps again =
     (λ lease client apart aside there. again lease (kept_given lease g.number g.lease d.service t is aside) ∙ keeps lease apart ∙ there)
 
 -- or lost, where that is refused
-pub unkept_others : (d e : desks.Desk) (key : ℕ) (g : Hold) (t u : services.Service) → find_key key d.holds.items ≡ Some g → e.holds.items ≡ without_number g.number d.holds.items
+pub unkept_others : (d e : pools.Pool) (key : ℕ) (g : Hold) (t u : services.Service) → find_key key d.holds.items ≡ Some g → e.holds.items ≡ without_number g.number d.holds.items
     → service_in t ≡ (step {T = Token} (service_in d.service) (calls.Keep g.lease)).service → KeepsClients g.lease d.service t → service_in u ≡ service_in t → KeepsClients (t.given + 1) t u → KeepsClientsOff g.number u e.service
     → OthersHold key d e
 unkept_others d e key g t u its left is keeps same again cut =
@@ -326,7 +326,7 @@ led_kept s t u own is same led = subst IsLed (sym same) (led_on (service_in s) (
 -- ---- Behind what comes on a connection
 
 -- one that another holds is another's
-aside_at : (d : Desk) (key number : ℕ) (h : Hold) → Sound d → IsReached d → find_key key d.holds ≡ Some h → h.number ≢ number → IsAside h.lease number d.service
+aside_at : (d : Pool) (key number : ℕ) (h : Hold) → Sound d → IsReached d → find_key key d.holds ≡ Some h → h.number ≢ number → IsAside h.lease number d.service
 aside_at d key number h sound reached its off =
     let held : find_lease h.lease d.holds ≡ Some h = found_by_lease key 0 d.service.given h d.holds sound.rising its in
     record {
@@ -336,15 +336,15 @@ aside_at d key number h sound reached its off =
     }
 
 -- a packet is heard, and then something is done that leaves those aside
-pub came_off : (number : ℕ) (d e : desks.Desk) (t : services.Service) (part : Part Token) → service_in t ≡ (step (service_in d.service) (calls.Came number part)).service → KeepsClientsOff number d.service t
+pub came_off : (number : ℕ) (d e : pools.Pool) (t : services.Service) (part : Part Token) → service_in t ≡ (step (service_in d.service) (calls.Came number part)).service → KeepsClientsOff number d.service t
     → AsideHeld number d.holds.items t e.service → ((key : ℕ) (h : Hold) → find_key key d.holds.items ≡ Some h → h.number ≢ number → find_key key e.holds.items ≡ Some h) → OffHold number d e
 came_off number d e t part is keeps later kept = record {
   hold = λ reached key off.
       holds_on d e key (λ h client its there.
-      let sound : Sound (desk_in d) = sound_at (desk_in d) reached in
+      let sound : Sound (pool_in d) = sound_at (pool_in d) reached in
       let differs : h.number ≢ number = λ same. off client (is_held d key h client its there ∙ ap (λ (n : ℕ). let x : Held = (n, client) in Some x) same) in
-      let aside : IsAside h.lease number (desk_in d).service = aside_at (desk_in d) key number h sound reached its differs in
-      let held : find_lease h.lease d.holds.items ≡ Some h = found_by_lease key 0 (desk_in d).service.given h d.holds.items sound.rising its in
+      let aside : IsAside h.lease number (pool_in d).service = aside_at (pool_in d) key number h sound reached its differs in
+      let held : find_lease h.lease d.holds.items ≡ Some h = found_by_lease key 0 (pool_in d).service.given h d.holds.items sound.rising its in
       let behind : IsAside h.lease number (service_in t) = aside_step h.lease number (service_in d.service) (service_in t) (calls.Came number part) tt is aside in
       let first : client_of h.lease t ≡ Some client = forgot_for h.lease number d.service t keeps client aside there in
       (kept key h its differs, later h client held behind first ∙ sym there));
@@ -354,7 +354,7 @@ came_off number d e t part is keeps later kept = record {
 pub kept_off : (number key : ℕ) (h : Hold) (hs : List Hold) → find_key key hs ≡ Some h → h.number ≢ number → find_key key (without_number number hs) ≡ Some h
 kept_off number key h hs its differs = kept_key (λ (x : Hold). not (x.number == number)) key h hs its (not_equal (h.number == number) h.number number refl differs)
 
-pub off_same : (number : ℕ) (d e : desks.Desk) → e.holds.items ≡ d.holds.items → e.service ≡ d.service → OffHold number d e
+pub off_same : (number : ℕ) (d e : pools.Pool) → e.holds.items ≡ d.holds.items → e.service ≡ d.service → OffHold number d e
 off_same number d e holds service = record {
   hold = λ reached key off.
       inl (ap (λ (s : services.Service). held_by s (find_key key e.holds.items)) service ∙ ap (λ (hs : List Hold). held_by d.service (find_key key hs)) holds);

@@ -15,20 +15,20 @@ use Rattle.tds_service.specs.Service as calls
 use Rattle.tds_service.specs.Service.{Leased, Seat, Service, find_by, has_lease, is_idle, is_lendable, step}
 use Rattle.tds_service.specs.Table.{client_of, service_in}
 use Rattle.tds_service.specs.Ties.{cancel_out, stage_of}
-use Rattle.tds_relay.specs.declared.desk.Hold.{Hold}
-use Rattle.tds_relay.specs.declared.desk.leaving.Left.{Left}
+use Rattle.tds_relay.specs.declared.pool.Hold.{Hold}
+use Rattle.tds_relay.specs.declared.pool.leaving.Left.{Left}
 use Rattle.tds_relay.specs.declared.link.Link.{Link}
 use Rattle.tds_relay.specs.declared.relay.Relay as code
 use Rattle.tds_relay.specs.Cleaning.{CleansOnce, CleaningWaits, GoesOutAtEnd, IsCleaning, IsPutBehind, rests_once, text_of_cleaning}
 use Rattle.tds_relay.specs.Cleaning as cleaning
-use Rattle.tds_relay.specs.Desk as desk
-use Rattle.tds_relay.specs.Desk.{Desk, find_number, holding, lent_in, serves, serves_by, turn}
+use Rattle.tds_relay.specs.Pool as pool
+use Rattle.tds_relay.specs.Pool.{Pool, find_number, holding, lent_in, serves, serves_by, turn}
 use Rattle.tds_relay.specs.Lent.{LendsInLine}
-use Rattle.tds_relay.specs.Hall.{holder}
+use Rattle.tds_relay.specs.Core.{holder}
 use Rattle.tds_relay.specs.Promises.{Each}
 use Rattle.tds_relay.specs.Reads.{FillsAt, FillsBy, Opens as OpensLinks, bytes_on, if_open, open_at, open_waits, waits_on}
-use Rattle.tds_relay.specs.Ties.{Application, IsReached, desk_in}
-use Rattle.tds_relay.specs.Walkers.{IsLed}
+use Rattle.tds_relay.specs.Ties.{Application, IsReached, pool_in}
+use Rattle.tds_relay.specs.TokenParsers.{IsLed}
 use Rattle.tds_relay.proofs.bytes.Walking.{led_tidy}
 use Rattle.tds_relay.proofs.held.Away.{full_idle}
 use Rattle.tds_relay.proofs.held.Numbers.{Apart, apart_at}
@@ -112,10 +112,10 @@ brought_cleans text lease number had s t before after same led is reply p =
 
 -- ---- Nobody holds it
 
-waited_first : (d : Desk) (lease number : ℕ) (had : Bool) (ks : List ℕ) → d.line ≡ ks → (step {T = Token} d.service calls.Lease).reply ≡ calls.Lent lease number had
-    → (key : ℕ) × ((serves (turn d (desk.Waits 0)).desk (ks ++ 0 ∷ [])).desk.holds ≡ d.holds ++ holding key lease number ∷ [])
-waited_first d lease number had [] e reply = (0, ap (λ (r : calls.Reply). (serves_by (turn d (desk.Waits 0)).desk 0 [] (lent_in r)).desk.holds) reply)
-waited_first d lease number had (k ∷ ks) e reply = (k, ap (λ (r : calls.Reply). (serves_by (turn d (desk.Waits 0)).desk k (ks ++ 0 ∷ []) (lent_in r)).desk.holds) reply)
+waited_first : (d : Pool) (lease number : ℕ) (had : Bool) (ks : List ℕ) → d.line ≡ ks → (step {T = Token} d.service calls.Lease).reply ≡ calls.Lent lease number had
+    → (key : ℕ) × ((serves (turn d (pool.Waits 0)).pool (ks ++ 0 ∷ [])).pool.holds ≡ d.holds ++ holding key lease number ∷ [])
+waited_first d lease number had [] e reply = (0, ap (λ (r : calls.Reply). (serves_by (turn d (pool.Waits 0)).pool 0 [] (lent_in r)).pool.holds) reply)
+waited_first d lease number had (k ∷ ks) e reply = (k, ap (λ (r : calls.Reply). (serves_by (turn d (pool.Waits 0)).pool k (ks ++ 0 ∷ []) (lent_in r)).pool.holds) reply)
 
 before_last : (x : Hold) (hs : List Hold) → Apart (hs ++ x ∷ []) → find_number x.number hs ≡ None
 before_last x [] apart = refl
@@ -123,11 +123,11 @@ before_last x (y ∷ ys) apart =
     let other : (y.number == x.number) ≡ false = differs_by (y.number == x.number) y.number x.number refl (λ s. each_last (λ (z : Hold). z.number ≢ y.number) x ys apart.0 (sym s)) in
     rw other (before_last x ys apart.1)
 
-pub lent_unheld : (d : Desk) (lease number : ℕ) (had : Bool) → IsReached d → (step {T = Token} d.service calls.Lease).reply ≡ calls.Lent lease number had → find_number number d.holds ≡ None
+pub lent_unheld : (d : Pool) (lease number : ℕ) (had : Bool) → IsReached d → (step {T = Token} d.service calls.Lease).reply ≡ calls.Lent lease number had → find_number number d.holds ≡ None
 lent_unheld d lease number had reached reply =
-    let one : Desk = (turn d (desk.Waits 0)).desk in
-    let two : Desk = (turn one desk.Serves).desk in
-    let led : IsReached two = reached_on (Application 0) d two (λ from h. reaches_next (Application 0) from one desk.Serves tt (reaches_next (Application 0) from d (desk.Waits 0) refl h)) reached in
+    let one : Pool = (turn d (pool.Waits 0)).pool in
+    let two : Pool = (turn one pool.Serves).pool in
+    let led : IsReached two = reached_on (Application 0) d two (λ from h. reaches_next (Application 0) from one pool.Serves tt (reaches_next (Application 0) from d (pool.Waits 0) refl h)) reached in
     let k = waited_first d lease number had d.line refl reply in
     before_last (holding k.0 lease number) d.holds (subst Apart k.1 (apart_at two led))
 
@@ -158,13 +158,13 @@ put_first out outbox (Some waits) (Some new) same e f =
     let none : waits ≡ [] = (let u : Some waits ≡ Some [] = e in cc) in
     inr (ap (λ (xs : List ℕ). Some xs) (f ∙ ap (λ (xs : List ℕ). xs ++ outbox) none ∙ same))
 
-brought_by : (d : Desk) (s : Service) (gives : Bool) (way : desk.Way) (o : Option desk.Loan) → (desk.brings_by d s gives way o).desk.holds ≡ d.holds
+brought_by : (d : Pool) (s : Service) (gives : Bool) (way : pool.Way) (o : Option pool.Loan) → (pool.brings_by d s gives way o).pool.holds ≡ d.holds
 brought_by d s gives way None = refl
 brought_by d s gives way (Some lent) = refl
 
-pub brought_holds : (d e : Desk) (gives : Bool) (way : desk.Way) → e ≡ (turn d (desk.Brings gives way)).desk → e.holds ≡ d.holds
+pub brought_holds : (d e : Pool) (gives : Bool) (way : pool.Way) → e ≡ (turn d (pool.Brings gives way)).pool → e.holds ≡ d.holds
 brought_holds d e gives way is =
-    ap (λ (x : Desk). x.holds) is ∙ brought_by d (step {T = Token} d.service calls.Lease).service gives way (lent_in (step {T = Token} d.service calls.Lease).reply)
+    ap (λ (x : Pool). x.holds) is ∙ brought_by d (step {T = Token} d.service calls.Lease).service gives way (lent_in (step {T = Token} d.service calls.Lease).reply)
 
 pub if_some : (P : Left → Type 0) (o : Option Left) (left : Left) → o ≡ Some left → IfSome o P → P left
 if_some P o left is k = subst (λ (p : Option Left). IfSome p P) is k
@@ -175,10 +175,10 @@ first_waits number ls ms l empty more is none =
     ap (waits_on number) (more ∙ ap (λ (xs : List Link). xs ++ l ∷ []) empty) ∙ ap (λ (b : Bool). option_map bytes_on (if b then Some l else None)) here ∙ ap (λ (xs : List ℕ). Some xs) none
 
 pub first_served : (number : ℕ) (mid new : code.Relay) (before outbox : List ℕ) (had : Option (List ℕ)) → before ≡ [] → had ≡ Some [] → (p : IsPutBehind (IsCleaning text_of_cleaning) before outbox)
-    → FillsBy outbox had (waits_on number mid.links.items) → find_number number mid.desk.holds.items ≡ None → OpensLinks mid.links.items new.links.items → LendsInLine mid new
-    → CleaningWaits (IsSome (holder (desk_in new.desk) number)) (open_waits number new.links.items)
+    → FillsBy outbox had (waits_on number mid.links.items) → find_number number mid.pool.holds.items ≡ None → OpensLinks mid.links.items new.links.items → LendsInLine mid new
+    → CleaningWaits (IsSome (holder (pool_in new.pool) number)) (open_waits number new.links.items)
 first_served number mid new before outbox had empty none p fills unheld opens lends =
-    first_then (IsSome (holder (desk_in new.desk) number)) p.out p.is (waits_on number mid.links.items)
+    first_then (IsSome (holder (pool_in new.pool) number)) p.out p.is (waits_on number mid.links.items)
     (put_first p.out outbox had (waits_on number mid.links.items) (p.appended ∙ ap (λ (xs : List ℕ). xs ++ p.out) empty) none fills)
     (open_at number mid.links.items) (open_at number new.links.items) (open_waits number mid.links.items) (open_waits number new.links.items) (waits_on number new.links.items) refl (opens.fills number) refl
     (lent_or number mid new unheld (lends number))

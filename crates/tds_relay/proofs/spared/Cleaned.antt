@@ -9,24 +9,24 @@ use Rattle.tds_service.specs.declared.service.Service as services
 use Rattle.tds_service.specs.Table.{CancelsOut, DoesAt, Opens, client_of}
 use Rattle.tds_service.specs.Ties.{cancel_out}
 use Rattle.tds_packet.specs.declared.status.Reset.TheVariants.{Full}
-use Rattle.tds_relay.specs.declared.desk.Desk as desks
-use Rattle.tds_relay.specs.declared.desk.Hold.{Hold}
-use Rattle.tds_relay.specs.declared.desk.leaving.Left.{Left}
+use Rattle.tds_relay.specs.declared.pool.Pool as pools
+use Rattle.tds_relay.specs.declared.pool.Hold.{Hold}
+use Rattle.tds_relay.specs.declared.pool.leaving.Left.{Left}
 use Rattle.tds_relay.specs.declared.link.Link.{Link}
 use Rattle.tds_relay.specs.declared.relay.Relay as code
 use Rattle.tds_relay.specs.Cleaning.{CleansOnce, GoesOutAtEnd, GoesOutBy, IsBatch, IsCleaning, WaitsAtEnd, OfItsHold, MayClean, IsPutBehind, CountsAtEnd, CountsHold, CountsSent, CountsSince, CountsSinceEnd, LosesWaiting, cleaned_in, rests_once, text_of_cleaning}
 use Rattle.tds_relay.specs.Cleaning as cleaning
-use Rattle.tds_relay.specs.Desk as desk
-use Rattle.tds_relay.specs.Desk.{Desk, find_key, find_lease, find_number, whose_by, without_lease, next}
+use Rattle.tds_relay.specs.Pool as pool
+use Rattle.tds_relay.specs.Pool.{Pool, find_key, find_lease, find_number, whose_by, without_lease, next}
 use Rattle.tds_relay.specs.Promises.{Each}
 use Rattle.tds_relay.specs.Closings.{ClosesOnly, IsWaiting, Nobody, Register, open_name, register_in}
 use Rattle.tds_relay.specs.Lent.{HasClosed, LastBut}
 use Rattle.tds_relay.specs.Reads.{CalledAt, FillsBy, Opens as OpensLinks, Seen, bytes_on, link_at, reader_at, reader_of, seen_at, seen_of, waits_on}
-use Rattle.tds_relay.specs.Ties.{IsNumberOf, IsReached, Turns, desk_in}
+use Rattle.tds_relay.specs.Ties.{IsNumberOf, IsReached, Turns, pool_in}
 use Rattle.tds_relay.proofs.held.Sitting.{Sits}
 use Rattle.tds_relay.proofs.spared.Held.{Seated, same_lease, seated, sits_at, sound_at}
 
--- ---- At the desk
+-- ---- At the pool
 
 -- a batch is begun, put and ended
 pub cleans : (text : List ℕ) (lease : ℕ) (cleaned asked sent ended : services.Service) (before between after : List ℕ) → Opens Batch lease cleaned asked
@@ -130,15 +130,15 @@ each_more : (P Q : Hold → Type 0) (hs : List Hold) → ((y : Hold) → P y →
 each_more P Q [] f h = tt
 each_more P Q (y ∷ ys) f h = (f y h.0, each_more P Q ys f h.1)
 
-leaves_none : (d : desks.Desk) (key : ℕ) (h : Hold) (client : ClientSession) → IsReached (desk_in d) → find_key key d.holds.items ≡ Some h → client_of h.lease d.service ≡ Some client
+leaves_none : (d : pools.Pool) (key : ℕ) (h : Hold) (client : ClientSession) → IsReached (pool_in d) → find_key key d.holds.items ≡ Some h → client_of h.lease d.service ≡ Some client
     → find_number h.number (without_lease h.lease d.holds.items) ≡ None
 leaves_none d key h client reached its there =
-    let at : Seated (desk_in d) h = seated d key h client (sound_at (desk_in d) reached) its there in
+    let at : Seated (pool_in d) h = seated d key h client (sound_at (pool_in d) reached) its there in
     none_left h.number h.lease d.holds.items
-    (each_more (λ (y : Hold). Sits (desk_in d).service y) (λ (y : Hold). y.number ≡ h.number → y.lease ≡ h.lease) d.holds.items (λ y sits number. same_lease (desk_in d) h y at sits number) (sits_at (desk_in d) reached))
+    (each_more (λ (y : Hold). Sits (pool_in d).service y) (λ (y : Hold). y.number ≡ h.number → y.lease ≡ h.lease) d.holds.items (λ y sits number. same_lease (pool_in d) h y at sits number) (sits_at (pool_in d) reached))
 
-holds_left : (d : Desk) (key : ℕ) (gives : Bool) (way : desk.Way) (h : Hold) → find_key key d.holds ≡ Some h → (desk.leaves d key gives way (find_key key d.holds)).desk.holds ≡ without_lease h.lease d.holds
-holds_left d key gives way h its = ap (λ (o : Option Hold). (desk.leaves d key gives way o).desk.holds) its
+holds_left : (d : Pool) (key : ℕ) (gives : Bool) (way : pool.Way) (h : Hold) → find_key key d.holds ≡ Some h → (pool.leaves d key gives way (find_key key d.holds)).pool.holds ≡ without_lease h.lease d.holds
+holds_left d key gives way h its = ap (λ (o : Option Hold). (pool.leaves d key gives way o).pool.holds) its
 
 -- ---- At a relay
 
@@ -148,55 +148,55 @@ filled client out None (Some new) e f = absurd f
 filled client out (Some waits) (Some new) e f = subst (λ (xs : List ℕ). WaitsAtEnd client (Some waits) (Some xs)) (sym f) (cleaning.HasMore waits out refl e)
 
 -- nobody holds what was let go
-left_free : (key : ℕ) (left : Left) (o : Option Hold) (gives : Bool) (way : desk.Way) (old mid : code.Relay) (d : desks.Desk) (before after : List ℕ) → o ≡ find_key key old.desk.holds.items
-    → IsNumberOf o (Some left) → left.is_there ≡ true → IsReached (desk_in old.desk) → (l : Option Left) → l ≡ Some left
-    → (IsReached (desk_in old.desk) → GoesOutBy old.desk.service (find_key key old.desk.holds.items) l before after)
-    → Turns (desk.Leaves key gives way) (desk_in old.desk) (desk_in d) before after → mid.desk ≡ d
-    → (hold : Hold) → find_key key old.desk.holds.items ≡ Some hold → (left.number ≡ hold.number) × (find_number left.number (desk_in mid.desk).holds ≡ None)
+left_free : (key : ℕ) (left : Left) (o : Option Hold) (gives : Bool) (way : pool.Way) (old mid : code.Relay) (d : pools.Pool) (before after : List ℕ) → o ≡ find_key key old.pool.holds.items
+    → IsNumberOf o (Some left) → left.is_there ≡ true → IsReached (pool_in old.pool) → (l : Option Left) → l ≡ Some left
+    → (IsReached (pool_in old.pool) → GoesOutBy old.pool.service (find_key key old.pool.holds.items) l before after)
+    → Turns (pool.Leaves key gives way) (pool_in old.pool) (pool_in d) before after → mid.pool ≡ d
+    → (hold : Hold) → find_key key old.pool.holds.items ≡ Some hold → (left.number ≡ hold.number) × (find_number left.number (pool_in mid.pool).holds ≡ None)
 left_free key left o gives way old mid d before after same is there reached l its_left ends t at hold its =
     let here : o ≡ Some hold = same ∙ its in
     let number : left.number ≡ hold.number = subst (λ (p : Option Hold). IsNumberOf p (Some left)) here is in
-    let e : IsPutBehind (GoesOutAtEnd text_of_cleaning (client_of hold.lease old.desk.service)) before after =
-    subst (λ (p : Option Hold). GoesOutBy old.desk.service p (Some left) before after) its (subst (λ (y : Option Left). GoesOutBy old.desk.service (find_key key old.desk.holds.items) y before after) its_left (ends reached)) there in
-    let holds : (desk_in mid.desk).holds ≡ without_lease hold.lease old.desk.holds.items =
-    ap (λ (x : desks.Desk). (desk_in x).holds) at ∙ ap (λ (x : Desk). x.holds) t.desk_is ∙ holds_left (desk_in old.desk) key gives way hold its in
-    (number, ap (find_number left.number) holds ∙ ap (λ (n : ℕ). find_number n (without_lease hold.lease old.desk.holds.items)) number ∙ leaves_none old.desk key hold e.is.session reached its e.is.was)
+    let e : IsPutBehind (GoesOutAtEnd text_of_cleaning (client_of hold.lease old.pool.service)) before after =
+    subst (λ (p : Option Hold). GoesOutBy old.pool.service p (Some left) before after) its (subst (λ (y : Option Left). GoesOutBy old.pool.service (find_key key old.pool.holds.items) y before after) its_left (ends reached)) there in
+    let holds : (pool_in mid.pool).holds ≡ without_lease hold.lease old.pool.holds.items =
+    ap (λ (x : pools.Pool). (pool_in x).holds) at ∙ ap (λ (x : Pool). x.holds) t.pool_is ∙ holds_left (pool_in old.pool) key gives way hold its in
+    (number, ap (find_number left.number) holds ∙ ap (λ (n : ℕ). find_number n (without_lease hold.lease old.pool.holds.items)) number ∙ leaves_none old.pool key hold e.is.session reached its e.is.was)
 
 -- what goes out by it waits on the connection that was let go
-pub left_by : {A E : Type 0} (r : Result A E) (key : ℕ) (left : Left) (o : Option Hold) (gives : Bool) (way : desk.Way) (old mid new : code.Relay) (d : desks.Desk) (before after outbox : List ℕ) → o ≡ find_key key old.desk.holds.items
-    → IsNumberOf o (Some left) → left.is_there ≡ true → IsReached (desk_in old.desk) → before ≡ [] → (l : Option Left) → l ≡ Some left
-    → (IsReached (desk_in old.desk) → GoesOutBy old.desk.service (find_key key old.desk.holds.items) l before after) → outbox ≡ after
-    → Turns (desk.Leaves key gives way) (desk_in old.desk) (desk_in d) before after → mid.desk ≡ d → mid.links.items ≡ old.links.items
-    → (find_number left.number (desk_in mid.desk).holds ≡ None → OnOk r (FillsBy outbox (waits_on left.number mid.links.items) (waits_on left.number new.links.items)))
+pub left_by : {A E : Type 0} (r : Result A E) (key : ℕ) (left : Left) (o : Option Hold) (gives : Bool) (way : pool.Way) (old mid new : code.Relay) (d : pools.Pool) (before after outbox : List ℕ) → o ≡ find_key key old.pool.holds.items
+    → IsNumberOf o (Some left) → left.is_there ≡ true → IsReached (pool_in old.pool) → before ≡ [] → (l : Option Left) → l ≡ Some left
+    → (IsReached (pool_in old.pool) → GoesOutBy old.pool.service (find_key key old.pool.holds.items) l before after) → outbox ≡ after
+    → Turns (pool.Leaves key gives way) (pool_in old.pool) (pool_in d) before after → mid.pool ≡ d → mid.links.items ≡ old.links.items
+    → (find_number left.number (pool_in mid.pool).holds ≡ None → OnOk r (FillsBy outbox (waits_on left.number mid.links.items) (waits_on left.number new.links.items)))
     → OnOk r (OfItsHold WaitsAtEnd key old (λ (n : ℕ). waits_on n new.links.items))
 left_by (Ok x) key left o gives way old mid new d before after outbox same is there reached empty l its_left ends out t at links fills = λ hold its.
     let here : o ≡ Some hold = same ∙ its in
     let number : left.number ≡ hold.number = subst (λ (p : Option Hold). IsNumberOf p (Some left)) here is in
-    let e : IsPutBehind (GoesOutAtEnd text_of_cleaning (client_of hold.lease old.desk.service)) before after =
-    subst (λ (p : Option Hold). GoesOutBy old.desk.service p (Some left) before after) its (subst (λ (y : Option Left). GoesOutBy old.desk.service (find_key key old.desk.holds.items) y before after) its_left (ends reached)) there in
+    let e : IsPutBehind (GoesOutAtEnd text_of_cleaning (client_of hold.lease old.pool.service)) before after =
+    subst (λ (p : Option Hold). GoesOutBy old.pool.service p (Some left) before after) its (subst (λ (y : Option Left). GoesOutBy old.pool.service (find_key key old.pool.holds.items) y before after) its_left (ends reached)) there in
     let client = e.is.session in
-    let holds : (desk_in mid.desk).holds ≡ without_lease hold.lease old.desk.holds.items =
-    ap (λ (x : desks.Desk). (desk_in x).holds) at ∙ ap (λ (x : Desk). x.holds) t.desk_is ∙ holds_left (desk_in old.desk) key gives way hold its in
-    let none : find_number left.number (desk_in mid.desk).holds ≡ None =
-    ap (find_number left.number) holds ∙ ap (λ (n : ℕ). find_number n (without_lease hold.lease old.desk.holds.items)) number ∙ leaves_none old.desk key hold client reached its e.is.was in
+    let holds : (pool_in mid.pool).holds ≡ without_lease hold.lease old.pool.holds.items =
+    ap (λ (x : pools.Pool). (pool_in x).holds) at ∙ ap (λ (x : Pool). x.holds) t.pool_is ∙ holds_left (pool_in old.pool) key gives way hold its in
+    let none : find_number left.number (pool_in mid.pool).holds ≡ None =
+    ap (find_number left.number) holds ∙ ap (λ (n : ℕ). find_number n (without_lease hold.lease old.pool.holds.items)) number ∙ leaves_none old.pool key hold client reached its e.is.was in
     let puts : outbox ≡ e.out = out ∙ e.appended ∙ ap (λ (xs : List ℕ). xs ++ e.out) empty in
     let f : FillsBy e.out (waits_on left.number old.links.items) (waits_on left.number new.links.items) =
     subst (λ (xs : List ℕ). FillsBy xs (waits_on left.number old.links.items) (waits_on left.number new.links.items)) puts
     (subst (λ (ls : List Link). FillsBy outbox (waits_on left.number ls) (waits_on left.number new.links.items)) links (fills none)) in
-    subst (λ (n : ℕ). WaitsAtEnd (client_of hold.lease old.desk.service) (waits_on n old.links.items) (waits_on n new.links.items)) number
-    (filled (client_of hold.lease old.desk.service) e.out (waits_on left.number old.links.items) (waits_on left.number new.links.items) e.is f)
+    subst (λ (n : ℕ). WaitsAtEnd (client_of hold.lease old.pool.service) (waits_on n old.links.items) (waits_on n new.links.items)) number
+    (filled (client_of hold.lease old.pool.service) e.out (waits_on left.number old.links.items) (waits_on left.number new.links.items) e.is f)
 left_by (Err x) key left o gives way old mid new d before after outbox same is there reached empty l its_left ends out t at links fills = tt
 
 -- or it is closed
-pub shut_by : {A E : Type 0} (r : Result A E) (key : ℕ) (left : Left) (o : Option Hold) (old new : code.Relay) → o ≡ find_key key old.desk.holds.items → IsNumberOf o (Some left)
+pub shut_by : {A E : Type 0} (r : Result A E) (key : ℕ) (left : Left) (o : Option Hold) (old new : code.Relay) → o ≡ find_key key old.pool.holds.items → IsNumberOf o (Some left)
     → OnOk r (waits_on left.number new.links.items ≡ None) → OnOk r (OfItsHold WaitsAtEnd key old (λ (n : ℕ). waits_on n new.links.items))
 shut_by (Ok x) key left o old new same is gone = λ hold its.
     let number : left.number ≡ hold.number = subst (λ (p : Option Hold). IsNumberOf p (Some left)) (same ∙ its) is in
-    subst (WaitsAtEnd (client_of hold.lease old.desk.service) (waits_on hold.number old.links.items)) (sym gone ∙ ap (λ (n : ℕ). waits_on n new.links.items) number) cleaning.IsShut
+    subst (WaitsAtEnd (client_of hold.lease old.pool.service) (waits_on hold.number old.links.items)) (sym gone ∙ ap (λ (n : ℕ). waits_on n new.links.items) number) cleaning.IsShut
 shut_by (Err x) key left o old new same is gone = tt
 
 -- nobody held one
-pub nobody_left : (key : ℕ) (o : Option Hold) (old new : code.Relay) → o ≡ find_key key old.desk.holds.items → IsNumberOf o None → OfItsHold WaitsAtEnd key old (λ (n : ℕ). waits_on n new.links.items)
+pub nobody_left : (key : ℕ) (o : Option Hold) (old new : code.Relay) → o ≡ find_key key old.pool.holds.items → IsNumberOf o None → OfItsHold WaitsAtEnd key old (λ (n : ℕ). waits_on n new.links.items)
 nobody_left key o old new same is = λ hold its. absurd (subst (λ (p : Option Hold). IsNumberOf p None) (same ∙ its) is)
 
 -- ---- How often
@@ -234,11 +234,11 @@ pub sent_gone : (number : ℕ) (ls : List Link) (p q : ℕ × ℕ) → waits_on 
 sent_gone number ls p q gone failed = subst (λ (x : Option (List ℕ)). CountsSent x p q) (sym gone) failed
 
 -- what an application held
-pub counted_by : {A E : Type 0} (r : Result A E) (key : ℕ) (left : Left) (o : Option Hold) (gives : Bool) (way : desk.Way) (old mid new : code.Relay) (d : desks.Desk) (before after : List ℕ) → o ≡ find_key key old.desk.holds.items
-    → IsNumberOf o (Some left) → left.is_there ≡ true → IsReached (desk_in old.desk) → (l : Option Left) → l ≡ Some left
-    → (IsReached (desk_in old.desk) → GoesOutBy old.desk.service (find_key key old.desk.holds.items) l before after)
-    → Turns (desk.Leaves key gives way) (desk_in old.desk) (desk_in d) before after → mid.desk ≡ d → mid.links.items ≡ old.links.items → cleaned_in mid ≡ cleaned_in old
-    → (find_number left.number (desk_in mid.desk).holds ≡ None → IsSome (waits_on left.number mid.links.items) → OnOk r (CountsSent (waits_on left.number new.links.items) (cleaned_in mid) (cleaned_in new)))
+pub counted_by : {A E : Type 0} (r : Result A E) (key : ℕ) (left : Left) (o : Option Hold) (gives : Bool) (way : pool.Way) (old mid new : code.Relay) (d : pools.Pool) (before after : List ℕ) → o ≡ find_key key old.pool.holds.items
+    → IsNumberOf o (Some left) → left.is_there ≡ true → IsReached (pool_in old.pool) → (l : Option Left) → l ≡ Some left
+    → (IsReached (pool_in old.pool) → GoesOutBy old.pool.service (find_key key old.pool.holds.items) l before after)
+    → Turns (pool.Leaves key gives way) (pool_in old.pool) (pool_in d) before after → mid.pool ≡ d → mid.links.items ≡ old.links.items → cleaned_in mid ≡ cleaned_in old
+    → (find_number left.number (pool_in mid.pool).holds ≡ None → IsSome (waits_on left.number mid.links.items) → OnOk r (CountsSent (waits_on left.number new.links.items) (cleaned_in mid) (cleaned_in new)))
     → OnOk r (CountsAtEnd key old new)
 counted_by (Ok x) key left o gives way old mid new d before after same is there reached l its_left ends t at links figures counts = λ hold its was.
     let free = left_free key left o gives way old mid d before after same is there reached l its_left ends t at hold its in
@@ -247,14 +247,14 @@ counted_by (Ok x) key left o gives way old mid new d before after same is there 
     (counts free.1 (subst (λ (n : ℕ). IsSome (waits_on n mid.links.items)) (sym free.0) (subst (λ (ls : List Link). IsSome (waits_on hold.number ls)) (sym links) was))))
 counted_by (Err x) key left o gives way old mid new d before after same is there reached l its_left ends t at links figures counts = tt
 
-pub shut_counted : {A E : Type 0} (r : Result A E) (key : ℕ) (left : Left) (o : Option Hold) (old new : code.Relay) → o ≡ find_key key old.desk.holds.items → IsNumberOf o (Some left) → cleaned_in new ≡ (old.cleanings, next old.failed)
+pub shut_counted : {A E : Type 0} (r : Result A E) (key : ℕ) (left : Left) (o : Option Hold) (old new : code.Relay) → o ≡ find_key key old.pool.holds.items → IsNumberOf o (Some left) → cleaned_in new ≡ (old.cleanings, next old.failed)
     → OnOk r (waits_on left.number new.links.items ≡ None) → OnOk r (CountsAtEnd key old new)
 shut_counted (Ok x) key left o old new same is failed gone = λ hold its was.
     let number : left.number ≡ hold.number = subst (λ (p : Option Hold). IsNumberOf p (Some left)) (same ∙ its) is in
     subst (λ (n : ℕ). CountsSent (waits_on n new.links.items) (cleaned_in old) (cleaned_in new)) number (sent_gone left.number new.links.items (cleaned_in old) (cleaned_in new) gone failed)
 shut_counted (Err x) key left o old new same is failed gone = tt
 
-pub nobody_counted : (key : ℕ) (o : Option Hold) (old new : code.Relay) → o ≡ find_key key old.desk.holds.items → IsNumberOf o None → CountsAtEnd key old new
+pub nobody_counted : (key : ℕ) (o : Option Hold) (old new : code.Relay) → o ≡ find_key key old.pool.holds.items → IsNumberOf o None → CountsAtEnd key old new
 nobody_counted key o old new same is = λ hold its was. absurd (subst (λ (p : Option Hold). IsNumberOf p None) (same ∙ its) is)
 
 -- ---- And those who wait are served
@@ -285,20 +285,20 @@ lost_since May a b c were (inl all) number e = inl (all number e)
 lost_since May a b c were (inr y) number e = inr (record { key = y.key; may = y.may; tag = y.tag; was = were y.key y.tag y.was; closed = y.closed })
 
 pub since_served : (key : ℕ) (was : Register) (old mid new : code.Relay) → CountsAtEnd key old mid → OpensLinks mid.links.items new.links.items → cleaned_in new ≡ cleaned_in mid → ClosesOnly Nobody was (register_in mid)
-    → LastBut (IsWaiting (desk_in old.desk).line) (register_in mid) (register_in new) → CountsSinceEnd key was old new
+    → LastBut (IsWaiting (pool_in old.pool).line) (register_in mid) (register_in new) → CountsSinceEnd key was old new
 since_served key was old mid new counts opens same closes lasts = λ hold its there.
     since_at (LosesWaiting was old new) hold.number (cleaned_in old) (cleaned_in mid) (cleaned_in new) mid.links.items new.links.items (counts hold its there) same opens
-    (lost_since (IsWaiting (desk_in old.desk).line) was (register_in mid) (register_in new) closes.were_open lasts hold.number)
+    (lost_since (IsWaiting (pool_in old.pool).line) was (register_in mid) (register_in new) closes.were_open lasts hold.number)
 
 pub since_served_on : {A E : Type 0} (r : Result A E) (key : ℕ) (was : Register) (old mid new : code.Relay) → CountsAtEnd key old mid → OnOk r (OpensLinks mid.links.items new.links.items) → cleaned_in new ≡ cleaned_in mid
-    → ClosesOnly Nobody was (register_in mid) → OnOk r (LastBut (IsWaiting (desk_in old.desk).line) (register_in mid) (register_in new)) → OnOk r (CountsSinceEnd key was old new)
+    → ClosesOnly Nobody was (register_in mid) → OnOk r (LastBut (IsWaiting (pool_in old.pool).line) (register_in mid) (register_in new)) → OnOk r (CountsSinceEnd key was old new)
 since_served_on (Ok x) key was old mid new counts opens same closes lasts = since_served key was old mid new counts opens same closes lasts
 since_served_on (Err e) key was old mid new counts opens same closes lasts = tt
 
 -- one was brought
 pub since_brought : (number : ℕ) (old mid new : code.Relay) → CountsSent (waits_on number mid.links.items) (cleaned_in old) (cleaned_in mid) → OpensLinks mid.links.items new.links.items → cleaned_in new ≡ cleaned_in mid
-    → ((key tag : ℕ) → open_name key (register_in mid) ≡ Some tag → open_name key (register_in old) ≡ Some tag) → LastBut (IsWaiting (desk_in old.desk).line) (register_in mid) (register_in new)
+    → ((key tag : ℕ) → open_name key (register_in mid) ≡ Some tag → open_name key (register_in old) ≡ Some tag) → LastBut (IsWaiting (pool_in old.pool).line) (register_in mid) (register_in new)
     → CountsSince (LosesWaiting (register_in old) old new) number (cleaned_in old) (cleaned_in new) new.links.items
 since_brought number old mid new counts opens same were lasts =
     since_at (LosesWaiting (register_in old) old new) number (cleaned_in old) (cleaned_in mid) (cleaned_in new) mid.links.items new.links.items counts same opens
-    (lost_since (IsWaiting (desk_in old.desk).line) (register_in old) (register_in mid) (register_in new) were lasts number)
+    (lost_since (IsWaiting (pool_in old.pool).line) (register_in old) (register_in mid) (register_in new) were lasts number)

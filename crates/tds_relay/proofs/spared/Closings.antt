@@ -4,9 +4,9 @@ use Rattle.std.specs.Prelude.{Result, Ok, Err, OnOk}
 use Rattle.tds_relay.specs.declared.order.Order.{Order}
 use Rattle.tds_relay.specs.declared.order.Order.TheVariants as orders
 use Rattle.tds_relay.specs.Closings.{ClosesOnly, IsDue, IsToWriteAll, KeptBeside, Nobody, OfApplication, OfConnection, Register, Settings, but_told, is_shut, is_shut_at, open_name, name_with}
-use Rattle.tds_relay.specs.Hall.{Ends, end_at}
+use Rattle.tds_relay.specs.Core.{Ends, end_at}
 use Rattle.tds_relay.specs.Ordering.{IsOrdered, StayOrdered}
-use Rattle.tds_relay.specs.Posts.{HasAll, Post, Posts, names_of, post_at}
+use Rattle.tds_relay.specs.Queues.{HasAll, Queue, Queues, names_of, queue_at}
 use Rattle.tds_relay.specs.declared.fault.Refused.{Refused}
 use Rattle.tds_relay.specs.Reads.{seen_at}
 use Rattle.tds_relay.specs.Sending.{IsToWrite, IsWritten, Sending, called_at, name_in, sending_at}
@@ -78,18 +78,18 @@ write_as : (o p : Option ℕ) (xs ys : List Order) → ((tag : ℕ) → p ≡ So
 write_as o None xs ys were s w = tt
 write_as o (Some tag) xs ys were s w = is_ordered_on (orders.Write tag) xs ys s (subst (λ (q : Option ℕ). IsToWrite q xs) (were tag refl) w)
 
-write_all_as : (o p : Option ℕ) (x y : Option Post) (xs ys : List Order) → ((tag : ℕ) → p ≡ Some tag → o ≡ Some tag) → StayOrdered xs ys → y ≡ x → IsToWriteAll o x xs → IsToWriteAll p y ys
+write_all_as : (o p : Option ℕ) (x y : Option Queue) (xs ys : List Order) → ((tag : ℕ) → p ≡ Some tag → o ≡ Some tag) → StayOrdered xs ys → y ≡ x → IsToWriteAll o x xs → IsToWriteAll p y ys
 write_all_as o None x y xs ys were s same w = tt
 write_all_as o (Some tag) x y xs ys were s same w =
     let v = subst (λ (q : Option ℕ). IsToWriteAll q x xs) (were tag refl) w in (subst HasAll (sym same) v.0, is_ordered_on (orders.Write tag) xs ys s v.1)
 
-writes_or : (May : ℕ → Type 0) (key : ℕ) (a b c : Register) → ClosesOnly May b c → post_at c.posts key ≡ post_at b.posts key → (post_at b.posts key ≡ post_at a.posts key) ⊎ IsToWriteAll (open_name key b) (post_at b.posts key) b.orders
-    → (post_at c.posts key ≡ post_at a.posts key) ⊎ IsToWriteAll (open_name key c) (post_at c.posts key) c.orders
+writes_or : (May : ℕ → Type 0) (key : ℕ) (a b c : Register) → ClosesOnly May b c → queue_at c.queues key ≡ queue_at b.queues key → (queue_at b.queues key ≡ queue_at a.queues key) ⊎ IsToWriteAll (open_name key b) (queue_at b.queues key) b.orders
+    → (queue_at c.queues key ≡ queue_at a.queues key) ⊎ IsToWriteAll (open_name key c) (queue_at c.queues key) c.orders
 writes_or May key a b c k same (inl e) = inl (same ∙ e)
-writes_or May key a b c k same (inr w) = inr (write_all_as (open_name key b) (open_name key c) (post_at b.posts key) (post_at c.posts key) b.orders c.orders (k.were_open key) k.ordered same w)
+writes_or May key a b c k same (inr w) = inr (write_all_as (open_name key b) (open_name key c) (queue_at b.queues key) (queue_at c.queues key) b.orders c.orders (k.were_open key) k.ordered same w)
 
-writes_then : (May : ℕ → Type 0) (key : ℕ) (a b c : Register) → ClosesOnly May a b → ClosesOnly May b c → (post_at c.posts key ≡ post_at b.posts key) ⊎ IsToWriteAll (open_name key c) (post_at c.posts key) c.orders
-    → (post_at c.posts key ≡ post_at a.posts key) ⊎ IsToWriteAll (open_name key c) (post_at c.posts key) c.orders
+writes_then : (May : ℕ → Type 0) (key : ℕ) (a b c : Register) → ClosesOnly May a b → ClosesOnly May b c → (queue_at c.queues key ≡ queue_at b.queues key) ⊎ IsToWriteAll (open_name key c) (queue_at c.queues key) c.orders
+    → (queue_at c.queues key ≡ queue_at a.queues key) ⊎ IsToWriteAll (open_name key c) (queue_at c.queues key) c.orders
 writes_then May key a b c h k (inr w) = inr w
 writes_then May key a b c h k (inl e) = writes_or May key a b c k e (h.writes key)
 
@@ -210,11 +210,11 @@ heard_due May tag a b c first same sends (inl o) = inl o
 heard_due May tag a b c first same sends (inr d) = inr (heard_by May tag a b c first same sends d)
 
 -- What waits for applications changes by it, and why a connection was closed.
-pub closes_heard : (May : ℕ → Type 0) (a b c : Register) → ClosesOnly May (but_told b a) b → c.ends ≡ b.ends → names_of c.posts ≡ names_of b.posts → ((number : ℕ) → sending_at number c.links ≡ sending_at number b.links)
+pub closes_heard : (May : ℕ → Type 0) (a b c : Register) → ClosesOnly May (but_told b a) b → c.ends ≡ b.ends → names_of c.queues ≡ names_of b.queues → ((number : ℕ) → sending_at number c.links ≡ sending_at number b.links)
     → ((number : ℕ) → is_shut_at number c ≡ true → is_shut_at number b ≡ true) → c.orders ≡ b.orders → c.kept.settings ≡ b.kept.settings → ClosesOnly May (but_told c a) c
 closes_heard May a b c h ends names sends shut are settings =
     let same : (key : ℕ) → open_name key c ≡ open_name key b =
-    λ key. ap (λ (es : Ends). name_with (end_at es key) (slice_index_or (names_of c.posts) key None)) ends
+    λ key. ap (λ (es : Ends). name_with (end_at es key) (slice_index_or (names_of c.queues) key None)) ends
     ∙ ap (λ (ns : List (Option (Option ℕ))). name_with (end_at b.ends key) (slice_index_or ns key None)) names in
     let first : (key : ℕ) → open_name key (but_told c a) ≡ open_name key (but_told b a) = λ key. ap (λ (ns : List (Option (Option ℕ))). name_with (end_at a.ends key) (slice_index_or ns key None)) names in
     record {
@@ -238,25 +238,25 @@ closes_heard May a b c h ends names sends shut are settings =
       were_called = λ number tag e. h.were_called number tag (sym (ap name_in (sends number)) ∙ e);
     }
 
-abbrev told_with : Posts → Option Refused → Register → Register
-told_with posts refused r = record { ends = r.ends; posts = posts; links = r.links; orders = r.orders; kept = record { refused = refused; settings = r.kept.settings } }
+abbrev told_with : Queues → Option Refused → Register → Register
+told_with queues refused r = record { ends = r.ends; queues = queues; links = r.links; orders = r.orders; kept = record { refused = refused; settings = r.kept.settings } }
 
-told_as : (May : ℕ → Type 0) (a c d : Register) → ClosesOnly May (but_told c a) d → d.posts ≡ c.posts → d.kept ≡ c.kept → ClosesOnly May (but_told d a) d
-told_as May a c d h posts told =
-    let first : ClosesOnly May (told_with d.posts c.kept.refused a) d = subst (λ (ps : Posts). ClosesOnly May (told_with ps c.kept.refused a) d) (sym posts) h in
-    subst (λ (o : Option Refused). ClosesOnly May (told_with d.posts o a) d) (ap (λ (k : KeptBeside). k.refused) (sym told)) first
+told_as : (May : ℕ → Type 0) (a c d : Register) → ClosesOnly May (but_told c a) d → d.queues ≡ c.queues → d.kept ≡ c.kept → ClosesOnly May (but_told d a) d
+told_as May a c d h queues told =
+    let first : ClosesOnly May (told_with d.queues c.kept.refused a) d = subst (λ (ps : Queues). ClosesOnly May (told_with ps c.kept.refused a) d) (sym queues) h in
+    subst (λ (o : Option Refused). ClosesOnly May (told_with d.queues o a) d) (ap (λ (k : KeptBeside). k.refused) (sym told)) first
 
 -- what came of it is done
-pub closes_done : (May : ℕ → Type 0) (a c d : Register) → ClosesOnly May (but_told c a) c → ClosesOnly May c d → d.posts ≡ c.posts → ClosesOnly May (but_told d a) d
-closes_done May a c d h k posts = told_as May a c d (closes_both May (but_told c a) c d h k) posts k.told
+pub closes_done : (May : ℕ → Type 0) (a c d : Register) → ClosesOnly May (but_told c a) c → ClosesOnly May c d → d.queues ≡ c.queues → ClosesOnly May (but_told d a) d
+closes_done May a c d h k queues = told_as May a c d (closes_both May (but_told c a) c d h k) queues k.told
 
-pub closes_done_on : {A E : Type 0} (r : Result A E) (May More : ℕ → Type 0) (a c d : Register) → ((key : ℕ) → May key → More key) → OnOk r (ClosesOnly May c d) → OnOk r (d.posts ≡ c.posts) → ClosesOnly More (but_told c a) c
+pub closes_done_on : {A E : Type 0} (r : Result A E) (May More : ℕ → Type 0) (a c d : Register) → ((key : ℕ) → May key → More key) → OnOk r (ClosesOnly May c d) → OnOk r (d.queues ≡ c.queues) → ClosesOnly More (but_told c a) c
     → OnOk r (ClosesOnly More (but_told d a) d)
-closes_done_on (Ok x) May More a c d f k posts h = closes_done More a c d h (closes_more May More c d f k) posts
-closes_done_on (Err e) May More a c d f k posts h = tt
+closes_done_on (Ok x) May More a c d f k queues h = closes_done More a c d h (closes_more May More c d f k) queues
+closes_done_on (Err e) May More a c d f k queues h = tt
 
-pub one_closes : (May More : ℕ → Type 0) (a b c d : Register) → ((key : ℕ) → May key → More key) → ClosesOnly More (but_told b a) b → c.ends ≡ b.ends → names_of c.posts ≡ names_of b.posts
-    → ((number : ℕ) → (sending_at number c.links ≡ sending_at number b.links) × (is_shut (seen_at number c.links) ≡ is_shut (seen_at number b.links))) → c.orders ≡ b.orders → c.kept.settings ≡ b.kept.settings → ClosesOnly May c d → d.posts ≡ c.posts
+pub one_closes : (May More : ℕ → Type 0) (a b c d : Register) → ((key : ℕ) → May key → More key) → ClosesOnly More (but_told b a) b → c.ends ≡ b.ends → names_of c.queues ≡ names_of b.queues
+    → ((number : ℕ) → (sending_at number c.links ≡ sending_at number b.links) × (is_shut (seen_at number c.links) ≡ is_shut (seen_at number b.links))) → c.orders ≡ b.orders → c.kept.settings ≡ b.kept.settings → ClosesOnly May c d → d.queues ≡ c.queues
     → ClosesOnly More (but_told d a) d
-one_closes May More a b c d f h ends names same are settings k posts =
-    closes_done More a c d (closes_heard More a b c h ends names (λ number. (same number).0) (λ number e. sym (same number).1 ∙ e) are settings) (closes_more May More c d f k) posts
+one_closes May More a b c d f h ends names same are settings k queues =
+    closes_done More a c d (closes_heard More a b c h ends names (λ number. (same number).0) (λ number e. sym (same number).1 ∙ e) are settings) (closes_more May More c d f k) queues

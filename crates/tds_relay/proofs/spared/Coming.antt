@@ -8,15 +8,15 @@ use Rattle.tds_service.specs.Table.{client_of}
 use Rattle.tds_relay.specs.declared.application.Application.{Application}
 use Rattle.tds_relay.specs.declared.application.Asking.{Asking}
 use Rattle.tds_relay.specs.declared.application.Asking.TheVariants as asking
-use Rattle.tds_relay.specs.declared.desk.Hold.{Hold}
+use Rattle.tds_relay.specs.declared.pool.Hold.{Hold}
 use Rattle.tds_relay.specs.declared.link.Link.{Link}
 use Rattle.tds_relay.specs.declared.relay.Relay as code
 use Rattle.tds_relay.specs.Bodies.{AskAsBefore, AskOn, Astray, Body, Closed, Going, Kept, Nowhere, Spared, Starts, body_by, body_in, body_of, going, going_by, going_of}
 use Rattle.tds_relay.specs.Coming.{AllAlong, Begins, Ends, GoesAlong, Hears, HearsOn, IsGoing, MayBeDone, Reads, Waits}
-use Rattle.tds_relay.specs.Desk.{find_key}
+use Rattle.tds_relay.specs.Pool.{find_key}
 use Rattle.tds_relay.specs.Reads.{waits_on}
 use Rattle.tds_relay.specs.Sparing.{AllGo, AllRest, IsUnkept, OthersRest}
-use Rattle.tds_relay.specs.Ties.{Connection, Goes, IsReached, desk_in}
+use Rattle.tds_relay.specs.Ties.{Connection, Goes, IsReached, pool_in}
 use Rattle.tds_relay.proofs.spared.Resting.{go_one, rests_start}
 use Rattle.tds_relay.proofs.steps.Reaching.{reached_on}
 
@@ -49,7 +49,7 @@ is_going s ls None = tt
 is_going s ls (Some hold) = by_going hold.number (client_of hold.lease s) (waits_on hold.number ls)
 
 goes_there : (key : ℕ) (r : code.Relay) → IsGoing (going_of key r)
-goes_there key r = is_going r.desk.service r.links.items (find_key key r.desk.holds.items)
+goes_there key r = is_going r.pool.service r.links.items (find_key key r.pool.holds.items)
 
 unkept : (b : Body) → IsGoing b → IsUnkept b
 unkept Closed goes = absurd goes
@@ -109,11 +109,11 @@ pub rest_along : {A E : Type 0} (r : Result A E) (old new : code.Relay) → OnOk
 rest_along (Ok x) old new h = record { along = λ key. Begins (rests_start (body_of key old) (body_of key new) (h.rest key)) Ends }
 rest_along (Err e) old new h = tt
 
-pub go_along : {A E : Type 0} (r : Result A E) (old new : code.Relay) → IsReached (desk_in old.desk) → OnOk r (AllGo old new) → OnOk r (AllAlong old new)
+pub go_along : {A E : Type 0} (r : Result A E) (old new : code.Relay) → IsReached (pool_in old.pool) → OnOk r (AllGo old new) → OnOk r (AllAlong old new)
 go_along (Ok x) old new reached h = record { along = λ key. Begins (h.go reached key) Ends }
 go_along (Err e) old new reached h = tt
 
-pub start_along : {A E : Type 0} (r : Result A E) (key : ℕ) (old new : code.Relay) → IsReached (desk_in old.desk) → OnOk r (Starts (body_of key old) (body_of key new)) → (IsReached (desk_in old.desk) → OnOk r (OthersRest key old new))
+pub start_along : {A E : Type 0} (r : Result A E) (key : ℕ) (old new : code.Relay) → IsReached (pool_in old.pool) → OnOk r (Starts (body_of key old) (body_of key new)) → (IsReached (pool_in old.pool) → OnOk r (OthersRest key old new))
     → OnOk r (AllAlong old new)
 start_along (Ok x) key old new reached own others = record { along = λ k. Begins ((go_one key old new own others).go reached k) Ends }
 start_along (Err e) key old new reached own others = tt
@@ -124,7 +124,7 @@ body_along (Err e) a b c h same = tt
 
 -- ---- One packet
 
-pub one_along : (number : ℕ) (a b c d : code.Relay) → IsReached (desk_in a.desk) → AllAlong a b → Goes (Connection number) (desk_in a.desk) (desk_in b.desk) → Goes (Connection number) (desk_in b.desk) (desk_in c.desk)
-    → AskAsBefore b.applications c.applications → (IsReached (desk_in c.desk) → AllAlong c d) → AllAlong a d
+pub one_along : (number : ℕ) (a b c d : code.Relay) → IsReached (pool_in a.pool) → AllAlong a b → Goes (Connection number) (pool_in a.pool) (pool_in b.pool) → Goes (Connection number) (pool_in b.pool) (pool_in c.pool)
+    → AskAsBefore b.applications c.applications → (IsReached (pool_in c.pool) → AllAlong c d) → AllAlong a d
 one_along number a b c d reached h first next asks k =
-    along_both a b d h (along_both b c d (same_along b c asks) (k (reached_on (Connection number) (desk_in a.desk) (desk_in c.desk) (λ from led. next from (first from led)) reached)))
+    along_both a b d h (along_both b c d (same_along b c asks) (k (reached_on (Connection number) (pool_in a.pool) (pool_in c.pool) (λ from led. next from (first from led)) reached)))

@@ -1,15 +1,15 @@
 -- What is counted of connections that are cleaned, and closed instead, as something comes on one.
 use Rattle.std.proofs.Common.{◌≡◌, ◌⊎◌, ◌∙◌, ℕ, true, List, Option, Some, None, inl, inr, refl, sym, ap, subst, option_map}
 use Rattle.std.specs.Prelude.{IsSome, Result, Ok, Err, OnOk}
-use Rattle.tds_relay.specs.declared.desk.coming.Heard.{Heard}
-use Rattle.tds_relay.specs.declared.desk.coming.What.{What}
-use Rattle.tds_relay.specs.declared.desk.coming.What.TheVariants as whats
+use Rattle.tds_relay.specs.declared.pool.coming.Heard.{Heard}
+use Rattle.tds_relay.specs.declared.pool.coming.What.{What}
+use Rattle.tds_relay.specs.declared.pool.coming.What.TheVariants as whats
 use Rattle.tds_relay.specs.declared.link.Link.{Link}
 use Rattle.tds_relay.specs.declared.relay.Relay as code
 use Rattle.tds_relay.specs.Cleaning.{CountsGone, CountsHeard, CountsLost, CountsWhat, cleaned_in}
-use Rattle.tds_relay.specs.Desk.{next}
+use Rattle.tds_relay.specs.Pool.{next}
 use Rattle.tds_relay.specs.Few.{is_left}
-use Rattle.tds_relay.specs.House.{House}
+use Rattle.tds_relay.specs.Machine.{Machine}
 use Rattle.tds_relay.specs.Reads.{Opens, Stays, StaysAt, link_at, open_at, reader_at, reader_of, seen_at, seen_of}
 use Rattle.tds_relay.specs.Sending.{sending_at, sending_of}
 use Rattle.tds_relay.specs.Reasons.{HearsNothing, IsHeardAs, IsIdle}
@@ -104,14 +104,14 @@ gone_on : (number : ℕ) (ls ms : List Link) → Stays ls ms → reader_at numbe
 gone_on number ls ms stays gone = not_seen (link_at number ls) (link_at number ms) (stays.seen number (seen_at number ls) (at_refl (seen_at number ls))) gone
 
 -- of what isn't there nothing is heard
-lost_then : (number : ℕ) (left : List ℕ) (o : Option Heard) (a b c d : code.Relay) (new : House) → (HearsNothing o × IsIdle b c) ⊎ IsHeardAs number left o b new → cleaned_in c ≡ cleaned_in b
+lost_then : (number : ℕ) (left : List ℕ) (o : Option Heard) (a b c d : code.Relay) (new : Machine) → (HearsNothing o × IsIdle b c) ⊎ IsHeardAs number left o b new → cleaned_in c ≡ cleaned_in b
     → ((other : ℕ) → sending_at other c.links.items ≡ sending_at other b.links.items) → Stays c.links.items d.links.items → CountsHeard number o c d → CountsLost number a b → CountsLost number a d
 lost_then number left o a b c d new heard then sends stays counts (inl same) = lost_on number a b c d same then (heard_lost o number c d counts)
 lost_then number left o a b c d new (inl none) then sends stays counts (inr lost) =
     inr (nothing_counts o number c d none.0 counts ∙ then ∙ lost.0, gone_on number c.links.items d.links.items stays (as_sent (link_at number b.links.items) (link_at number c.links.items) (sends number) lost.1))
 lost_then number left o a b c d new (inr heard) then sends stays counts (inr lost) = absurd (no_link (link_at number b.links.items) heard.link lost.1 heard.there)
 
-pub one_lost : (number : ℕ) (left : List ℕ) (o : Option Heard) (a b c d : code.Relay) (new : House) → (HearsNothing o × IsIdle b c) ⊎ IsHeardAs number left o b new → cleaned_in c ≡ cleaned_in b
+pub one_lost : (number : ℕ) (left : List ℕ) (o : Option Heard) (a b c d : code.Relay) (new : Machine) → (HearsNothing o × IsIdle b c) ⊎ IsHeardAs number left o b new → cleaned_in c ≡ cleaned_in b
     → ((other : ℕ) → sending_at other c.links.items ≡ sending_at other b.links.items) → Stays c.links.items d.links.items → CountsHeard number o c d → CountsLost number a b → CountsLost number a d
 one_lost number left o a b c d new heard then sends stays counts lost = lost_then number left o a b c d new heard then sends stays counts lost
 

@@ -12,9 +12,9 @@ use Rattle.tds_relay.specs.declared.order.Order.TheVariants as orders
 use Rattle.tds_relay.specs.declared.relay.Relay as code
 use Rattle.tds_relay.specs.Closings.{AConnection, AnApplication, ClosesOnce, ClosesOnly, IsDue, IsToWriteAll, Itself, OfApplication, OfConnection, Register, IsOneCalled, Named, is_shut, name_in_register, name_with, open_name, register_in, times_closed}
 use Rattle.tds_relay.specs.Fronts.{end_of, ends_in}
-use Rattle.tds_relay.specs.Hall.{End, Ends, Open, Over, change_end, end_at, told}
+use Rattle.tds_relay.specs.Core.{End, Ends, Open, Over, change_end, end_at, told}
 use Rattle.tds_relay.specs.Ordering.{IsOrdered, StayOrdered}
-use Rattle.tds_relay.specs.Posts.{HasAll, Post, Posts, names_in, names_of, post_at, post_of, posts_in}
+use Rattle.tds_relay.specs.Queues.{HasAll, Queue, Queues, names_in, names_of, queue_at, queue_of, queues_in}
 use Rattle.tds_relay.specs.Reads.{Sees, seen_at, without_link}
 use Rattle.tds_relay.specs.Sending.{IsWritten, Sending, called_at, name_in, sending_at, sending_of}
 use Rattle.tds_relay.specs.Taking.{IsDeaf}
@@ -27,22 +27,22 @@ use Rattle.tds_relay.proofs.spared.Shutting.{end_is, same_names, shut_stays}
 
 -- ---- What is put for an application
 
-woken_by : (o : Option End) (name : Option (Option ℕ)) (tag : ℕ) (post : Option Post) (all : List Order) → name ≡ Some (Some tag) → HasAll post → IsOrdered (orders.Write tag) all → IsToWriteAll (name_with o name) post all
-woken_by None name tag post all is has w = tt
-woken_by (Some (Open front withdrawn asks)) name tag post all is has w = subst (λ (n : Option (Option ℕ)). IsToWriteAll (name_with (Some (Open front withdrawn asks)) n) post all) (sym is) (has, w)
-woken_by (Some (Over why)) name tag post all is has w = tt
+woken_by : (o : Option End) (name : Option (Option ℕ)) (tag : ℕ) (queue : Option Queue) (all : List Order) → name ≡ Some (Some tag) → HasAll queue → IsOrdered (orders.Write tag) all → IsToWriteAll (name_with o name) queue all
+woken_by None name tag queue all is has w = tt
+woken_by (Some (Open front withdrawn asks)) name tag queue all is has w = subst (λ (n : Option (Option ℕ)). IsToWriteAll (name_with (Some (Open front withdrawn asks)) n) queue all) (sym is) (has, w)
+woken_by (Some (Over why)) name tag queue all is has w = tt
 
-deaf_name : (o : Option End) (name : Option (Option ℕ)) (post : Option Post) (all : List Order) → IsDeaf o → IsToWriteAll (name_with o name) post all
-deaf_name None name post all deaf = tt
-deaf_name (Some (Open front withdrawn asks)) name post all deaf = absurd deaf
-deaf_name (Some (Over why)) name post all deaf = tt
+deaf_name : (o : Option End) (name : Option (Option ℕ)) (queue : Option Queue) (all : List Order) → IsDeaf o → IsToWriteAll (name_with o name) queue all
+deaf_name None name queue all deaf = tt
+deaf_name (Some (Open front withdrawn asks)) name queue all deaf = absurd deaf
+deaf_name (Some (Over why)) name queue all deaf = tt
 
-pub woken_writes : (key : ℕ) (s : Slab Application) (all : List Order) → IsWoken key s all → IsToWriteAll (name_with (end_at (ends_in s) key) (slice_index_or (names_of (posts_in s)) key None)) (post_at (posts_in s) key) all
-woken_writes key s all (inl deaf) = deaf_name (end_at (ends_in s) key) (slice_index_or (names_of (posts_in s)) key None) (post_at (posts_in s) key) all deaf
-woken_writes key s all (inr w) = woken_by (end_at (ends_in s) key) (slice_index_or (names_of (posts_in s)) key None) w.0 (post_at (posts_in s) key) all w.1 w.3 (record { before = w.2.0; behind = w.2.1; are = w.2.2 })
+pub woken_writes : (key : ℕ) (s : Slab Application) (all : List Order) → IsWoken key s all → IsToWriteAll (name_with (end_at (ends_in s) key) (slice_index_or (names_of (queues_in s)) key None)) (queue_at (queues_in s) key) all
+woken_writes key s all (inl deaf) = deaf_name (end_at (ends_in s) key) (slice_index_or (names_of (queues_in s)) key None) (queue_at (queues_in s) key) all deaf
+woken_writes key s all (inr w) = woken_by (end_at (ends_in s) key) (slice_index_or (names_of (queues_in s)) key None) w.0 (queue_at (queues_in s) key) all w.1 w.3 (record { before = w.2.0; behind = w.2.1; are = w.2.2 })
 
-given_writes : (key other : ℕ) (a b c : Posts) (Woken : ℕ → Type 0) → ((k : ℕ) → k ≢ key → post_at b k ≡ post_at a k) → Woken key → (other ≡ key) ⊎ (other ≢ key)
-    → (post_at c other ≡ post_at b other) ⊎ Woken other → (post_at c other ≡ post_at a other) ⊎ Woken other
+given_writes : (key other : ℕ) (a b c : Queues) (Woken : ℕ → Type 0) → ((k : ℕ) → k ≢ key → queue_at b k ≡ queue_at a k) → Woken key → (other ≡ key) ⊎ (other ≢ key)
+    → (queue_at c other ≡ queue_at b other) ⊎ Woken other → (queue_at c other ≡ queue_at a other) ⊎ Woken other
 given_writes key other a b c Woken others w is (inr u) = inr u
 given_writes key other a b c Woken others w (inl same) (inl e) = inr (subst Woken (sym same) w)
 given_writes key other a b c Woken others w (inr differs) (inl e) = inl (e ∙ others other differs)
@@ -57,11 +57,11 @@ given_was May tag a b c names links are (inl o) = inl (subst (IsOrdered (orders.
 given_was May tag a b c names links are (inr d) = inr (given_due May tag a b c names links d)
 
 -- and it is woken behind that
-pub closes_given : (May : ℕ → Type 0) (key : ℕ) (a b c : Register) → b.ends ≡ a.ends → names_of b.posts ≡ names_of a.posts → ((k : ℕ) → k ≢ key → post_at b.posts k ≡ post_at a.posts k) → b.kept ≡ a.kept → b.links ≡ a.links
-    → b.orders ≡ a.orders → ClosesOnly May b c → IsToWriteAll (open_name key c) (post_at c.posts key) c.orders → ClosesOnly May a c
+pub closes_given : (May : ℕ → Type 0) (key : ℕ) (a b c : Register) → b.ends ≡ a.ends → names_of b.queues ≡ names_of a.queues → ((k : ℕ) → k ≢ key → queue_at b.queues k ≡ queue_at a.queues k) → b.kept ≡ a.kept → b.links ≡ a.links
+    → b.orders ≡ a.orders → ClosesOnly May b c → IsToWriteAll (open_name key c) (queue_at c.queues key) c.orders → ClosesOnly May a c
 closes_given May key a b c ends names others told links are h w =
     let same : (k : ℕ) → open_name k b ≡ open_name k a =
-    λ k. ap (λ (es : Ends). name_with (end_at es k) (slice_index_or (names_of b.posts) k None)) ends
+    λ k. ap (λ (es : Ends). name_with (end_at es k) (slice_index_or (names_of b.queues) k None)) ends
     ∙ ap (λ (ns : List (Option (Option ℕ))). name_with (end_at a.ends k) (slice_index_or ns k None)) names in
     record {
       ordered = subst (λ (xs : List Order). StayOrdered xs c.orders) are h.ordered;
@@ -71,14 +71,14 @@ closes_given May key a b c ends names others told links are h w =
       cuts = λ number tag e. h.cuts number tag (ap (called_at number) links ∙ e);
       due = λ tag o. given_was May tag a b c same links are (h.due tag o);
       once = λ tag one. once_as tag b c a c (same_named b a (λ k. sym (same k)) (λ number. ap (called_at number) (sym links))) (λ x. refl) (sym are) refl (h.once tag) one;
-      writes = λ k. given_writes key k a.posts b.posts c.posts (λ (n : ℕ). IsToWriteAll (open_name n c) (post_at c.posts n) c.orders) others w (cases_eq k key) (h.writes k);
+      writes = λ k. given_writes key k a.queues b.queues c.queues (λ (n : ℕ). IsToWriteAll (open_name n c) (queue_at c.queues n) c.orders) others w (cases_eq k key) (h.writes k);
       writes_on = λ number. subst (λ (ls : List Link). (sending_at number c.links ≡ sending_at number ls) ⊎ IsWritten (sending_at number c.links) c.orders) links (h.writes_on number);
       were_open = λ k tag e. sym (same k) ∙ h.were_open k tag e;
       were_called = λ number tag e. ap (called_at number) (sym links) ∙ h.were_called number tag e;
     }
 
-pub closes_given_on : {A E : Type 0} (r : Result A E) (May : ℕ → Type 0) (key : ℕ) (a b c : Register) → b.ends ≡ a.ends → names_of b.posts ≡ names_of a.posts → ((k : ℕ) → k ≢ key → post_at b.posts k ≡ post_at a.posts k)
-    → b.kept ≡ a.kept → b.links ≡ a.links → b.orders ≡ a.orders → OnOk r (ClosesOnly May b c) → OnOk r (IsToWriteAll (open_name key c) (post_at c.posts key) c.orders) → OnOk r (ClosesOnly May a c)
+pub closes_given_on : {A E : Type 0} (r : Result A E) (May : ℕ → Type 0) (key : ℕ) (a b c : Register) → b.ends ≡ a.ends → names_of b.queues ≡ names_of a.queues → ((k : ℕ) → k ≢ key → queue_at b.queues k ≡ queue_at a.queues k)
+    → b.kept ≡ a.kept → b.links ≡ a.links → b.orders ≡ a.orders → OnOk r (ClosesOnly May b c) → OnOk r (IsToWriteAll (open_name key c) (queue_at c.queues key) c.orders) → OnOk r (ClosesOnly May a c)
 closes_given_on (Ok x) May key a b c ends names others told links are h w = closes_given May key a b c ends names others told links are h w
 closes_given_on (Err e) May key a b c ends names others told links are h w = tt
 
@@ -133,24 +133,24 @@ cut_once : (o : Option ℕ) (number tag : ℕ) (a b : Register) → called_at nu
 cut_once None number tag a b is are gone were one = inl (ap (times_closed tag) are)
 cut_once (Some t) number tag a b is are gone were one = ordered_once tag t (AConnection number) a b are is gone were one
 
-pub closes_removed : (May : ℕ → Type 0) (number : ℕ) (a b : Register) → b.ends ≡ a.ends → b.posts ≡ a.posts → b.kept ≡ a.kept → b.links ≡ without_link number a.links → Sees a.links b.links
+pub closes_removed : (May : ℕ → Type 0) (number : ℕ) (a b : Register) → b.ends ≡ a.ends → b.queues ≡ a.queues → b.kept ≡ a.kept → b.links ≡ without_link number a.links → Sees a.links b.links
     → b.orders ≡ cutting (called_at number a.links) a.orders → ClosesOnly May a b
-closes_removed May number a b ends posts told links sees are =
+closes_removed May number a b ends queues told links sees are =
     let by : (other : ℕ) → (sending_at other b.links ≡ sending_at other a.links) ⊎ (sending_at other b.links ≡ None) =
     λ other. subst (λ (ls : List Link). (sending_at other ls ≡ sending_at other a.links) ⊎ (sending_at other ls ≡ None)) (sym links) (left_sends number other a.links (cases_eq other number)) in
     record {
       ordered = cut_stays (called_at number a.links) a.orders b.orders are;
       told = told;
-      closes = λ key tag e. inl (same_names a b ends posts key ∙ e);
+      closes = λ key tag e. inl (same_names a b ends queues key ∙ e);
       opens = λ other e. inl (shut_stays a.links b.links sees other e);
       cuts = λ other tag e. subst (λ (ls : List Link). (called_at other ls ≡ Some tag) ⊎ IsOrdered (orders.Close tag) b.orders) (sym links) (cuts_one number other tag a.links a.orders b.orders are e (cases_eq other number));
       due = λ tag o. cut_due May number tag a b links (cut_or (called_at number a.links) tag a.orders b.orders are o);
       once = λ tag one.
           cut_once (called_at number a.links) number tag a b refl are (ap (called_at number) links ∙ ap (λ (o : Option Link). name_in (option_map sending_of o)) (taken_link number a.links))
-          (were_named a b tag (λ key e. sym (same_names a b ends posts key) ∙ e) (λ other e. cut_called (sending_at other a.links) (sending_at other b.links) tag (by other) e)) one;
-      writes = λ key. inl (ap (λ (ps : Posts). post_at ps key) posts);
+          (were_named a b tag (λ key e. sym (same_names a b ends queues key) ∙ e) (λ other e. cut_called (sending_at other a.links) (sending_at other b.links) tag (by other) e)) one;
+      writes = λ key. inl (ap (λ (ps : Queues). queue_at ps key) queues);
       writes_on = λ other. cut_sends (sending_at other a.links) (sending_at other b.links) b.orders (by other);
-      were_open = λ key tag e. sym (same_names a b ends posts key) ∙ e;
+      were_open = λ key tag e. sym (same_names a b ends queues key) ∙ e;
       were_called = λ other tag e. cut_called (sending_at other a.links) (sending_at other b.links) tag (by other) e;
     }
 
@@ -162,11 +162,11 @@ over_in by over zero (None ∷ es) n there = absurd (there refl)
 over_in by over zero (Some e ∷ es) n there = over e n
 over_in by over (suc key) (e ∷ es) n there = over_in by over key es n there
 
-ended_name : (key other : ℕ) (by : End → End) (old b : Register) → b.ends ≡ change_end key by old.ends → b.posts ≡ old.posts → other ≢ key → open_name other b ≡ open_name other old
-ended_name key other by old b ends posts differs =
-    ap (λ (es : Ends). name_with (end_at es other) (slice_index_or (names_of b.posts) other None)) ends
-    ∙ ap (λ (o : Option End). name_with o (slice_index_or (names_of b.posts) other None)) (get_or-set_other old.ends key other (option_map by (end_at old.ends key)) None differs)
-    ∙ ap (λ (ps : Posts). name_with (end_at old.ends other) (slice_index_or (names_of ps) other None)) posts
+ended_name : (key other : ℕ) (by : End → End) (old b : Register) → b.ends ≡ change_end key by old.ends → b.queues ≡ old.queues → other ≢ key → open_name other b ≡ open_name other old
+ended_name key other by old b ends queues differs =
+    ap (λ (es : Ends). name_with (end_at es other) (slice_index_or (names_of b.queues) other None)) ends
+    ∙ ap (λ (o : Option End). name_with o (slice_index_or (names_of b.queues) other None)) (get_or-set_other old.ends key other (option_map by (end_at old.ends key)) None differs)
+    ∙ ap (λ (ps : Queues). name_with (end_at old.ends other) (slice_index_or (names_of ps) other None)) queues
 
 ended_closes : (key other tag named : ℕ) (old b : Register) (all : List Order) → b.orders ≡ all ++ orders.Close named ∷ [] → open_name key old ≡ Some named → ((k : ℕ) → k ≢ key → open_name k b ≡ open_name k old)
     → (other ≡ key) ⊎ (other ≢ key) → open_name other old ≡ Some tag → (open_name other b ≡ Some tag) ⊎ (Itself key other × IsOrdered (orders.Close tag) b.orders)
@@ -188,11 +188,11 @@ ended_open key other tag old b gone others (inl same) e = absurd (let u : None �
 ended_open key other tag old b gone others (inr differs) e = sym (others other differs) ∙ e
 
 -- it is ordered closed, where it wasn't to be closed before
-pub closes_ended : (key named : ℕ) (by : End → End) (old b : Register) → ((e : End) (n : Option (Option ℕ)) → name_with (Some (by e)) n ≡ None) → b.ends ≡ change_end key by old.ends → b.posts ≡ old.posts
+pub closes_ended : (key named : ℕ) (by : End → End) (old b : Register) → ((e : End) (n : Option (Option ℕ)) → name_with (Some (by e)) n ≡ None) → b.ends ≡ change_end key by old.ends → b.queues ≡ old.queues
     → open_name key old ≡ Some named → (end_at old.ends key ≡ None → ⊥) → b.orders ≡ old.orders ++ orders.Close named ∷ [] → b.kept ≡ old.kept → b.links ≡ old.links → ClosesOnly (Itself key) old b
-closes_ended key named by old b over ends posts its there are told links =
-    let gone : open_name key b ≡ None = ap (λ (es : Ends). name_with (end_at es key) (slice_index_or (names_of b.posts) key None)) ends ∙ over_in by over key old.ends (slice_index_or (names_of b.posts) key None) there in
-    let others : (k : ℕ) → k ≢ key → open_name k b ≡ open_name k old = λ k differs. ended_name key k by old b ends posts differs in
+closes_ended key named by old b over ends queues its there are told links =
+    let gone : open_name key b ≡ None = ap (λ (es : Ends). name_with (end_at es key) (slice_index_or (names_of b.queues) key None)) ends ∙ over_in by over key old.ends (slice_index_or (names_of b.queues) key None) there in
+    let others : (k : ℕ) → k ≢ key → open_name k b ≡ open_name k old = λ k differs. ended_name key k by old b ends queues differs in
     record {
       ordered = (orders.Close named ∷ [], are);
       told = told;
@@ -203,17 +203,17 @@ closes_ended key named by old b over ends posts its there are told links =
       once = λ tag one.
           ordered_once tag named (AnApplication key) old b are its gone
           (were_named old b tag (λ k e. ended_open key k tag old b gone others (cases_eq k key) e) (λ number e. ap (called_at number) (sym links) ∙ e)) one;
-      writes = λ k. inl (ap (λ (ps : Posts). post_at ps k) posts);
+      writes = λ k. inl (ap (λ (ps : Queues). queue_at ps k) queues);
       writes_on = λ number. inl (ap (sending_at number) links);
       were_open = λ k tag e. ended_open key k tag old b gone others (cases_eq k key) e;
       were_called = λ number tag e. ap (called_at number) (sym links) ∙ e;
     }
 
 abbrev name_of : Option Application → Option (Option ℕ)
-name_of o = option_map (λ (p : Post). p.tag) (option_map post_of o)
+name_of o = option_map (λ (p : Queue). p.tag) (option_map queue_of o)
 
 name_is : (s : Slab Application) (key : ℕ) → slice_index_or (names_in s) key None ≡ name_of (get s key)
-name_is s key = get_or-map (option_map (λ (p : Post). p.tag)) (posts_in s) key None ∙ ap (option_map (λ (p : Post). p.tag)) (get_or-map (option_map post_of) s.slots key None)
+name_is s key = get_or-map (option_map (λ (p : Queue). p.tag)) (queues_in s) key None ∙ ap (option_map (λ (p : Queue). p.tag)) (get_or-map (option_map queue_of) s.slots key None)
 
 open_tag : (b : Bool) (a : Application) → b ≡ false → name_with (Some (if b then Over a.fault else Open a.front a.is_withdrawn a.reset)) (Some (Some a.tag)) ≡ Some a.tag
 open_tag true a e = absurd (let u : ⊥ = cc in u)

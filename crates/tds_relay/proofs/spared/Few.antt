@@ -4,10 +4,10 @@ use Rattle.std.specs.Prelude.{Result, Ok, Err, OnOk}
 use Rattle.tds_wire.specs.declared.told.Token.{Token}
 use Rattle.tds_service.specs.Service as calls
 use Rattle.tds_service.specs.Service.{Seat, find_by, is_lendable, step}
-use Rattle.tds_relay.specs.declared.desk.Served.{Served}
+use Rattle.tds_relay.specs.declared.pool.Served.{Served}
 use Rattle.tds_relay.specs.declared.link.Link.{Link}
 use Rattle.tds_relay.specs.Closings.{KeptBeside}
-use Rattle.tds_relay.specs.Desk.{Desk}
+use Rattle.tds_relay.specs.Pool.{Pool}
 use Rattle.tds_relay.specs.Few.{Few, FewBy, MayServe, NobodyWaits, NoneNew}
 use Rattle.tds_relay.specs.Reads.{FillsAt, Stays, bytes_on, link_at, waits_on}
 use Rattle.tds_relay.specs.Sending.{sending_at, sending_of}
@@ -77,7 +77,7 @@ lends_free : (s : calls.Service) (o : Option Seat) → is_some o ≡ true → ha
 lends_free s None e = absurd (let u : ⊥ = cc in u)
 lends_free s (Some c) e = refl
 
-few_new : (most : ℕ) (had : Bool) (a b c : List Link) (d : Desk) (served : Served) → MayServe most b d → Serving d (Some served) → served.had ≡ had → FewBy had b c → Few most a b → Few most a c
+few_new : (most : ℕ) (had : Bool) (a b c : List Link) (d : Pool) (served : Served) → MayServe most b d → Serving d (Some served) → served.had ≡ had → FewBy had b c → Few most a b → Few most a c
 few_new most true a b c d served may lent is none few = few_then most a b c few none
 few_new most false a b c d served (inl empty) lent is one few = absurd (let u : [] ≡ served.hold.key ∷ lent.0 = sym empty ∙ lent.1 in let v : ⊥ = cc in v)
 few_new most false a b c d served (inr (inl less)) lent is one few = inr (c, subst (λ (n : ℕ). n ≤ most) (sym one) less, λ number e. e)
@@ -89,7 +89,7 @@ few_new most false a b c d served (inr (inr free)) lent is one few =
     v
     )
 
-pub few_lent : (m n : ℕ) (a b c : List Link) (d : Desk) (o : Option Served) (served : Served) → m ≡ n → MayServe m b d → Serving d o → o ≡ Some served → FewBy served.had b c → Few n a b → Few n a c
+pub few_lent : (m n : ℕ) (a b c : List Link) (d : Pool) (o : Option Served) (served : Served) → m ≡ n → MayServe m b d → Serving d o → o ≡ Some served → FewBy served.had b c → Few n a b → Few n a c
 few_lent m n a b c d o served e may lent is by few = few_new n served.had a b c d served (subst (λ (k : ℕ). MayServe k b d) e may) (subst (Serving d) is lent) refl by few
 
 -- a connection that somebody had before, or a new one behind all others
@@ -109,8 +109,8 @@ none_waits : (line : List ℕ) (s : calls.Service) → length line ≡ 0 → IsS
 none_waits [] s e = tt
 none_waits (key ∷ keys) s e = absurd (let u : ⊥ = cc in u)
 
-pub all_served : (r : code.Relay) (turn n : ℕ) → turn + length r.desk.line.items ≡ n → n ≤ turn → NobodyWaits r
-all_served r turn n shorter done = inl (none_waits r.desk.line.items (service_in r.desk.service) (omega (arith, shorter, done)))
+pub all_served : (r : code.Relay) (turn n : ℕ) → turn + length r.pool.line.items ≡ n → n ≤ turn → NobodyWaits r
+all_served r turn n shorter done = inl (none_waits r.pool.line.items (service_in r.pool.service) (omega (arith, shorter, done)))
 
 -- how many there may be, as it was
 pub most_kept : (k l : KeptBeside) → k ≡ l → k.settings.most ≡ l.settings.most

@@ -5,19 +5,19 @@ use Rattle.std.proofs.lemmas.Bool.{cases_eq, eq-eqb}
 use Rattle.tds_wire.specs.declared.told.Token.{Token}
 use Rattle.tds_service.specs.Service as calls
 use Rattle.tds_service.specs.Service.{AllInUse, Lent, Reply, step}
-use Rattle.tds_relay.specs.declared.desk.Desk as desks
-use Rattle.tds_relay.specs.declared.desk.Hold.{Hold}
-use Rattle.tds_relay.specs.declared.desk.Served.{Served}
+use Rattle.tds_relay.specs.declared.pool.Pool as pools
+use Rattle.tds_relay.specs.declared.pool.Hold.{Hold}
+use Rattle.tds_relay.specs.declared.pool.Served.{Served}
 use Rattle.tds_relay.specs.declared.link.Answer.{Answer}
 use Rattle.tds_relay.specs.declared.link.Link.{Link}
 use Rattle.tds_relay.specs.declared.relay.Relay as code
-use Rattle.tds_relay.specs.Desk.{Desk, Serves, find_number, key_of, lent_in, serves, serves_by, turn, without_number}
+use Rattle.tds_relay.specs.Pool.{Pool, Serves, find_number, key_of, lent_in, serves, serves_by, turn, without_number}
 use Rattle.tds_relay.specs.Lent.{FirstKeeps, KeepsAnswers, HoldsOrGone, IsLetGo, IsOnItsOwn, IsWithHolder, KeepsToItsOwn, KeepsWaits, LendsInLine, MayForget, MayBeLent, OthersKeep, OthersKeepAt, PutsOnly}
 use Rattle.tds_relay.specs.Lent as filling
-use Rattle.tds_relay.specs.Hall.{holder, is_in}
-use Rattle.tds_relay.specs.Reads.{Carried, StaysAt, answer_at, answer_on, carried_by, carried_there, link_at, post_on, reader_at, reader_of, waits_on}
-use Rattle.tds_relay.specs.Posts.{Post, post_in}
-use Rattle.tds_relay.specs.Ties.{IsReached, IsServed, Serving, Turns, desk_in}
+use Rattle.tds_relay.specs.Core.{holder, is_in}
+use Rattle.tds_relay.specs.Reads.{Carried, StaysAt, answer_at, answer_on, carried_by, carried_there, link_at, queue_on, reader_at, reader_of, waits_on}
+use Rattle.tds_relay.specs.Queues.{Queue, queue_in}
+use Rattle.tds_relay.specs.Ties.{IsReached, IsServed, Serving, Turns, pool_in}
 use Rattle.tds_relay.specs.Closings.{Nobody}
 use Rattle.tds_relay.specs.Promises.{Each}
 use Rattle.tds_relay.proofs.held.Fewer.{none_left, same_left}
@@ -27,37 +27,37 @@ use Rattle.tds_relay.proofs.steps.Placed.{differs_by}
 
 -- ---- What waits, of that
 
-bytes_of : (o : Option Link) → option_map (λ (c : Carried). c.0.bytes) (option_map carried_by o) ≡ option_map (λ (l : Link). (post_in l.out).bytes) o
+bytes_of : (o : Option Link) → option_map (λ (c : Carried). c.0.bytes) (option_map carried_by o) ≡ option_map (λ (l : Link). (queue_in l.out).bytes) o
 bytes_of None = refl
 bytes_of (Some l) = refl
 
-unposted : (o : Option Link) → option_map reader_of o ≡ None → option_map carried_by o ≡ None
-unposted None e = refl
-unposted (Some l) e = absurd (let u : ⊥ = cc in u)
+unqueued : (o : Option Link) → option_map reader_of o ≡ None → option_map carried_by o ≡ None
+unqueued None e = refl
+unqueued (Some l) e = absurd (let u : ⊥ = cc in u)
 
-pub waits_posted : (number : ℕ) (ls ms : List Link) → KeepsWaits number ls ms → (waits_on number ms ≡ None) ⊎ (waits_on number ms ≡ waits_on number ls)
-waits_posted number ls ms (inl none) = inl (sym (bytes_of (link_at number ms)) ∙ ap (option_map (λ (c : Carried). c.0.bytes)) none)
-waits_posted number ls ms (inr same) = inr (sym (bytes_of (link_at number ms)) ∙ ap (option_map (λ (c : Carried). c.0.bytes)) same ∙ bytes_of (link_at number ls))
+pub waits_queued : (number : ℕ) (ls ms : List Link) → KeepsWaits number ls ms → (waits_on number ms ≡ None) ⊎ (waits_on number ms ≡ waits_on number ls)
+waits_queued number ls ms (inl none) = inl (sym (bytes_of (link_at number ms)) ∙ ap (option_map (λ (c : Carried). c.0.bytes)) none)
+waits_queued number ls ms (inr same) = inr (sym (bytes_of (link_at number ms)) ∙ ap (option_map (λ (c : Carried). c.0.bytes)) same ∙ bytes_of (link_at number ls))
 
 -- It carries the same where the same waits, and the same is known.
-carried_of : (o p : Option Link) → option_map (λ (l : Link). post_in l.out) p ≡ option_map (λ (l : Link). post_in l.out) o → StaysAt (option_map answer_on o) (option_map answer_on p)
+carried_of : (o p : Option Link) → option_map (λ (l : Link). queue_in l.out) p ≡ option_map (λ (l : Link). queue_in l.out) o → StaysAt (option_map answer_on o) (option_map answer_on p)
     → option_map carried_by p ≡ option_map carried_by o
 carried_of None None w k = refl
 carried_of None (Some m) w k = absurd (let u : ⊥ = cc in u)
 carried_of (Some l) None w k = absurd (let u : ⊥ = cc in u)
 carried_of (Some l) (Some m) w k =
-    let post : post_in m.out ≡ post_in l.out = (let u : Some (post_in m.out) ≡ Some (post_in l.out) = w in cc) in
+    let queue : queue_in m.out ≡ queue_in l.out = (let u : Some (queue_in m.out) ≡ Some (queue_in l.out) = w in cc) in
     let known : m.answer ≡ l.answer = (let u : Some l.answer ≡ Some m.answer = k in cc) in
-    ap (λ (p : Post). let c : Carried = (p, m.answer) in Some c) post ∙ ap (λ (a : Answer). let c : Carried = (post_in l.out, a) in Some c) known
+    ap (λ (p : Queue). let c : Carried = (p, m.answer) in Some c) queue ∙ ap (λ (a : Answer). let c : Carried = (queue_in l.out, a) in Some c) known
 
-pub carried : (number : ℕ) (ls ms : List Link) → post_on number ms ≡ post_on number ls → StaysAt (answer_at number ls) (answer_at number ms) → carried_there number ms ≡ carried_there number ls
+pub carried : (number : ℕ) (ls ms : List Link) → queue_on number ms ≡ queue_on number ls → StaysAt (answer_at number ls) (answer_at number ms) → carried_there number ms ≡ carried_there number ls
 carried number ls ms w k = carried_of (link_at number ls) (link_at number ms) w k
 
 known_same : (o p : Option Answer) → p ≡ o → StaysAt o p
 known_same o None e = tt
 known_same o (Some a) e = sym e
 
-pub carried_same : (number : ℕ) (ls ms : List Link) → post_on number ms ≡ post_on number ls → answer_at number ms ≡ answer_at number ls → carried_there number ms ≡ carried_there number ls
+pub carried_same : (number : ℕ) (ls ms : List Link) → queue_on number ms ≡ queue_on number ls → answer_at number ms ≡ answer_at number ls → carried_there number ms ≡ carried_there number ls
 carried_same number ls ms w k = carried number ls ms w (known_same (answer_at number ls) (answer_at number ms) k)
 
 -- ---- What one application does
@@ -122,10 +122,10 @@ own_lost key number had old holds new e gone its w = record {
 }
 
 pub own_lost_on : {A E : Type 0} (r : Result A E) (key number : ℕ) (had : List Hold) (old : List Link) (holds : List Hold) (new : List Link) → OnOk r (holds ≡ without_number number had)
-    → OnOk r (reader_at number new ≡ None) → OnOk r ((other : ℕ) → other ≢ number → post_on other new ≡ post_on other old) → OnOk r (KeepsAnswers old new) → key_of (find_number number had) ≡ Some key
+    → OnOk r (reader_at number new ≡ None) → OnOk r ((other : ℕ) → other ≢ number → queue_on other new ≡ queue_on other old) → OnOk r (KeepsAnswers old new) → key_of (find_number number had) ≡ Some key
     → OnOk r (KeepsToItsOwn key had old holds new)
 own_lost_on (Ok x) key number had old holds new e gone w k its =
-    own_lost key number had old holds new e (unposted (link_at number new) gone) its (λ other differs. carried other old new (w other differs) (k.keeps other))
+    own_lost key number had old holds new e (unqueued (link_at number new) gone) its (λ other differs. carried other old new (w other differs) (k.keeps other))
 own_lost_on (Err x) key number had old holds new e gone w k its = tt
 
 pub own_on : {A E : Type 0} (r : Result A E) (key : ℕ) (a b c : List Hold) (x y z : List Link) → KeepsToItsOwn key a x b y → OnOk r (KeepsToItsOwn key b y c z) → OnOk r (KeepsToItsOwn key a x c z)
@@ -133,9 +133,9 @@ own_on (Ok v) key a b c x y z h k = own_both key a b c x y z h k
 own_on (Err v) key a b c x y z h k = tt
 
 -- its application is closed
-pub own_end : {A E : Type 0} (r : Result A E) (key : ℕ) (old new : code.Relay) → new.desk ≡ old.desk → OnOk r (new.links.items ≡ old.links.items) → OnOk r (IsOnItsOwn key old new)
+pub own_end : {A E : Type 0} (r : Result A E) (key : ℕ) (old new : code.Relay) → new.pool ≡ old.pool → OnOk r (new.links.items ≡ old.links.items) → OnOk r (IsOnItsOwn key old new)
 own_end (Ok v) key old new at links =
-    own_same key old.desk.holds.items old.links.items new.desk.holds.items new.links.items (ap (λ (d : desks.Desk). d.holds.items) at) (λ number. ap (carried_there number) links)
+    own_same key old.pool.holds.items old.links.items new.pool.holds.items new.links.items (ap (λ (d : pools.Pool). d.holds.items) at) (λ number. ap (carried_there number) links)
 own_end (Err v) key old new at links = tt
 
 -- one more connection is there
@@ -149,10 +149,10 @@ own_pushed key number had old new l its is e =
 
 -- ---- Whoever has waited longest is lent one
 
-pub lent_holds : (d e : Desk) (served : Served) (others : List ℕ) → e ≡ (turn d Serves).desk → d.line ≡ served.hold.key ∷ others
+pub lent_holds : (d e : Pool) (served : Served) (others : List ℕ) → e ≡ (turn d Serves).pool → d.line ≡ served.hold.key ∷ others
     → (step {T = Token} d.service calls.Lease).reply ≡ Lent served.hold.lease served.hold.number served.had → e.holds ≡ d.holds ++ served.hold ∷ []
 lent_holds d e served others is line reply =
-    ap (λ (x : Desk). x.holds) is ∙ ap (λ (ks : List ℕ). (serves d ks).desk.holds) line ∙ ap (λ (r : Reply). (serves_by d served.hold.key others (lent_in r)).desk.holds) reply
+    ap (λ (x : Pool). x.holds) is ∙ ap (λ (ks : List ℕ). (serves d ks).pool.holds) line ∙ ap (λ (r : Reply). (serves_by d served.hold.key others (lent_in r)).pool.holds) reply
 
 added_if : (b : Bool) (n : ℕ) (h x y : Hold) (ys : List Hold) → (if b then Some y else find_number n ys) ≡ Some h → (find_number n ys ≡ Some h → find_number n (ys ++ x ∷ []) ≡ Some h)
     → (if b then Some y else find_number n (ys ++ x ∷ [])) ≡ Some h
@@ -217,12 +217,12 @@ module _ (number : ℕ) (line : List ℕ) (h0 hm he hn : List Hold) (l0 lm ln : 
 pub lends_refl : (r : code.Relay) → LendsInLine r r
 lends_refl r = λ number. filling.Keeps refl (inr refl)
 
-unserved_by : (d : Desk) (line : List ℕ) → IsServed line d.service → (serves d line).desk.holds ≡ d.holds
+unserved_by : (d : Pool) (line : List ℕ) → IsServed line d.service → (serves d line).pool.holds ≡ d.holds
 unserved_by d [] s = refl
-unserved_by d (key ∷ others) s = ap (λ (r : Reply). (serves_by d key others (lent_in r)).desk.holds) s
+unserved_by d (key ∷ others) s = ap (λ (r : Reply). (serves_by d key others (lent_in r)).pool.holds) s
 
-unserved_holds : (d e : Desk) → e ≡ (turn d Serves).desk → IsServed d.line d.service → e.holds ≡ d.holds
-unserved_holds d e is s = ap (λ (x : Desk). x.holds) is ∙ unserved_by d d.line s
+unserved_holds : (d e : Pool) → e ≡ (turn d Serves).pool → IsServed d.line d.service → e.holds ≡ d.holds
+unserved_holds d e is s = ap (λ (x : Pool). x.holds) is ∙ unserved_by d d.line s
 
 pub each_last : (P : Hold → Type 0) (x : Hold) (hs : List Hold) → Each P (hs ++ x ∷ []) → P x
 each_last P x [] e = e.0
@@ -234,76 +234,76 @@ last_found x (y ∷ ys) apart =
     let other : (y.number == x.number) ≡ false = differs_by (y.number == x.number) y.number x.number refl (λ s. each_last (λ (z : Hold). z.number ≢ y.number) x ys apart.0 (sym s)) in
     rw other (last_found x ys apart.1)
 
-pub lends_more : (start mid new : code.Relay) (after : desks.Desk) (o : Option Served) (served : Served) → IsReached (desk_in after) → Turns Serves (desk_in mid.desk) (desk_in after) [] []
-    → Serving (desk_in mid.desk) o → o ≡ Some served → is_in served.hold.key start.desk.line.items ≡ true
-    → (holder (desk_in after) served.hold.number ≡ Some served.hold.key → KeepsToItsOwn served.hold.key after.holds.items mid.links.items new.desk.holds.items new.links.items)
+pub lends_more : (start mid new : code.Relay) (after : pools.Pool) (o : Option Served) (served : Served) → IsReached (pool_in after) → Turns Serves (pool_in mid.pool) (pool_in after) [] []
+    → Serving (pool_in mid.pool) o → o ≡ Some served → is_in served.hold.key start.pool.line.items ≡ true
+    → (holder (pool_in after) served.hold.number ≡ Some served.hold.key → KeepsToItsOwn served.hold.key after.holds.items mid.links.items new.pool.holds.items new.links.items)
     → LendsInLine start mid → LendsInLine start new
 lends_more start mid new after o served reached t serving is waited own lends = λ number.
-    let s : Serving (desk_in mid.desk) (Some served) = subst (Serving (desk_in mid.desk)) is serving in
-    let more : after.holds.items ≡ mid.desk.holds.items ++ served.hold ∷ [] = lent_holds (desk_in mid.desk) (desk_in after) served s.0 t.desk_is s.1 s.2 in
+    let s : Serving (pool_in mid.pool) (Some served) = subst (Serving (pool_in mid.pool)) is serving in
+    let more : after.holds.items ≡ mid.pool.holds.items ++ served.hold ∷ [] = lent_holds (pool_in mid.pool) (pool_in after) served s.0 t.pool_is s.1 s.2 in
     let found : find_number served.hold.number after.holds.items ≡ Some served.hold =
-    ap (find_number served.hold.number) more ∙ last_found served.hold mid.desk.holds.items (subst Apart more (apart_at (desk_in after) reached)) in
-    may_lend number start.desk.line.items start.desk.holds.items mid.desk.holds.items after.holds.items new.desk.holds.items start.links.items mid.links.items new.links.items served.hold more waited
+    ap (find_number served.hold.number) more ∙ last_found served.hold mid.pool.holds.items (subst Apart more (apart_at (pool_in after) reached)) in
+    may_lend number start.pool.line.items start.pool.holds.items mid.pool.holds.items after.holds.items new.pool.holds.items start.links.items mid.links.items new.links.items served.hold more waited
     (own (ap key_of found)) (lends number)
 
-pub lends_nothing : (start mid : code.Relay) (after : desks.Desk) (o : Option Served) → Turns Serves (desk_in mid.desk) (desk_in after) [] [] → Serving (desk_in mid.desk) o → o ≡ None → LendsInLine start mid
-    → (number : ℕ) → MayBeLent number start.desk.line.items start.desk.holds.items start.links.items after.holds.items mid.links.items
+pub lends_nothing : (start mid : code.Relay) (after : pools.Pool) (o : Option Served) → Turns Serves (pool_in mid.pool) (pool_in after) [] [] → Serving (pool_in mid.pool) o → o ≡ None → LendsInLine start mid
+    → (number : ℕ) → MayBeLent number start.pool.line.items start.pool.holds.items start.links.items after.holds.items mid.links.items
 lends_nothing start mid after o t serving is lends = λ number.
-    let same : after.holds.items ≡ mid.desk.holds.items = unserved_holds (desk_in mid.desk) (desk_in after) t.desk_is (subst (Serving (desk_in mid.desk)) is serving) in
-    subst (λ (hs : List Hold). MayBeLent number start.desk.line.items start.desk.holds.items start.links.items hs mid.links.items) (sym same) (lends number)
+    let same : after.holds.items ≡ mid.pool.holds.items = unserved_holds (pool_in mid.pool) (pool_in after) t.pool_is (subst (Serving (pool_in mid.pool)) is serving) in
+    subst (λ (hs : List Hold). MayBeLent number start.pool.line.items start.pool.holds.items start.links.items hs mid.links.items) (sym same) (lends number)
 
 -- ---- Behind what a call does first
 
 abbrev pub WaitedBefore : code.Relay → code.Relay → Type 0
-WaitedBefore old mid = (key : ℕ) → is_in key mid.desk.line.items ≡ true → is_in key old.desk.line.items ≡ true
+WaitedBefore old mid = (key : ℕ) → is_in key mid.pool.line.items ≡ true → is_in key old.pool.line.items ≡ true
 
 pub key_some : (o : Option Hold) → IsSome o → IsSome (key_of o)
 key_some None s = s
 key_some (Some h) s = refl
 
-module _ (number : ℕ) (old mid new : code.Relay) (before : (key : ℕ) → key_of (find_number number old.desk.holds.items) ≡ Some key → is_in key mid.desk.line.items ≡ true → is_in key old.desk.line.items ≡ true) (f : find_number number mid.desk.holds.items ≡ find_number number old.desk.holds.items) (w : carried_there number mid.links.items ≡ carried_there number old.links.items) where
+module _ (number : ℕ) (old mid new : code.Relay) (before : (key : ℕ) → key_of (find_number number old.pool.holds.items) ≡ Some key → is_in key mid.pool.line.items ≡ true → is_in key old.pool.line.items ≡ true) (f : find_number number mid.pool.holds.items ≡ find_number number old.pool.holds.items) (w : carried_there number mid.links.items ≡ carried_there number old.links.items) where
   kept_on : KeepsWaits number mid.links.items new.links.items → KeepsWaits number old.links.items new.links.items
   kept_on (inl none) = inl none
   kept_on (inr same) = inr (same ∙ w)
 
-  pub held_line : (key : ℕ) → is_in key old.desk.line.items ≡ false → key_of (find_number number old.desk.holds.items) ≡ Some key
-      → MayBeLent number mid.desk.line.items mid.desk.holds.items mid.links.items new.desk.holds.items new.links.items → KeepsWaits number old.links.items new.links.items
+  pub held_line : (key : ℕ) → is_in key old.pool.line.items ≡ false → key_of (find_number number old.pool.holds.items) ≡ Some key
+      → MayBeLent number mid.pool.line.items mid.pool.holds.items mid.links.items new.pool.holds.items new.links.items → KeepsWaits number old.links.items new.links.items
   held_line key waits its (filling.OfWaiting h is i) =
       let one : h.key ≡ key = (let u : Some h.key ≡ Some key = ap key_of (sym is ∙ f) ∙ its in cc) in
-      let there : is_in key old.desk.line.items ≡ true = before key its (subst (λ (k : ℕ). is_in k mid.desk.line.items ≡ true) one i) in
+      let there : is_in key old.pool.line.items ≡ true = before key its (subst (λ (k : ℕ). is_in k mid.pool.line.items ≡ true) one i) in
       absurd (let u : true ≡ false = sym there ∙ waits in let v : ⊥ = cc in v)
   held_line key waits its (filling.Keeps e kept) = kept_on kept
   held_line key waits its (filling.Lends none some) = absurd (let u : None ≡ Some key = ap key_of (sym none ∙ f) ∙ its in let v : ⊥ = cc in v)
 
-  pub free_line : key_of (find_number number old.desk.holds.items) ≡ None
-      → MayBeLent number mid.desk.line.items mid.desk.holds.items mid.links.items new.desk.holds.items new.links.items
-      → KeepsWaits number old.links.items new.links.items ⊎ IsSome (key_of (find_number number new.desk.holds.items))
+  pub free_line : key_of (find_number number old.pool.holds.items) ≡ None
+      → MayBeLent number mid.pool.line.items mid.pool.holds.items mid.links.items new.pool.holds.items new.links.items
+      → KeepsWaits number old.links.items new.links.items ⊎ IsSome (key_of (find_number number new.pool.holds.items))
   free_line none (filling.OfWaiting h is i) = absurd (let u : Some h.key ≡ None = ap key_of (sym is ∙ f) ∙ none in let v : ⊥ = cc in v)
   free_line none (filling.Keeps e kept) = inl (kept_on kept)
-  free_line none (filling.Lends empty some) = inr (key_some (find_number number new.desk.holds.items) some)
+  free_line none (filling.Lends empty some) = inr (key_some (find_number number new.pool.holds.items) some)
 
 held_first : (But : ℕ → Type 0) (number key : ℕ) (old mid new : code.Relay) → WaitedBefore old mid
-    → But number ⊎ ((find_number number mid.desk.holds.items ≡ find_number number old.desk.holds.items) × (carried_there number mid.links.items ≡ carried_there number old.links.items))
-    → is_in key old.desk.line.items ≡ false → key_of (find_number number old.desk.holds.items) ≡ Some key
-    → MayBeLent number mid.desk.line.items mid.desk.holds.items mid.links.items new.desk.holds.items new.links.items → But number ⊎ KeepsWaits number old.links.items new.links.items
+    → But number ⊎ ((find_number number mid.pool.holds.items ≡ find_number number old.pool.holds.items) × (carried_there number mid.links.items ≡ carried_there number old.links.items))
+    → is_in key old.pool.line.items ≡ false → key_of (find_number number old.pool.holds.items) ≡ Some key
+    → MayBeLent number mid.pool.line.items mid.pool.holds.items mid.links.items new.pool.holds.items new.links.items → But number ⊎ KeepsWaits number old.links.items new.links.items
 held_first But number key old mid new before (inl b) waits its l = inl b
 held_first But number key old mid new before (inr k) waits its l = inr (held_line number old mid new (λ j is. before j) k.0 k.1 key waits its l)
 
 free_first : (But : ℕ → Type 0) (number : ℕ) (old mid new : code.Relay) → WaitedBefore old mid
-    → But number ⊎ ((find_number number mid.desk.holds.items ≡ find_number number old.desk.holds.items) × (carried_there number mid.links.items ≡ carried_there number old.links.items))
-    → key_of (find_number number old.desk.holds.items) ≡ None
-    → MayBeLent number mid.desk.line.items mid.desk.holds.items mid.links.items new.desk.holds.items new.links.items
-    → But number ⊎ (KeepsWaits number old.links.items new.links.items ⊎ IsSome (key_of (find_number number new.desk.holds.items)))
+    → But number ⊎ ((find_number number mid.pool.holds.items ≡ find_number number old.pool.holds.items) × (carried_there number mid.links.items ≡ carried_there number old.links.items))
+    → key_of (find_number number old.pool.holds.items) ≡ None
+    → MayBeLent number mid.pool.line.items mid.pool.holds.items mid.links.items new.pool.holds.items new.links.items
+    → But number ⊎ (KeepsWaits number old.links.items new.links.items ⊎ IsSome (key_of (find_number number new.pool.holds.items)))
 free_first But number old mid new before (inl b) none l = inl b
 free_first But number old mid new before (inr k) none l = inr (free_line number old mid new (λ j is. before j) k.0 k.1 none l)
 
-pub puts_line : (But : ℕ → Type 0) (old mid new : code.Relay) → IsReached (desk_in old.desk) → WaitedBefore old mid → FirstKeeps But old mid → LendsInLine mid new → PutsOnly But old new
+pub puts_line : (But : ℕ → Type 0) (old mid new : code.Relay) → IsReached (pool_in old.pool) → WaitedBefore old mid → FirstKeeps But old mid → LendsInLine mid new → PutsOnly But old new
 puts_line But old mid new reached before first lends = record {
-  held = λ key at waits e. held_first But at.0 key old mid new before (first at.0) waits (holder_is old.desk key at reached e) (lends at.0);
+  held = λ key at waits e. held_first But at.0 key old mid new before (first at.0) waits (holder_is old.pool key at reached e) (lends at.0);
   free = λ number none. free_first But number old mid new before (first number) none (lends number);
 }
 
-pub puts_on : {A E : Type 0} (r : Result A E) (But : ℕ → Type 0) (old mid new : code.Relay) → IsReached (desk_in old.desk) → WaitedBefore old mid → FirstKeeps But old mid → OnOk r (LendsInLine mid new) → OnOk r (PutsOnly But old new)
+pub puts_on : {A E : Type 0} (r : Result A E) (But : ℕ → Type 0) (old mid new : code.Relay) → IsReached (pool_in old.pool) → WaitedBefore old mid → FirstKeeps But old mid → OnOk r (LendsInLine mid new) → OnOk r (PutsOnly But old new)
 puts_on (Ok x) But old mid new reached before first lends = puts_line But old mid new reached before first lends
 puts_on (Err x) But old mid new reached before first lends = tt
 
@@ -318,58 +318,58 @@ first_by key None But k = inr (k (λ e. let u : None ≡ Some key = e in let v :
 first_by key (Some j) But k = first_is key j But (cases_eq j key) k
 
 -- one application does something on its own
-pub first_own : (key : ℕ) (old mid : code.Relay) → OthersKeepAt key old mid → FirstKeeps (λ (n : ℕ). holder (desk_in old.desk) n ≡ Some key) old mid
+pub first_own : (key : ℕ) (old mid : code.Relay) → OthersKeepAt key old mid → FirstKeeps (λ (n : ℕ). holder (pool_in old.pool) n ≡ Some key) old mid
 first_own key old mid k = λ number.
-    first_by key (key_of (find_number number old.desk.holds.items))
-    ((find_number number mid.desk.holds.items ≡ find_number number old.desk.holds.items) × (carried_there number mid.links.items ≡ carried_there number old.links.items)) (k number)
+    first_by key (key_of (find_number number old.pool.holds.items))
+    ((find_number number mid.pool.holds.items ≡ find_number number old.pool.holds.items) × (carried_there number mid.links.items ≡ carried_there number old.links.items)) (k number)
 
 -- a connection is lost
-first_off : (number n : ℕ) (old mid : code.Relay) → mid.desk.holds.items ≡ without_number number old.desk.holds.items
+first_off : (number n : ℕ) (old mid : code.Relay) → mid.pool.holds.items ≡ without_number number old.pool.holds.items
     → ((other : ℕ) → other ≢ number → carried_there other mid.links.items ≡ carried_there other old.links.items) → (n ≡ number) ⊎ (n ≢ number)
-    → (n ≡ number) ⊎ ((find_number n mid.desk.holds.items ≡ find_number n old.desk.holds.items) × (carried_there n mid.links.items ≡ carried_there n old.links.items))
+    → (n ≡ number) ⊎ ((find_number n mid.pool.holds.items ≡ find_number n old.pool.holds.items) × (carried_there n mid.links.items ≡ carried_there n old.links.items))
 first_off number n old mid e w (inl same) = inl same
-first_off number n old mid e w (inr differs) = inr (ap (find_number n) e ∙ same_left number n old.desk.holds.items (λ s. differs (sym s)), w n differs)
+first_off number n old mid e w (inr differs) = inr (ap (find_number n) e ∙ same_left number n old.pool.holds.items (λ s. differs (sym s)), w n differs)
 
-pub first_lost : (number : ℕ) (old mid : code.Relay) → mid.desk.holds.items ≡ without_number number old.desk.holds.items
+pub first_lost : (number : ℕ) (old mid : code.Relay) → mid.pool.holds.items ≡ without_number number old.pool.holds.items
     → ((other : ℕ) → other ≢ number → carried_there other mid.links.items ≡ carried_there other old.links.items) → FirstKeeps (λ (n : ℕ). n ≡ number) old mid
 first_lost number old mid e w = λ n. first_off number n old mid e w (cases_eq n number)
 
 -- nothing
-pub first_none : (old mid : code.Relay) → mid.desk.holds.items ≡ old.desk.holds.items → ((n : ℕ) → carried_there n mid.links.items ≡ carried_there n old.links.items) → FirstKeeps Nobody old mid
+pub first_none : (old mid : code.Relay) → mid.pool.holds.items ≡ old.pool.holds.items → ((n : ℕ) → carried_there n mid.links.items ≡ carried_there n old.links.items) → FirstKeeps Nobody old mid
 first_none old mid e w = λ n. inr (ap (find_number n) e, w n)
 
 -- ---- Between relays
 
-pub own_first : (key : ℕ) (old mid : code.Relay) → mid.desk.holds.items ≡ old.desk.holds.items → ((number : ℕ) → carried_there number mid.links.items ≡ carried_there number old.links.items) → IsOnItsOwn key old mid
-own_first key old mid e w = own_same key old.desk.holds.items old.links.items mid.desk.holds.items mid.links.items e w
+pub own_first : (key : ℕ) (old mid : code.Relay) → mid.pool.holds.items ≡ old.pool.holds.items → ((number : ℕ) → carried_there number mid.links.items ≡ carried_there number old.links.items) → IsOnItsOwn key old mid
+own_first key old mid e w = own_same key old.pool.holds.items old.links.items mid.pool.holds.items mid.links.items e w
 
 pub own_behind : {A E : Type 0} (r : Result A E) (key : ℕ) (a b c : code.Relay) → IsOnItsOwn key a b → OnOk r (IsOnItsOwn key b c) → OnOk r (IsOnItsOwn key a c)
-own_behind r key a b c h k = own_on r key a.desk.holds.items b.desk.holds.items c.desk.holds.items a.links.items b.links.items c.links.items h k
+own_behind r key a b c h k = own_on r key a.pool.holds.items b.pool.holds.items c.pool.holds.items a.links.items b.links.items c.links.items h k
 
-holder_or : (key number : ℕ) (old mid : code.Relay) (n : ℕ) → holder (desk_in old.desk) number ≡ Some key
-    → (holder (desk_in old.desk) n ≡ Some key) ⊎ ((find_number n mid.desk.holds.items ≡ find_number n old.desk.holds.items) × (carried_there n mid.links.items ≡ carried_there n old.links.items))
-    → IsWithHolder number old n ⊎ ((find_number n mid.desk.holds.items ≡ find_number n old.desk.holds.items) × (carried_there n mid.links.items ≡ carried_there n old.links.items))
+holder_or : (key number : ℕ) (old mid : code.Relay) (n : ℕ) → holder (pool_in old.pool) number ≡ Some key
+    → (holder (pool_in old.pool) n ≡ Some key) ⊎ ((find_number n mid.pool.holds.items ≡ find_number n old.pool.holds.items) × (carried_there n mid.links.items ≡ carried_there n old.links.items))
+    → IsWithHolder number old n ⊎ ((find_number n mid.pool.holds.items ≡ find_number n old.pool.holds.items) × (carried_there n mid.links.items ≡ carried_there n old.links.items))
 holder_or key number old mid n is (inl its) = inl (subst (λ (o : Option ℕ). IsSome o) (sym is) refl, its ∙ sym is)
 holder_or key number old mid n is (inr k) = inr k
 
-with_holder : (key number : ℕ) (old mid : code.Relay) → holder (desk_in old.desk) number ≡ Some key → IsOnItsOwn key old mid → FirstKeeps (IsWithHolder number old) old mid
+with_holder : (key number : ℕ) (old mid : code.Relay) → holder (pool_in old.pool) number ≡ Some key → IsOnItsOwn key old mid → FirstKeeps (IsWithHolder number old) old mid
 with_holder key number old mid is own = λ n. holder_or key number old mid n is (first_own key old mid own.others n)
 
-pub first_holder : {A E : Type 0} (r : Result A E) (key number : ℕ) (old mid : code.Relay) → holder (desk_in old.desk) number ≡ Some key → OnOk r (IsOnItsOwn key old mid) → OnOk r (FirstKeeps (IsWithHolder number old) old mid)
+pub first_holder : {A E : Type 0} (r : Result A E) (key number : ℕ) (old mid : code.Relay) → holder (pool_in old.pool) number ≡ Some key → OnOk r (IsOnItsOwn key old mid) → OnOk r (FirstKeeps (IsWithHolder number old) old mid)
 first_holder (Ok x) key number old mid is own = with_holder key number old mid is own
 first_holder (Err x) key number old mid is own = tt
 
 pub first_refl : (But : ℕ → Type 0) (r : code.Relay) → FirstKeeps But r r
 first_refl But r = λ n. inr (refl, refl)
 
-then_by : (number n : ℕ) (a b c : code.Relay) → b.desk ≡ a.desk → ((m : ℕ) → carried_there m b.links.items ≡ carried_there m a.links.items)
-    → IsWithHolder number b n ⊎ ((find_number n c.desk.holds.items ≡ find_number n b.desk.holds.items) × (carried_there n c.links.items ≡ carried_there n b.links.items))
-    → IsWithHolder number a n ⊎ ((find_number n c.desk.holds.items ≡ find_number n a.desk.holds.items) × (carried_there n c.links.items ≡ carried_there n a.links.items))
+then_by : (number n : ℕ) (a b c : code.Relay) → b.pool ≡ a.pool → ((m : ℕ) → carried_there m b.links.items ≡ carried_there m a.links.items)
+    → IsWithHolder number b n ⊎ ((find_number n c.pool.holds.items ≡ find_number n b.pool.holds.items) × (carried_there n c.links.items ≡ carried_there n b.links.items))
+    → IsWithHolder number a n ⊎ ((find_number n c.pool.holds.items ≡ find_number n a.pool.holds.items) × (carried_there n c.links.items ≡ carried_there n a.links.items))
 then_by number n a b c at w (inl with) =
-    inl (subst (λ (d : desks.Desk). IsSome (holder (desk_in d) number) × (holder (desk_in d) n ≡ holder (desk_in d) number)) at with)
-then_by number n a b c at w (inr k) = inr (k.0 ∙ ap (λ (d : desks.Desk). find_number n d.holds.items) at, k.1 ∙ w n)
+    inl (subst (λ (d : pools.Pool). IsSome (holder (pool_in d) number) × (holder (pool_in d) n ≡ holder (pool_in d) number)) at with)
+then_by number n a b c at w (inr k) = inr (k.0 ∙ ap (λ (d : pools.Pool). find_number n d.holds.items) at, k.1 ∙ w n)
 
-pub first_then : (number : ℕ) (a b c : code.Relay) → b.desk ≡ a.desk → ((m : ℕ) → carried_there m b.links.items ≡ carried_there m a.links.items) → FirstKeeps (IsWithHolder number b) b c → FirstKeeps (IsWithHolder number a) a c
+pub first_then : (number : ℕ) (a b c : code.Relay) → b.pool ≡ a.pool → ((m : ℕ) → carried_there m b.links.items ≡ carried_there m a.links.items) → FirstKeeps (IsWithHolder number b) b c → FirstKeeps (IsWithHolder number a) a c
 first_then number a b c at w first = λ n. then_by number n a b c at w (first n)
 
 pub puts_nothing : (But : ℕ → Type 0) (r : code.Relay) → PutsOnly But r r

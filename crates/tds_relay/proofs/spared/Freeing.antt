@@ -5,27 +5,27 @@ use Rattle.std.proofs.lemmas.Bool.{eqb-true, eq-eqb}
 use Rattle.tds_client.specs.Session.{ClientSession}
 use Rattle.tds_packet.specs.Reading.{Reading}
 use Rattle.tds_service.specs.Table.{client_of}
-use Rattle.tds_relay.specs.declared.desk.Desk as desks
-use Rattle.tds_relay.specs.declared.desk.Hold.{Hold}
-use Rattle.tds_relay.specs.declared.desk.leaving.Left.{Left}
+use Rattle.tds_relay.specs.declared.pool.Pool as pools
+use Rattle.tds_relay.specs.declared.pool.Hold.{Hold}
+use Rattle.tds_relay.specs.declared.pool.leaving.Left.{Left}
 use Rattle.tds_relay.specs.declared.relay.Relay as code
 use Rattle.tds_relay.specs.Cleaning.{OfItsHold, WaitsAtEnd, WaitsBehindEnd, WaitsSinceEnd}
 use Rattle.tds_relay.specs.Cleaning as cleaning
-use Rattle.tds_relay.specs.Desk as desk
-use Rattle.tds_relay.specs.Desk.{Desk, find_key, find_lease, find_number, key_of, without_lease, without_number}
+use Rattle.tds_relay.specs.Pool as pool
+use Rattle.tds_relay.specs.Pool.{Pool, find_key, find_lease, find_number, key_of, without_lease, without_number}
 use Rattle.tds_relay.specs.Lent.{IsLetGo, KeepsAnswers, LendsInLine, MayForget, MayBeLent, OthersKeepAt}
 use Rattle.tds_relay.specs.Lent as filling
-use Rattle.tds_relay.specs.Hall.{holder}
+use Rattle.tds_relay.specs.Core.{holder}
 use Rattle.tds_relay.specs.Promises.{Each}
-use Rattle.tds_relay.specs.Reads.{FillsAt, Opens as OpensLinks, carried_there, post_on, if_open, open_at, open_waits, waits_on}
-use Rattle.tds_relay.specs.Ties.{IsNumberOf, IsReached, Turns, desk_in}
+use Rattle.tds_relay.specs.Reads.{FillsAt, Opens as OpensLinks, carried_there, queue_on, if_open, open_at, open_waits, waits_on}
+use Rattle.tds_relay.specs.Ties.{IsNumberOf, IsReached, Turns, pool_in}
 use Rattle.tds_relay.proofs.held.Fewer.{each_number, same_left}
 use Rattle.tds_relay.proofs.held.Lists.{found_key}
 use Rattle.tds_relay.proofs.held.Numbers.{Apart, apart_at, found_number, its_holder}
 use Rattle.tds_relay.proofs.held.Seated.{each_found_by}
 use Rattle.tds_relay.proofs.promises.Caring.{Sound}
 use Rattle.tds_relay.proofs.promises.Holding.{found_by_lease}
-use Rattle.tds_relay.proofs.spared.Filling.{carried, key_some, waits_posted}
+use Rattle.tds_relay.proofs.spared.Filling.{carried, key_some, waits_queued}
 use Rattle.tds_relay.proofs.spared.Held.{not_equal, sound_at}
 use Rattle.tds_relay.proofs.steps.Placed.{differs_by}
 
@@ -54,7 +54,7 @@ still_none : (p : Hold → Bool) (n : ℕ) (hs : List Hold) → find_number n hs
 still_none p n [] e = refl
 still_none p n (x ∷ xs) e = still_none_if p n x xs (x.number == n) (p x) refl e (λ f. still_none p n xs f)
 
-module _ (d : Desk) (key : ℕ) (h : Hold) (reached : IsReached d) (its : find_key key d.holds ≡ Some h) where
+module _ (d : Pool) (key : ℕ) (h : Hold) (reached : IsReached d) (its : find_key key d.holds ≡ Some h) where
   other_lease : (n : ℕ) (g : Hold) → find_number n d.holds ≡ Some g → g.key ≢ key → g.lease ≢ h.lease
   other_lease n g found differs = λ e.
       let sound : Sound d = sound_at d reached in
@@ -74,11 +74,11 @@ module _ (d : Desk) (key : ℕ) (h : Hold) (reached : IsReached d) (its : find_k
   left_holds n differs = without_by n (find_number n d.holds) refl differs
 
 -- where it held none
-left_none : (key : ℕ) (gives : Bool) (way : desk.Way) (d e : Desk) (before after : List ℕ) → Turns (desk.Leaves key gives way) d e before after → find_key key d.holds ≡ None → e.holds ≡ d.holds
-left_none key gives way d e before after t none = ap (λ (x : Desk). x.holds) t.desk_is ∙ ap (λ (o : Option Hold). (desk.leaves d key gives way o).desk.holds) none
+left_none : (key : ℕ) (gives : Bool) (way : pool.Way) (d e : Pool) (before after : List ℕ) → Turns (pool.Leaves key gives way) d e before after → find_key key d.holds ≡ None → e.holds ≡ d.holds
+left_none key gives way d e before after t none = ap (λ (x : Pool). x.holds) t.pool_is ∙ ap (λ (o : Option Hold). (pool.leaves d key gives way o).pool.holds) none
 
-left_some : (key : ℕ) (gives : Bool) (way : desk.Way) (d e : Desk) (before after : List ℕ) (h : Hold) → Turns (desk.Leaves key gives way) d e before after → find_key key d.holds ≡ Some h → e.holds ≡ without_lease h.lease d.holds
-left_some key gives way d e before after h t its = ap (λ (x : Desk). x.holds) t.desk_is ∙ ap (λ (o : Option Hold). (desk.leaves d key gives way o).desk.holds) its
+left_some : (key : ℕ) (gives : Bool) (way : pool.Way) (d e : Pool) (before after : List ℕ) (h : Hold) → Turns (pool.Leaves key gives way) d e before after → find_key key d.holds ≡ Some h → e.holds ≡ without_lease h.lease d.holds
+left_some key gives way d e before after h t its = ap (λ (x : Pool). x.holds) t.pool_is ∙ ap (λ (o : Option Hold). (pool.leaves d key gives way o).pool.holds) its
 
 -- and nobody holds that
 none_each : (n : ℕ) (hs : List Hold) → Each (λ (y : Hold). y.number ≢ n) hs → find_number n hs ≡ None
@@ -110,10 +110,10 @@ forget_none number n had holds (inr e) none = ap (find_number n) e ∙ still_non
 
 -- ---- At a relay
 
-pub nobody_keeps : (key : ℕ) (gives : Bool) (way : desk.Way) (old mid : code.Relay) (d : desks.Desk) (before after : List ℕ) (o : Option Hold) → o ≡ find_key key old.desk.holds.items → IsNumberOf o None
-    → Turns (desk.Leaves key gives way) (desk_in old.desk) (desk_in d) before after → mid.desk ≡ d → mid.links.items ≡ old.links.items → OthersKeepAt key old mid
+pub nobody_keeps : (key : ℕ) (gives : Bool) (way : pool.Way) (old mid : code.Relay) (d : pools.Pool) (before after : List ℕ) (o : Option Hold) → o ≡ find_key key old.pool.holds.items → IsNumberOf o None
+    → Turns (pool.Leaves key gives way) (pool_in old.pool) (pool_in d) before after → mid.pool ≡ d → mid.links.items ≡ old.links.items → OthersKeepAt key old mid
 nobody_keeps key gives way old mid d before after None same is t at links = λ n differs. (
-  ap (λ (x : desks.Desk). find_number n x.holds.items) at ∙ ap (find_number n) (left_none key gives way (desk_in old.desk) (desk_in d) before after t (sym same)),
+  ap (λ (x : pools.Pool). find_number n x.holds.items) at ∙ ap (find_number n) (left_none key gives way (pool_in old.pool) (pool_in d) before after t (sym same)),
   ap (carried_there n) links,
 )
 nobody_keeps key gives way old mid d before after (Some h) same is t at links = absurd is
@@ -122,35 +122,35 @@ pub nobody_frees : (key : ℕ) (had holds : List Hold) (o : Option Hold) → o �
 nobody_frees key had holds None same is = λ hold its. absurd (let u : None ≡ Some hold = same ∙ its in let v : ⊥ = cc in v)
 nobody_frees key had holds (Some h) same is = absurd is
 
-module _ (key : ℕ) (gives : Bool) (way : desk.Way) (left : Left) (old mid new : code.Relay) (d : desks.Desk) (before after : List ℕ) (reached : IsReached (desk_in old.desk))
-    (t : Turns (desk.Leaves key gives way) (desk_in old.desk) (desk_in d) before after) (at : mid.desk ≡ d) (links : mid.links.items ≡ old.links.items) where
-  holds_behind : (h : Hold) → find_key key old.desk.holds.items ≡ Some h → mid.desk.holds.items ≡ without_lease h.lease old.desk.holds.items
-  holds_behind h its = ap (λ (x : desks.Desk). x.holds.items) at ∙ left_some key gives way (desk_in old.desk) (desk_in d) before after h t its
+module _ (key : ℕ) (gives : Bool) (way : pool.Way) (left : Left) (old mid new : code.Relay) (d : pools.Pool) (before after : List ℕ) (reached : IsReached (pool_in old.pool))
+    (t : Turns (pool.Leaves key gives way) (pool_in old.pool) (pool_in d) before after) (at : mid.pool ≡ d) (links : mid.links.items ≡ old.links.items) where
+  holds_behind : (h : Hold) → find_key key old.pool.holds.items ≡ Some h → mid.pool.holds.items ≡ without_lease h.lease old.pool.holds.items
+  holds_behind h its = ap (λ (x : pools.Pool). x.holds.items) at ∙ left_some key gives way (pool_in old.pool) (pool_in d) before after h t its
 
-  keeps_by : (o : Option Hold) → o ≡ find_key key old.desk.holds.items → IsNumberOf o (Some left) → MayForget left.number mid.desk.holds.items new.desk.holds.items
-      → ((other : ℕ) → other ≢ left.number → post_on other new.links.items ≡ post_on other mid.links.items) → KeepsAnswers mid.links.items new.links.items → OthersKeepAt key old new
+  keeps_by : (o : Option Hold) → o ≡ find_key key old.pool.holds.items → IsNumberOf o (Some left) → MayForget left.number mid.pool.holds.items new.pool.holds.items
+      → ((other : ℕ) → other ≢ left.number → queue_on other new.links.items ≡ queue_on other mid.links.items) → KeepsAnswers mid.links.items new.links.items → OthersKeepAt key old new
   keeps_by None same is may waits known = absurd is
   keeps_by (Some h) same is may waits known = λ n differs.
-      let its : find_key key old.desk.holds.items ≡ Some h = sym same in
-      let own : key_of (find_number left.number old.desk.holds.items) ≡ Some key =
-      ap (λ (k : ℕ). key_of (find_number k old.desk.holds.items)) is ∙ its_holder key h old.desk.holds.items (apart_at (desk_in old.desk) reached) its in
-      let off : n ≢ left.number = λ e. differs (ap (λ (k : ℕ). key_of (find_number k old.desk.holds.items)) e ∙ own) in (
-        forget_other left.number n mid.desk.holds.items new.desk.holds.items may off ∙ ap (find_number n) (holds_behind h its) ∙ left_holds (desk_in old.desk) key h reached its n differs,
+      let its : find_key key old.pool.holds.items ≡ Some h = sym same in
+      let own : key_of (find_number left.number old.pool.holds.items) ≡ Some key =
+      ap (λ (k : ℕ). key_of (find_number k old.pool.holds.items)) is ∙ its_holder key h old.pool.holds.items (apart_at (pool_in old.pool) reached) its in
+      let off : n ≢ left.number = λ e. differs (ap (λ (k : ℕ). key_of (find_number k old.pool.holds.items)) e ∙ own) in (
+        forget_other left.number n mid.pool.holds.items new.pool.holds.items may off ∙ ap (find_number n) (holds_behind h its) ∙ left_holds (pool_in old.pool) key h reached its n differs,
         carried n mid.links.items new.links.items (waits n off) (known.keeps n) ∙ ap (carried_there n) links,
       )
 
-  frees_by : MayForget left.number mid.desk.holds.items new.desk.holds.items → IsLetGo key old.desk.holds.items new.desk.holds.items
+  frees_by : MayForget left.number mid.pool.holds.items new.pool.holds.items → IsLetGo key old.pool.holds.items new.pool.holds.items
   frees_by may = λ hold its.
-      forget_none left.number hold.number mid.desk.holds.items new.desk.holds.items may
+      forget_none left.number hold.number mid.pool.holds.items new.pool.holds.items may
       (ap (find_number hold.number) (holds_behind hold its)
-      ∙ gone_one hold.number hold old.desk.holds.items (apart_at (desk_in old.desk) reached) (found_number key hold old.desk.holds.items (apart_at (desk_in old.desk) reached) its))
+      ∙ gone_one hold.number hold old.pool.holds.items (apart_at (pool_in old.pool) reached) (found_number key hold old.pool.holds.items (apart_at (pool_in old.pool) reached) its))
 
-  pub left_keeps : {A E : Type 0} (r : Result A E) (o : Option Hold) → o ≡ find_key key old.desk.holds.items → IsNumberOf o (Some left) → OnOk r (MayForget left.number mid.desk.holds.items new.desk.holds.items)
-      → OnOk r ((other : ℕ) → other ≢ left.number → post_on other new.links.items ≡ post_on other mid.links.items) → OnOk r (KeepsAnswers mid.links.items new.links.items) → OnOk r (OthersKeepAt key old new)
+  pub left_keeps : {A E : Type 0} (r : Result A E) (o : Option Hold) → o ≡ find_key key old.pool.holds.items → IsNumberOf o (Some left) → OnOk r (MayForget left.number mid.pool.holds.items new.pool.holds.items)
+      → OnOk r ((other : ℕ) → other ≢ left.number → queue_on other new.links.items ≡ queue_on other mid.links.items) → OnOk r (KeepsAnswers mid.links.items new.links.items) → OnOk r (OthersKeepAt key old new)
   left_keeps (Ok x) o same is may waits known = keeps_by o same is may waits known
   left_keeps (Err x) o same is may waits known = tt
 
-  pub left_frees : {A E : Type 0} (r : Result A E) → OnOk r (MayForget left.number mid.desk.holds.items new.desk.holds.items) → OnOk r (IsLetGo key old.desk.holds.items new.desk.holds.items)
+  pub left_frees : {A E : Type 0} (r : Result A E) → OnOk r (MayForget left.number mid.pool.holds.items new.pool.holds.items) → OnOk r (IsLetGo key old.pool.holds.items new.pool.holds.items)
   left_frees (Ok x) may = frees_by may
   left_frees (Err x) may = tt
 
@@ -179,21 +179,21 @@ module _ (lent : Type 0) (client : Option ClientSession) (old mid : Option (List
   left_then seen now None (Some new) w e f g c = absurd f
   left_then seen now (Some waits) (Some new) w e f g c = left_more waits new w f (open_by seen mid waits (sym e)) (open_by now w new (sym g)) c
 
-pub lent_or : (number : ℕ) (mid new : code.Relay) → find_number number mid.desk.holds.items ≡ None
-    → MayBeLent number mid.desk.line.items mid.desk.holds.items mid.links.items new.desk.holds.items new.links.items
-    → IsSome (holder (desk_in new.desk) number) ⊎ ((waits_on number new.links.items ≡ None) ⊎ (waits_on number new.links.items ≡ waits_on number mid.links.items))
+pub lent_or : (number : ℕ) (mid new : code.Relay) → find_number number mid.pool.holds.items ≡ None
+    → MayBeLent number mid.pool.line.items mid.pool.holds.items mid.links.items new.pool.holds.items new.links.items
+    → IsSome (holder (pool_in new.pool) number) ⊎ ((waits_on number new.links.items ≡ None) ⊎ (waits_on number new.links.items ≡ waits_on number mid.links.items))
 lent_or number mid new none (filling.OfWaiting h is i) = absurd (let u : None ≡ Some h = sym none ∙ is in let v : ⊥ = cc in v)
-lent_or number mid new none (filling.Keeps e kept) = inr (waits_posted number mid.links.items new.links.items kept)
-lent_or number mid new none (filling.Lends e some) = inl (key_some (find_number number new.desk.holds.items) some)
+lent_or number mid new none (filling.Keeps e kept) = inr (waits_queued number mid.links.items new.links.items kept)
+lent_or number mid new none (filling.Lends e some) = inl (key_some (find_number number new.pool.holds.items) some)
 
 pub served_since : (key : ℕ) (old mid new : code.Relay) → OfItsHold WaitsAtEnd key old (λ (n : ℕ). waits_on n mid.links.items) → OpensLinks mid.links.items new.links.items
-    → IsLetGo key old.desk.holds.items mid.desk.holds.items → LendsInLine mid new → WaitsSinceEnd key old new
+    → IsLetGo key old.pool.holds.items mid.pool.holds.items → LendsInLine mid new → WaitsSinceEnd key old new
 served_since key old mid new left opens frees lends = λ hold its.
-    left_then (IsSome (holder (desk_in new.desk) hold.number)) (client_of hold.lease old.desk.service) (waits_on hold.number old.links.items) (waits_on hold.number mid.links.items) (left hold its)
+    left_then (IsSome (holder (pool_in new.pool) hold.number)) (client_of hold.lease old.pool.service) (waits_on hold.number old.links.items) (waits_on hold.number mid.links.items) (left hold its)
     (open_at hold.number mid.links.items) (open_at hold.number new.links.items) (open_waits hold.number mid.links.items) (open_waits hold.number new.links.items) (waits_on hold.number new.links.items) refl (opens.fills hold.number) refl
     (lent_or hold.number mid new (frees hold its) (lends hold.number))
 
 pub left_served : {A E : Type 0} (r : Result A E) (key : ℕ) (old mid new : code.Relay) → OfItsHold WaitsAtEnd key old (λ (n : ℕ). waits_on n mid.links.items) → OnOk r (OpensLinks mid.links.items new.links.items)
-    → IsLetGo key old.desk.holds.items mid.desk.holds.items → OnOk r (LendsInLine mid new) → OnOk r (WaitsSinceEnd key old new)
+    → IsLetGo key old.pool.holds.items mid.pool.holds.items → OnOk r (LendsInLine mid new) → OnOk r (WaitsSinceEnd key old new)
 left_served (Ok x) key old mid new left opens frees lends = served_since key old mid new left opens frees lends
 left_served (Err x) key old mid new left opens frees lends = tt

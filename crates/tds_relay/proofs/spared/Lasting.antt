@@ -6,13 +6,13 @@ use Rattle.tds_relay.specs.declared.link.Link.{Link}
 use Rattle.tds_relay.specs.declared.relay.Relay as code
 use Rattle.tds_relay.specs.Closings.{ClosesOnly, Itself, Register, name_with, open_name, register_in}
 use Rattle.tds_relay.specs.Fronts.{ends_in}
-use Rattle.tds_relay.specs.Hall.{End, Open, Over, end_at}
+use Rattle.tds_relay.specs.Core.{End, Open, Over, end_at}
 use Rattle.tds_relay.specs.Lent.{AllLast, AllLastBut, LastBesides, LastBut, LastOrDeaf}
 use Rattle.tds_relay.specs.Reads.{bytes_on, link_at, waits_on}
 use Rattle.tds_relay.specs.Taking.{IsDeaf}
 use Rattle.tds_relay.specs.Ties.{IsNumberOf}
-use Rattle.tds_relay.specs.declared.desk.Hold.{Hold}
-use Rattle.tds_relay.specs.declared.desk.leaving.Left.{Left}
+use Rattle.tds_relay.specs.declared.pool.Hold.{Hold}
+use Rattle.tds_relay.specs.declared.pool.leaving.Left.{Left}
 use Rattle.tds_relay.proofs.spared.Closings.{closes_more}
 use Rattle.tds_relay.proofs.spared.Sending.{Comes, Pushed, Same, pushed}
 

@@ -5,48 +5,48 @@ use Rattle.std.proofs.lemmas.Bool.{cases_eq}
 use Rattle.slab.specs.Slab.{get}
 use Rattle.tds_relay.specs.Reads.{waits_on}
 use Rattle.tds_relay.specs.declared.application.Application.{Application}
-use Rattle.tds_relay.specs.declared.desk.Desk as desks
-use Rattle.tds_relay.specs.declared.desk.Hold.{Hold}
-use Rattle.tds_relay.specs.declared.desk.leaving.Left.{Left}
+use Rattle.tds_relay.specs.declared.pool.Pool as pools
+use Rattle.tds_relay.specs.declared.pool.Hold.{Hold}
+use Rattle.tds_relay.specs.declared.pool.leaving.Left.{Left}
 use Rattle.tds_relay.specs.declared.relay.Relay as code
 use Rattle.tds_relay.specs.Bodies.{AskAsBefore, AskOn, Body, Closed, Spared, Starts, body_in, body_of, going_of}
-use Rattle.tds_relay.specs.Desk as desk
-use Rattle.tds_relay.specs.Desk.{Desk, find_key, find_number, key_of}
+use Rattle.tds_relay.specs.Pool as pool
+use Rattle.tds_relay.specs.Pool.{Pool, find_key, find_number, key_of}
 use Rattle.tds_relay.specs.Sparing.{AllGo, AllRest, Held, HoldsOn, IsOff, OthersHold, OthersRest, Rests, SendsOn, held_at}
-use Rattle.tds_relay.specs.Ties.{Application as ByApplication, IsNumberOf, IsReached, Turns, desk_in}
+use Rattle.tds_relay.specs.Ties.{Application as ByApplication, IsNumberOf, IsReached, Turns, pool_in}
 use Rattle.tds_relay.proofs.spared.Held.{holder_is}
 use Rattle.tds_relay.proofs.steps.Reaching.{reached_on, reaches_turn}
 use Rattle.tds_relay.proofs.spared.Resting.{AsksAt, all_others, go_one, going_is, goes_as, off_rests, others_both, others_rest, put_rest, rests_both, rests_by, rests_start}
 
 -- ---- A connection that is let go
 
-sent_held : (key number : ℕ) (old mid new : code.Relay) (held : Held) → (held.0 ≡ number) ⊎ (held.0 ≢ number) → held_at key old.desk ≡ Some held → IsReached (desk_in old.desk) → mid.desk ≡ old.desk → AsksAt key old mid
+sent_held : (key number : ℕ) (old mid new : code.Relay) (held : Held) → (held.0 ≡ number) ⊎ (held.0 ≢ number) → held_at key old.pool ≡ Some held → IsReached (pool_in old.pool) → mid.pool ≡ old.pool → AsksAt key old mid
     → ((other : ℕ) → other ≢ number → waits_on other mid.links.items ≡ waits_on other old.links.items) → AllRest mid new
-    → ((k : ℕ) → key_of (find_number number (desk_in mid.desk).holds) ≡ Some k → (goes : Body) → body_in (get new.applications k) goes ≡ Closed) → Rests (body_of key old) (body_of key new)
+    → ((k : ℕ) → key_of (find_number number (pool_in mid.pool).holds) ≡ Some k → (goes : Body) → body_in (get new.applications k) goes ≡ Closed) → Rests (body_of key old) (body_of key new)
 sent_held key number old mid new held (inl same) e reached at asks waits all shuts =
-    let whose : key_of (find_number number (desk_in mid.desk).holds) ≡ Some key =
-    ap (λ (d : desks.Desk). key_of (find_number number d.holds.items)) at ∙ ap (λ (n : ℕ). key_of (find_number n old.desk.holds.items)) (sym same) ∙ holder_is old.desk key held reached e in
+    let whose : key_of (find_number number (pool_in mid.pool).holds) ≡ Some key =
+    ap (λ (d : pools.Pool). key_of (find_number number d.holds.items)) at ∙ ap (λ (n : ℕ). key_of (find_number n old.pool.holds.items)) (sym same) ∙ holder_is old.pool key held reached e in
     inl (inr (shuts key whose (going_of key new)))
 sent_held key number old mid new held (inr differs) e reached at asks waits all shuts =
-    let off : IsOff number key old.desk = λ client is.
+    let off : IsOff number key old.pool = λ client is.
     let x : Held = (number, client) in
     let same : held ≡ x = (let u : Some held ≡ Some x = sym e ∙ is in cc) in
     differs (ap (λ (y : Held). y.0) same) in
     rests_both (body_of key old) (body_of key mid) (body_of key new) (off_rests number key old mid off (inl (ap (held_at key) at)) waits asks) (all.rest key)
 
-sent_at : (key number : ℕ) (old mid new : code.Relay) (p : Option Held) → held_at key old.desk ≡ p → IsReached (desk_in old.desk) → mid.desk ≡ old.desk → AsksAt key old mid
+sent_at : (key number : ℕ) (old mid new : code.Relay) (p : Option Held) → held_at key old.pool ≡ p → IsReached (pool_in old.pool) → mid.pool ≡ old.pool → AsksAt key old mid
     → ((other : ℕ) → other ≢ number → waits_on other mid.links.items ≡ waits_on other old.links.items) → AllRest mid new
-    → ((k : ℕ) → key_of (find_number number (desk_in mid.desk).holds) ≡ Some k → (goes : Body) → body_in (get new.applications k) goes ≡ Closed) → Rests (body_of key old) (body_of key new)
+    → ((k : ℕ) → key_of (find_number number (pool_in mid.pool).holds) ≡ Some k → (goes : Body) → body_in (get new.applications k) goes ≡ Closed) → Rests (body_of key old) (body_of key new)
 sent_at key number old mid new None e reached at asks waits all shuts =
     rests_both (body_of key old) (body_of key mid) (body_of key new) (rests_by key old mid asks (inr (going_is key old None e))) (all.rest key)
 sent_at key number old mid new (Some held) e reached at asks waits all shuts =
     sent_held key number old mid new held (cases_eq held.0 number) e reached at asks waits all shuts
 
 -- where it is lost instead
-pub sent_all : {A E : Type 0} (r : Result A E) (number : ℕ) (old mid new : code.Relay) → IsReached (desk_in old.desk) → mid.desk ≡ old.desk → AskAsBefore old.applications mid.applications
+pub sent_all : {A E : Type 0} (r : Result A E) (number : ℕ) (old mid new : code.Relay) → IsReached (pool_in old.pool) → mid.pool ≡ old.pool → AskAsBefore old.applications mid.applications
     → ((other : ℕ) → other ≢ number → waits_on other mid.links.items ≡ waits_on other old.links.items) → OnOk r (AllRest mid new)
-    → OnOk r ((k : ℕ) → key_of (find_number number (desk_in mid.desk).holds) ≡ Some k → (goes : Body) → body_in (get new.applications k) goes ≡ Closed) → OnOk r (SendsOn number old new)
-sent_all (Ok x) number old mid new reached at asks waits all shuts = inr (record { rest = λ key. sent_at key number old mid new (held_at key old.desk) refl reached at (λ goes. inl (asks key goes)) waits all shuts })
+    → OnOk r ((k : ℕ) → key_of (find_number number (pool_in mid.pool).holds) ≡ Some k → (goes : Body) → body_in (get new.applications k) goes ≡ Closed) → OnOk r (SendsOn number old new)
+sent_all (Ok x) number old mid new reached at asks waits all shuts = inr (record { rest = λ key. sent_at key number old mid new (held_at key old.pool) refl reached at (λ goes. inl (asks key goes)) waits all shuts })
 sent_all (Err e) number old mid new reached at asks waits all shuts = tt
 
 number_by : (h : Hold) (left : Left) → left.number ≡ h.number → (x : Hold) × (Some h ≡ Some x) × (left.number ≡ x.number)
@@ -57,25 +57,25 @@ number_of None left is = absurd is
 number_of (Some h) left is = number_by h left is
 
 -- nobody held one
-pub unheld_rest : (key : ℕ) (old new : code.Relay) (d : desks.Desk) → IsReached (desk_in old.desk) → OthersHold key old.desk d → new.desk ≡ d → new.links.items ≡ old.links.items → AskAsBefore old.applications new.applications → OthersRest key old new
+pub unheld_rest : (key : ℕ) (old new : code.Relay) (d : pools.Pool) → IsReached (pool_in old.pool) → OthersHold key old.pool d → new.pool ≡ d → new.links.items ≡ old.links.items → AskAsBefore old.applications new.applications → OthersRest key old new
 unheld_rest key old new d reached holds at links asks = record {
   rest = λ other differs.
-      let on : HoldsOn other old.desk new.desk = subst (λ (e : desks.Desk). HoldsOn other old.desk e) (sym at) (holds.hold reached other differs) in
+      let on : HoldsOn other old.pool new.pool = subst (λ (e : pools.Pool). HoldsOn other old.pool e) (sym at) (holds.hold reached other differs) in
       rests_by other old new (λ goes. inl (asks other goes)) (goes_as other old new on (λ held e. inl (ap (waits_on held.0) links)));
 }
 
-sent_by : (key number : ℕ) (g : Hold) (old mid new : code.Relay) (d : desks.Desk) → number ≡ g.number → IsReached (desk_in old.desk) → find_key key old.desk.holds.items ≡ Some g → OthersHold key old.desk d → mid.desk ≡ d
+sent_by : (key number : ℕ) (g : Hold) (old mid new : code.Relay) (d : pools.Pool) → number ≡ g.number → IsReached (pool_in old.pool) → find_key key old.pool.holds.items ≡ Some g → OthersHold key old.pool d → mid.pool ≡ d
     → mid.links.items ≡ old.links.items → AskAsBefore old.applications mid.applications → AskOn mid.applications new.applications → SendsOn number mid new → OthersRest key old new
 sent_by key number g old mid new d named reached its holds at links asks later (inl sent) =
-    others_rest key g old new reached its (subst (λ (e : desks.Desk). OthersHold key old.desk e) (sym (sent.0 ∙ at)) holds)
+    others_rest key g old new reached its (subst (λ (e : pools.Pool). OthersHold key old.pool e) (sym (sent.0 ∙ at)) holds)
     (λ n differs. sent.1 n (λ same. differs (same ∙ named)) ∙ ap (waits_on n) links)
     (λ k goes. subst (λ (b : Body). Spared b (body_in (get new.applications k) goes)) (asks k goes) (later k goes))
 sent_by key number g old mid new d named reached its holds at links asks later (inr all) =
     others_both key old mid new (put_rest key g old mid d reached its holds at links asks) (all_others key mid new all)
 
 -- what is to be sent on it for that is sent
-pub left_rest : {A E : Type 0} (r : Result A E) (key : ℕ) (left : Left) (o : Option Hold) (old mid new : code.Relay) (d : desks.Desk) → o ≡ find_key key old.desk.holds.items → IsNumberOf o (Some left) → IsReached (desk_in old.desk)
-    → OthersHold key old.desk d → mid.desk ≡ d → mid.links.items ≡ old.links.items → AskAsBefore old.applications mid.applications → OnOk r (AskOn mid.applications new.applications) → OnOk r (SendsOn left.number mid new)
+pub left_rest : {A E : Type 0} (r : Result A E) (key : ℕ) (left : Left) (o : Option Hold) (old mid new : code.Relay) (d : pools.Pool) → o ≡ find_key key old.pool.holds.items → IsNumberOf o (Some left) → IsReached (pool_in old.pool)
+    → OthersHold key old.pool d → mid.pool ≡ d → mid.links.items ≡ old.links.items → AskAsBefore old.applications mid.applications → OnOk r (AskOn mid.applications new.applications) → OnOk r (SendsOn left.number mid new)
     → OnOk r (OthersRest key old new)
 left_rest (Ok x) key left o old mid new d same is reached holds at links asks later sent =
     let n = number_of o left is in
@@ -83,8 +83,8 @@ left_rest (Ok x) key left o old mid new d same is reached holds at links asks la
 left_rest (Err e) key left o old mid new d same is reached holds at links asks later sent = tt
 
 -- or it is closed
-pub shut_rest : {A E : Type 0} (r : Result A E) (key : ℕ) (left : Left) (o : Option Hold) (old mid new : code.Relay) (d : desks.Desk) → o ≡ find_key key old.desk.holds.items → IsNumberOf o (Some left) → IsReached (desk_in old.desk)
-    → OthersHold key old.desk d → mid.desk ≡ d → mid.links.items ≡ old.links.items → AskAsBefore old.applications mid.applications → new.desk ≡ mid.desk → OnOk r (AskOn mid.applications new.applications)
+pub shut_rest : {A E : Type 0} (r : Result A E) (key : ℕ) (left : Left) (o : Option Hold) (old mid new : code.Relay) (d : pools.Pool) → o ≡ find_key key old.pool.holds.items → IsNumberOf o (Some left) → IsReached (pool_in old.pool)
+    → OthersHold key old.pool d → mid.pool ≡ d → mid.links.items ≡ old.links.items → AskAsBefore old.applications mid.applications → new.pool ≡ mid.pool → OnOk r (AskOn mid.applications new.applications)
     → OnOk r ((other : ℕ) → other ≢ left.number → waits_on other new.links.items ≡ waits_on other mid.links.items) → OnOk r (OthersRest key old new)
 shut_rest (Ok x) key left o old mid new d same is reached holds at links asks stays later waits =
     let n = number_of o left is in
@@ -102,18 +102,18 @@ closed_by key old mid new none later =
     let g : Body = going_of key new in
     rests_start (body_of key old) (body_of key new) (inl (inr (closed_spared (body_in (get mid.applications key) g) (body_in (get new.applications key) g) (none g) (later key g))))
 
-pub gone_go : (key : ℕ) (old mid new : code.Relay) → ((goes : Body) → body_in (get mid.applications key) goes ≡ Closed) → AskOn mid.applications new.applications → (IsReached (desk_in old.desk) → OthersRest key old mid)
-    → (IsReached (desk_in old.desk) → OthersRest key mid new) → AllGo old new
+pub gone_go : (key : ℕ) (old mid new : code.Relay) → ((goes : Body) → body_in (get mid.applications key) goes ≡ Closed) → AskOn mid.applications new.applications → (IsReached (pool_in old.pool) → OthersRest key old mid)
+    → (IsReached (pool_in old.pool) → OthersRest key mid new) → AllGo old new
 gone_go key old mid new none later first next = go_one key old new (closed_by key old mid new none later) (λ reached. others_both key old mid new (first reached) (next reached))
 
-pub removed_rest : (key : ℕ) (old new : code.Relay) → new.desk ≡ old.desk → new.links.items ≡ old.links.items → ((other : ℕ) → other ≢ key → get new.applications other ≡ get old.applications other) → OthersRest key old new
+pub removed_rest : (key : ℕ) (old new : code.Relay) → new.pool ≡ old.pool → new.links.items ≡ old.links.items → ((other : ℕ) → other ≢ key → get new.applications other ≡ get old.applications other) → OthersRest key old new
 removed_rest key old new at links same = record {
   rest = λ other differs.
-      let holds : HoldsOn other old.desk new.desk = inl (ap (held_at other) at) in
+      let holds : HoldsOn other old.pool new.pool = inl (ap (held_at other) at) in
       rests_by other old new (λ goes. inl (ap (λ (o : Option Application). body_in o goes) (same other differs))) (goes_as other old new holds (λ held e. inl (ap (waits_on held.0) links)));
 }
 
-pub left_reached : (key : ℕ) (d e f : desks.Desk) (gives : Bool) (way : desk.Way) (before after : List ℕ) → Turns (desk.Leaves key gives way) (desk_in d) (desk_in e) before after → f ≡ e → IsReached (desk_in d) → IsReached (desk_in f)
+pub left_reached : (key : ℕ) (d e f : pools.Pool) (gives : Bool) (way : pool.Way) (before after : List ℕ) → Turns (pool.Leaves key gives way) (pool_in d) (pool_in e) before after → f ≡ e → IsReached (pool_in d) → IsReached (pool_in f)
 left_reached key d e f gives way before after t same r =
-    subst (λ (x : desks.Desk). IsReached (desk_in x)) (sym same)
-    (reached_on (ByApplication key) (desk_in d) (desk_in e) (λ from h. reaches_turn (ByApplication key) from (desk_in d) (desk_in e) (desk.Leaves key gives way) before after t refl h) r)
+    subst (λ (x : pools.Pool). IsReached (pool_in x)) (sym same)
+    (reached_on (ByApplication key) (pool_in d) (pool_in e) (λ from h. reaches_turn (ByApplication key) from (pool_in d) (pool_in e) (pool.Leaves key gives way) before after t refl h) r)

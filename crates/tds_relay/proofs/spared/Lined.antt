@@ -12,16 +12,16 @@ use Rattle.tds_relay.specs.declared.application.Application.{Application}
 use Rattle.tds_relay.specs.declared.application.Asking.{Asking}
 use Rattle.tds_relay.specs.declared.application.Asking.TheVariants as asking
 use Rattle.tds_relay.specs.Bodies.{Body, Closed, Kept, body_in}
-use Rattle.tds_relay.specs.declared.desk.coming.Heard.{Heard}
-use Rattle.tds_relay.specs.declared.desk.coming.What.TheVariants as whats
+use Rattle.tds_relay.specs.declared.pool.coming.Heard.{Heard}
+use Rattle.tds_relay.specs.declared.pool.coming.What.TheVariants as whats
 use Rattle.tds_relay.specs.declared.relay.Relay as code
-use Rattle.tds_relay.specs.Desk as desk
-use Rattle.tds_relay.specs.Desk.{Desk, turn}
+use Rattle.tds_relay.specs.Pool as pool
+use Rattle.tds_relay.specs.Pool.{Pool, turn}
 use Rattle.tds_relay.specs.Fronts.{end_of}
-use Rattle.tds_relay.specs.Hall.{End, Ends, IfOpen, IsBegun, Open, Over, change_whose, closes, end_at, is_in}
+use Rattle.tds_relay.specs.Core.{End, Ends, IfOpen, IsBegun, Open, Over, change_whose, closes, end_at, is_in}
 use Rattle.tds_relay.specs.Reasons.{IsUnbegun}
 use Rattle.tds_relay.specs.Taking.{IsDeaf}
-use Rattle.tds_relay.specs.Ties.{desk_in}
+use Rattle.tds_relay.specs.Ties.{pool_in}
 use Rattle.tds_relay.specs.Waiting.{IsNotAcknowledged, KeepsInLine, StandsInLine}
 use Rattle.tds_relay.specs.Waiting as waiting
 use Rattle.tds_relay.proofs.steps.Fronts.{changed_at}
@@ -35,8 +35,8 @@ last_in : (key : ℕ) (line : List ℕ) → is_in key (line ++ key ∷ []) ≡ t
 last_in key [] = ap (λ (b : Bool). b || false) (eq-eqb key key refl)
 last_in key (k ∷ line) = ap (λ (b : Bool). (k == key) || b) (last_in key line) ∙ or_last (k == key)
 
-pub stands_last : (r : code.Relay) (d : Desk) (key : ℕ) → desk_in r.desk ≡ (turn d (desk.Waits key)).desk → StandsInLine key r
-stands_last r d key is = waiting.Stands (ap (λ (x : Desk). is_in key x.line) is ∙ last_in key d.line)
+pub stands_last : (r : code.Relay) (d : Pool) (key : ℕ) → pool_in r.pool ≡ (turn d (pool.Waits key)).pool → StandsInLine key r
+stands_last r d key is = waiting.Stands (ap (λ (x : Pool). is_in key x.line) is ∙ last_in key d.line)
 
 pub has_some : {A : Type 0} (o : Option A) (x : A) → o ≡ Some x → IsSome o
 has_some o x is = subst IsSome (sym is) refl

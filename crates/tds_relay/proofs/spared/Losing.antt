@@ -7,16 +7,16 @@ use Rattle.tds_front.specs.declared.front.Front.{Front}
 use Rattle.tds_packet.specs.declared.status.Reset.{Reset}
 use Rattle.tds_service.specs.Table.{reading_on}
 use Rattle.tds_relay.specs.declared.application.Application.{Application}
-use Rattle.tds_relay.specs.declared.desk.coming.Heard.{Heard}
-use Rattle.tds_relay.specs.declared.desk.coming.What.{What}
-use Rattle.tds_relay.specs.declared.desk.coming.What.TheVariants as whats
+use Rattle.tds_relay.specs.declared.pool.coming.Heard.{Heard}
+use Rattle.tds_relay.specs.declared.pool.coming.What.{What}
+use Rattle.tds_relay.specs.declared.pool.coming.What.TheVariants as whats
 use Rattle.tds_relay.specs.declared.link.Link.{Link}
 use Rattle.tds_relay.specs.declared.relay.Relay as code
 use Rattle.tds_relay.specs.Asking.{IsTakenBack}
 use Rattle.tds_relay.specs.Bodies.{AskAsBefore, Nowhere, Spared, body_in, body_of, going_of}
 use Rattle.tds_relay.specs.Coming.{MayBeDone}
-use Rattle.tds_relay.specs.Desk.{Desk, find_key, find_lease, find_number, key_of, whose, whose_by}
-use Rattle.tds_relay.specs.declared.desk.Hold.{Hold}
+use Rattle.tds_relay.specs.Pool.{Pool, find_key, find_lease, find_number, key_of, whose, whose_by}
+use Rattle.tds_relay.specs.declared.pool.Hold.{Hold}
 use Rattle.tds_relay.specs.Few.{AreSeated, IsSeated}
 use Rattle.tds_relay.specs.Told.{is_there}
 use Rattle.tds_service.specs.Service.{Leased, Place, Seat, Service, lease_at, lease_in, seat_numbered}
@@ -25,20 +25,20 @@ use Rattle.tds_relay.proofs.held.Seated.{both_each, each_found_by}
 use Rattle.tds_relay.proofs.held.Sitting.{Sits}
 use Rattle.tds_relay.proofs.spared.Held.{sits_at, sound_at}
 use Rattle.tds_relay.proofs.spared.Only.{apart_or}
-use Rattle.tds_relay.specs.declared.desk.Desk as desks
+use Rattle.tds_relay.specs.declared.pool.Pool as pools
 use Rattle.tds_relay.specs.Cleaning.{MayClean}
 use Rattle.tds_relay.specs.Closings.{ClosesOnly, IsWho, register_in}
-use Rattle.tds_relay.specs.Fronts.{ends_in, house_in, house_with, told_by}
-use Rattle.tds_relay.specs.Hall.{End, Ends, Open, Over, end_at, holder}
+use Rattle.tds_relay.specs.Fronts.{ends_in, machine_in, machine_with, told_by}
+use Rattle.tds_relay.specs.Core.{End, Ends, Open, Over, end_at, holder}
 use Rattle.tds_relay.specs.Handing.{HearsBy, IsNothing}
-use Rattle.tds_relay.specs.House.{House}
-use Rattle.tds_relay.specs.Posts.{Posts, post_at, posts_in}
+use Rattle.tds_relay.specs.Machine.{Machine}
+use Rattle.tds_relay.specs.Queues.{Queues, queue_at, queues_in}
 use Rattle.tds_relay.specs.Reads.{link_at, place_of}
 use Rattle.tds_relay.specs.Reasons.{Cleans, HasNoRoom, HasTakenBack, HearsNothing, IsHeardAs, IsIdle, IsLeftOpen, IsOverfull, ItselfFor, LosesBy, LosesFor, LosesOn, OfPacket, OfResuming, ResumesNot, ResumesNotAt}
 use Rattle.tds_relay.specs.Sparing.{IsKept}
-use Rattle.tds_relay.specs.Waiting.{KeepsPosts, LosesAt, ResumesAt}
+use Rattle.tds_relay.specs.Waiting.{KeepsQueues, LosesAt, ResumesAt}
 use Rattle.tds_relay.specs.Taking.{IsDeaf}
-use Rattle.tds_relay.specs.Ties.{desk_in}
+use Rattle.tds_relay.specs.Ties.{pool_in}
 use Rattle.tds_relay.proofs.spared.Closings.{closes_both, closes_more}
 use Rattle.tds_relay.proofs.spared.Starting.{unkept_going}
 use Rattle.tds_relay.proofs.spared.Turned.{as_refl, kept_any, kept_asks, not_as, room_as}
@@ -57,58 +57,58 @@ taken_or_deaf s key a is withdrawn = subst (λ (o : Option End). IsTakenBack o �
 
 -- ---- A packet
 
-pub heard_as : {E : Type 0} (r : Result (ℕ × Option Heard) E) (Idle : Type 0) (number : ℕ) (piece : List ℕ) (place : ℕ) (l m : Link) (old : code.Relay) (new : Option Heard → House) → place_of number old.links.items ≡ Some place
-    → l ≡ slice_index_or old.links.items place l → l.is_open ≡ true → IfOk r (λ heard. HearsBy number (reading_on number old.desk.service) l m piece heard.0 heard.1 (house_in old) (new heard.1))
+pub heard_as : {E : Type 0} (r : Result (ℕ × Option Heard) E) (Idle : Type 0) (number : ℕ) (piece : List ℕ) (place : ℕ) (l m : Link) (old : code.Relay) (new : Option Heard → Machine) → place_of number old.links.items ≡ Some place
+    → l ≡ slice_index_or old.links.items place l → l.is_open ≡ true → IfOk r (λ heard. HearsBy number (reading_on number old.pool.service) l m piece heard.0 heard.1 (machine_in old) (new heard.1))
     → IfOk r (λ heard. (HearsNothing heard.1 × Idle) ⊎ IsHeardAs number piece heard.1 old (new heard.1))
 heard_as (Ok x) Idle number piece place l m old new is value opened h =
     let at : IsAt number old.links.items place = is_at number old.links.items place is in
     inr (record { link = l; there = at.found l ∙ ap Some (sym value); is_open = opened; next = m; count = x.0; hears = h })
 heard_as (Err e) Idle number piece place l m old new is value opened h = tt
 
-full_by : (what : What) (key : Option ℕ) (ends : Ends) (posts : Posts) (other : ℕ) → key ≡ Some other → IsOverfull (post_at posts other) → LosesBy what key ends posts other
-full_by whats.Goes key ends posts other its full = (its, full)
-full_by whats.Finished key ends posts other its full = (its, full)
-full_by whats.Acknowledged key ends posts other its full = (its, full)
-full_by whats.Closed key ends posts other its full = its
+full_by : (what : What) (key : Option ℕ) (ends : Ends) (queues : Queues) (other : ℕ) → key ≡ Some other → IsOverfull (queue_at queues other) → LosesBy what key ends queues other
+full_by whats.Goes key ends queues other its full = (its, full)
+full_by whats.Finished key ends queues other its full = (its, full)
+full_by whats.Acknowledged key ends queues other its full = (its, full)
+full_by whats.Closed key ends queues other its full = its
 
-as_heard : (number : ℕ) (d : Desk) (o : Option Heard) (h : Heard) (ends : Ends) (posts : Posts) (other : ℕ) → o ≡ Some h → LosesBy h.what h.key ends posts other → LosesFor number o d ends posts other
-as_heard number d o h ends posts other is loses = subst (λ (x : Option Heard). LosesFor number x d ends posts other) (sym is) loses
+as_heard : (number : ℕ) (d : Pool) (o : Option Heard) (h : Heard) (ends : Ends) (queues : Queues) (other : ℕ) → o ≡ Some h → LosesBy h.what h.key ends queues other → LosesFor number o d ends queues other
+as_heard number d o h ends queues other is loses = subst (λ (x : Option Heard). LosesFor number x d ends queues other) (sym is) loses
 
 -- who is written to is full
-pub write_loses : (number : ℕ) (o : Option Heard) (h : Heard) (key : ℕ) (old : code.Relay) (posts : Posts) → o ≡ Some h → h.key ≡ Some key → posts ≡ posts_in old.applications
-    → (other : ℕ) → ItselfFor key (IsOverfull (post_at posts key)) other → LosesAt number o old other
-write_loses number o h key old posts is its same other x =
-    inl (as_heard number (desk_in old.desk) o h (ends_in old.applications) (posts_in old.applications) other is
-    (full_by h.what h.key (ends_in old.applications) (posts_in old.applications) other (its ∙ ap Some (sym x.0)) (subst (λ (n : ℕ). IsOverfull (post_at (posts_in old.applications) n)) (sym x.0) (subst (λ (ps : Posts). IsOverfull (post_at ps key)) same x.1))))
+pub write_loses : (number : ℕ) (o : Option Heard) (h : Heard) (key : ℕ) (old : code.Relay) (queues : Queues) → o ≡ Some h → h.key ≡ Some key → queues ≡ queues_in old.applications
+    → (other : ℕ) → ItselfFor key (IsOverfull (queue_at queues key)) other → LosesAt number o old other
+write_loses number o h key old queues is its same other x =
+    inl (as_heard number (pool_in old.pool) o h (ends_in old.applications) (queues_in old.applications) other is
+    (full_by h.what h.key (ends_in old.applications) (queues_in old.applications) other (its ∙ ap Some (sym x.0)) (subst (λ (n : ℕ). IsOverfull (queue_at (queues_in old.applications) n)) (sym x.0) (subst (λ (ps : Queues). IsOverfull (queue_at ps key)) same x.1))))
 
 done_kept : (key : ℕ) (r r0 : code.Relay) → (Spared (body_in (get r0.applications key) (going_of key r)) (body_in (get r.applications key) (going_of key r)))
     ⊎ ((body_in (get r0.applications key) (going_of key r) ≡ going_of key r) × (body_in (get r.applications key) (going_of key r) ≡ Nowhere)) → IsKept (body_of key r) → body_of key r0 ≡ body_of key r
 done_kept key r r0 (inl (inl e)) kept =
-    kept_any (get r0.applications key) (going_of key r) (going_of key r0) (unkept_going r.desk.service r.links.items (find_key key r.desk.holds.items)) (subst IsKept e kept) ∙ sym e
+    kept_any (get r0.applications key) (going_of key r) (going_of key r0) (unkept_going r.pool.service r.links.items (find_key key r.pool.holds.items)) (subst IsKept e kept) ∙ sym e
 done_kept key r r0 (inl (inr e)) kept = absurd (subst IsKept e kept)
 done_kept key r r0 (inr e) kept = absurd (subst IsKept e.1 kept)
 
 -- what was taken back is acknowledged, and nothing goes out
-pub resumes_loses : (number : ℕ) (o : Option Heard) (h : Heard) (key : ℕ) (old told sent : code.Relay) → o ≡ Some h → h.what ≡ whats.Acknowledged → HasTakenBack h.key (ends_in old.applications) → h.key ≡ Some key → told.desk ≡ old.desk
+pub resumes_loses : (number : ℕ) (o : Option Heard) (h : Heard) (key : ℕ) (old told sent : code.Relay) → o ≡ Some h → h.what ≡ whats.Acknowledged → HasTakenBack h.key (ends_in old.applications) → h.key ≡ Some key → told.pool ≡ old.pool
     → told.links.items ≡ old.links.items → (h.what ≢ whats.Closed → told.outbox.items ≡ old.outbox.items) → ends_in told.applications ≡ told_by (Some h) (ends_in old.applications) → MayBeDone old.applications told.applications
     → (told.outbox.items ≡ [] → sent ≡ told) → (other : ℕ) → ResumesNotAt number key sent other → LosesAt number o old other
-resumes_loses number o h key old told sent is what taken its desk links out ends done same other why =
+resumes_loses number o h key old told sent is what taken its pool links out ends done same other why =
     let lasts : h.what ≢ whats.Closed = λ e. (let u : whats.Acknowledged ≡ whats.Closed = sym what ∙ e in cc) in
-    let at : old.outbox.items ≡ [] → ResumesNot number h.key (told_by (Some h) (ends_in old.applications)) old.desk old.links.items (body_of other old) other =
+    let at : old.outbox.items ≡ [] → ResumesNot number h.key (told_by (Some h) (ends_in old.applications)) old.pool old.links.items (body_of other old) other =
     λ idle.
     let here : ResumesNotAt number key told other = subst (λ (r : code.Relay). ResumesNotAt number key r other) (same (out lasts ∙ idle)) why in
-    subst (λ (k : Option ℕ). ResumesNot number k (told_by (Some h) (ends_in old.applications)) old.desk old.links.items (body_of other old) other) (sym its)
-    (subst (λ (d : desks.Desk). ResumesNot number (Some key) (told_by (Some h) (ends_in old.applications)) d old.links.items (body_of other old) other) desk
-    (not_as number (Some key) (ends_in told.applications) (told_by (Some h) (ends_in old.applications)) told.desk old.links.items told.links.items (body_of other told) (body_of other old) other ends
-    (subst (λ (ls : List Link). KeepsPosts ls told.links.items) links (as_refl told.links.items)) (done_kept other told old (done other (going_of other told))) here)) in
+    subst (λ (k : Option ℕ). ResumesNot number k (told_by (Some h) (ends_in old.applications)) old.pool old.links.items (body_of other old) other) (sym its)
+    (subst (λ (d : pools.Pool). ResumesNot number (Some key) (told_by (Some h) (ends_in old.applications)) d old.links.items (body_of other old) other) pool
+    (not_as number (Some key) (ends_in told.applications) (told_by (Some h) (ends_in old.applications)) told.pool old.links.items told.links.items (body_of other told) (body_of other old) other ends
+    (subst (λ (ls : List Link). KeepsQueues ls told.links.items) links (as_refl told.links.items)) (done_kept other told old (done other (going_of other told))) here)) in
     inr (inr (subst (λ (x : Option Heard). ResumesAt number x old other) (sym is) (what, taken, at)))
 
 closed_loses : (number : ℕ) (o : Option Heard) (h : Heard) (old : code.Relay) → o ≡ Some h → h.what ≡ whats.Closed → (other : ℕ) → h.key ≡ Some other → LosesAt number o old other
 closed_loses number o h old is what other its =
-    inl (as_heard number (desk_in old.desk) o h (ends_in old.applications) (posts_in old.applications) other is (subst (λ (w : What). LosesBy w h.key (ends_in old.applications) (posts_in old.applications) other) (sym what) its))
+    inl (as_heard number (pool_in old.pool) o h (ends_in old.applications) (queues_in old.applications) other is (subst (λ (w : What). LosesBy w h.key (ends_in old.applications) (queues_in old.applications) other) (sym what) its))
 
-pub nothing_loses : (number : ℕ) (o : Option Heard) (old : code.Relay) → o ≡ None → (other : ℕ) → IsWho (holder (desk_in old.desk) number) other → LosesAt number o old other
-nothing_loses number o old is other who = inl (subst (λ (x : Option Heard). LosesFor number x (desk_in old.desk) (ends_in old.applications) (posts_in old.applications) other) (sym is) who)
+pub nothing_loses : (number : ℕ) (o : Option Heard) (old : code.Relay) → o ≡ None → (other : ℕ) → IsWho (holder (pool_in old.pool) number) other → LosesAt number o old other
+nothing_loses number o old is other who = inl (subst (λ (x : Option Heard). LosesFor number x (pool_in old.pool) (ends_in old.applications) (queues_in old.applications) other) (sym is) who)
 
 is_closed : (what : What) → (what ≡ whats.Closed) ⊎ (what ≢ whats.Closed)
 is_closed whats.Goes = inr (λ e. (let u : whats.Goes ≡ whats.Closed = e in cc))
@@ -117,11 +117,11 @@ is_closed whats.Acknowledged = inr (λ e. (let u : whats.Acknowledged ≡ whats.
 is_closed whats.Closed = inl refl
 
 -- what goes out doesn't fit
-unsent_loses : (number : ℕ) (o : Option Heard) (h : Heard) (old told : code.Relay) → o ≡ Some h → told.desk ≡ old.desk → told.links.items ≡ old.links.items → (h.what ≢ whats.Closed → told.outbox.items ≡ old.outbox.items) → (other : ℕ)
-    → IsWho (holder (desk_in told.desk) number) other → HasNoRoom number told.outbox.items told.links.items → told.outbox.items ≢ [] → LosesAt number o old other
+unsent_loses : (number : ℕ) (o : Option Heard) (h : Heard) (old told : code.Relay) → o ≡ Some h → told.pool ≡ old.pool → told.links.items ≡ old.links.items → (h.what ≢ whats.Closed → told.outbox.items ≡ old.outbox.items) → (other : ℕ)
+    → IsWho (holder (pool_in told.pool) number) other → HasNoRoom number told.outbox.items told.links.items → told.outbox.items ≢ [] → LosesAt number o old other
 unsent_loses number o h old told is same links out other who none some =
     inr (inl (
-      ap (λ (d : desks.Desk). holder (desk_in d) number) (sym same) ∙ who,
+      ap (λ (d : pools.Pool). holder (pool_in d) number) (sym same) ∙ who,
       (λ left.
           let lasts : h.what ≢ whats.Closed = subst IsLeftOpen is left in (
             (λ e. some (out lasts ∙ e)),
@@ -130,19 +130,19 @@ unsent_loses number o h old told is same links out other who none some =
     ))
 
 -- it is told, and what goes out is sent
-pub sent_closes : (number : ℕ) (o : Option Heard) (h : Heard) (old told sent : code.Relay) → o ≡ Some h → (h.what ≢ whats.Closed → told.outbox.items ≡ old.outbox.items) → told.desk ≡ old.desk → told.links.items ≡ old.links.items
+pub sent_closes : (number : ℕ) (o : Option Heard) (h : Heard) (old told sent : code.Relay) → o ≡ Some h → (h.what ≢ whats.Closed → told.outbox.items ≡ old.outbox.items) → told.pool ≡ old.pool → told.links.items ≡ old.links.items
     → ClosesOnly (λ other. (h.key ≡ Some other) × (h.what ≡ whats.Closed)) (register_in old) (register_in told)
-    → ClosesOnly (λ other. IsWho (holder (desk_in told.desk) number) other × HasNoRoom number told.outbox.items told.links.items × (told.outbox.items ≢ [])) (register_in told) (register_in sent)
+    → ClosesOnly (λ other. IsWho (holder (pool_in told.pool) number) other × HasNoRoom number told.outbox.items told.links.items × (told.outbox.items ≢ [])) (register_in told) (register_in sent)
     → ClosesOnly (LosesAt number o old) (register_in old) (register_in sent)
 sent_closes number o h old told sent is out same links tells sends =
     closes_both (LosesAt number o old) (register_in old) (register_in told) (register_in sent)
     (closes_more (λ other. (h.key ≡ Some other) × (h.what ≡ whats.Closed)) (LosesAt number o old) (register_in old) (register_in told) (λ other x. closed_loses number o h old is x.1 other x.0) tells)
-    (closes_more (λ other. IsWho (holder (desk_in told.desk) number) other × HasNoRoom number told.outbox.items told.links.items × (told.outbox.items ≢ [])) (LosesAt number o old) (register_in told) (register_in sent)
+    (closes_more (λ other. IsWho (holder (pool_in told.pool) number) other × HasNoRoom number told.outbox.items told.links.items × (told.outbox.items ≢ [])) (LosesAt number o old) (register_in told) (register_in sent)
     (λ other x. unsent_loses number o h old told is same links (λ lasts. out lasts) other x.0 x.1 x.2) sends)
 
 -- ---- Whose it is that somebody holds
 
-key_found : (d : Desk) (number other : ℕ) (o : Option Hold) → find_number number d.holds ≡ o → key_of o ≡ Some other → (hold : Hold) × (find_number number d.holds ≡ Some hold) × (hold.key ≡ other)
+key_found : (d : Pool) (number other : ℕ) (o : Option Hold) → find_number number d.holds ≡ o → key_of o ≡ Some other → (hold : Hold) × (find_number number d.holds ≡ Some hold) × (hold.key ≡ other)
 key_found d number other None is key = absurd (let u : None ≡ Some other = key in let v : ⊥ = cc in v)
 key_found d number other (Some h) is key = (h, is, (let u : Some h.key ≡ Some other = key in cc))
 
@@ -150,7 +150,7 @@ seat_found : (number : ℕ) (s : Service) (o : Option Seat) → seat_numbered nu
 seat_found number s None is some = absurd (let u : false ≡ true = some in let v : ⊥ = cc in v)
 seat_found number s (Some c) is some = (c, is)
 
-holder_whose : (d : Desk) (ls : List Link) (number other : ℕ) → AreSeated d ls → is_there number ls ≡ true → holder d number ≡ Some other → whose d number ≡ Some other
+holder_whose : (d : Pool) (ls : List Link) (number other : ℕ) → AreSeated d ls → is_there number ls ≡ true → holder d number ≡ Some other → whose d number ≡ Some other
 holder_whose d ls number other s there is =
     let hs = d.holds in
     let P : Hold → Type 0 = λ (y : Hold). Sits d.service y in
@@ -164,39 +164,39 @@ holder_whose d ls number other s there is =
 
 -- ---- In a call
 
-nothing_key : (key : Option ℕ) (what : What) (ends : Ends) (posts : Posts) (other : ℕ) → key ≡ None → what ≡ whats.Goes → LosesBy what key ends posts other → ⊥
-nothing_key key what ends posts other none goes loses =
-    let x = subst (λ (w : What). LosesBy w key ends posts other) goes loses in
+nothing_key : (key : Option ℕ) (what : What) (ends : Ends) (queues : Queues) (other : ℕ) → key ≡ None → what ≡ whats.Goes → LosesBy what key ends queues other → ⊥
+nothing_key key what ends queues other none goes loses =
+    let x = subst (λ (w : What). LosesBy w key ends queues other) goes loses in
     (let u : None ≡ Some other = sym none ∙ x.0 in cc)
 
 -- of what nothing came nobody is
-of_nothing : (number : ℕ) (left : List ℕ) (o : Option Heard) (mid : code.Relay) (d : Desk) (ends : Ends) (posts : Posts) (other : ℕ) → HearsNothing o → LosesFor number o d ends posts other → LosesOn number left mid other
-of_nothing number left None mid d ends posts other none loses = absurd none
-of_nothing number left (Some h) mid d ends posts other none loses = absurd (nothing_key h.key h.what ends posts other none.0 none.1 loses)
+of_nothing : (number : ℕ) (left : List ℕ) (o : Option Heard) (mid : code.Relay) (d : Pool) (ends : Ends) (queues : Queues) (other : ℕ) → HearsNothing o → LosesFor number o d ends queues other → LosesOn number left mid other
+of_nothing number left None mid d ends queues other none loses = absurd none
+of_nothing number left (Some h) mid d ends queues other none loses = absurd (nothing_key h.key h.what ends queues other none.0 none.1 loses)
 
 -- who holds it where a header isn't one held it before
-for_before : (number : ℕ) (left : List ℕ) (o : Option Heard) (mid next : code.Relay) (new : House) (ends : Ends) (posts : Posts) (other : ℕ) → IsHeardAs number left o mid new → desk_in next.desk ≡ new.hall.desk
-    → LosesFor number o (desk_in next.desk) ends posts other → LosesFor number o (desk_in mid.desk) ends posts other
-for_before number left None mid next new ends posts other heard is loses = ap (λ (d : Desk). holder d number) (sym (is ∙ ap (λ (h : House). h.hall.desk) heard.hears.1)) ∙ loses
-for_before number left (Some h) mid next new ends posts other heard is loses = loses
+for_before : (number : ℕ) (left : List ℕ) (o : Option Heard) (mid next : code.Relay) (new : Machine) (ends : Ends) (queues : Queues) (other : ℕ) → IsHeardAs number left o mid new → pool_in next.pool ≡ new.core.pool
+    → LosesFor number o (pool_in next.pool) ends queues other → LosesFor number o (pool_in mid.pool) ends queues other
+for_before number left None mid next new ends queues other heard is loses = ap (λ (d : Pool). holder d number) (sym (is ∙ ap (λ (h : Machine). h.core.pool) heard.hears.1)) ∙ loses
+for_before number left (Some h) mid next new ends queues other heard is loses = loses
 
-by_packet : (number : ℕ) (left : List ℕ) (o : Option Heard) (mid next : code.Relay) (new : House) (other : ℕ) (Idle : Type 0) → (HearsNothing o × Idle) ⊎ IsHeardAs number left o mid new → desk_in next.desk ≡ new.hall.desk
-    → LosesFor number o (desk_in next.desk) (ends_in mid.applications) new.posts other → LosesOn number left mid other
-by_packet number left o mid next new other Idle (inl none) is loses = of_nothing number left o mid (desk_in next.desk) (ends_in mid.applications) new.posts other none.0 loses
-by_packet number left o mid next new other Idle (inr heard) is loses = OfPacket o new heard (for_before number left o mid next new (ends_in mid.applications) new.posts other heard is loses)
+by_packet : (number : ℕ) (left : List ℕ) (o : Option Heard) (mid next : code.Relay) (new : Machine) (other : ℕ) (Idle : Type 0) → (HearsNothing o × Idle) ⊎ IsHeardAs number left o mid new → pool_in next.pool ≡ new.core.pool
+    → LosesFor number o (pool_in next.pool) (ends_in mid.applications) new.queues other → LosesOn number left mid other
+by_packet number left o mid next new other Idle (inl none) is loses = of_nothing number left o mid (pool_in next.pool) (ends_in mid.applications) new.queues other none.0 loses
+by_packet number left o mid next new other Idle (inr heard) is loses = OfPacket o new heard (for_before number left o mid next new (ends_in mid.applications) new.queues other heard is loses)
 
 there_as : (number : ℕ) (ls : List Link) (l : Link) → link_at number ls ≡ Some l → is_there number ls ≡ true
 there_as number ls l is = ap (λ (o : Option Link). is_some o) is
 
 -- whoever holds it behind that, it is his
-whose_as : (number : ℕ) (left : List ℕ) (o : Option Heard) (mid next : code.Relay) (new : House) (other : ℕ) → IsSeated mid → IsHeardAs number left o mid new → desk_in next.desk ≡ new.hall.desk → IsWho (holder (desk_in next.desk) number) other
-    → whose (desk_in mid.desk) number ≡ Some other
+whose_as : (number : ℕ) (left : List ℕ) (o : Option Heard) (mid next : code.Relay) (new : Machine) (other : ℕ) → IsSeated mid → IsHeardAs number left o mid new → pool_in next.pool ≡ new.core.pool → IsWho (holder (pool_in next.pool) number) other
+    → whose (pool_in mid.pool) number ≡ Some other
 whose_as number left o mid next new other s heard is who =
-    holder_whose (desk_in mid.desk) mid.links.items number other s (there_as number mid.links.items heard.link heard.there)
+    holder_whose (pool_in mid.pool) mid.links.items number other s (there_as number mid.links.items heard.link heard.there)
     ((apart_or number left o mid next new s.reached (inr heard) (sym is)).fewer number other who)
 
 -- and he is told
-its_key : (number : ℕ) (left : List ℕ) (h : Heard) (mid : code.Relay) (new : House) (other : ℕ) → IsHeardAs number left (Some h) mid new → h.what ≡ whats.Closed → whose (desk_in mid.desk) number ≡ Some other → h.key ≡ Some other
+its_key : (number : ℕ) (left : List ℕ) (h : Heard) (mid : code.Relay) (new : Machine) (other : ℕ) → IsHeardAs number left (Some h) mid new → h.what ≡ whats.Closed → whose (pool_in mid.pool) number ≡ Some other → h.key ≡ Some other
 its_key number left h mid new other heard closed is =
     elim heard.hears.brings [
       | inl none ↦ absurd (let u : whats.Goes ≡ whats.Closed = sym none.2.1 ∙ closed in let v : ⊥ = cc in v)
@@ -207,30 +207,30 @@ cleans_none : (who : Option ℕ) (out : List ℕ) (other : ℕ) → who ≡ Some
 cleans_none who out other is some (inl same) = some same
 cleans_none who out other is some (inr cleans) = (let u : None ≡ Some other = sym cleans.0 ∙ is in let v : ⊥ = cc in v)
 
-sent_or : (number : ℕ) (left out : List ℕ) (h : Heard) (mid next : code.Relay) (new : House) (other : ℕ) → IsSeated mid → IsHeardAs number left (Some h) mid new → desk_in next.desk ≡ new.hall.desk → IsWho (holder (desk_in next.desk) number) other
-    → Cleans (whose (desk_in mid.desk) number) (Some h) [] out → (IsLeftOpen (Some h) → (out ≢ []) × HasNoRoom number out next.links.items) → (h.what ≡ whats.Closed) ⊎ (h.what ≢ whats.Closed) → LosesOn number left mid other
+sent_or : (number : ℕ) (left out : List ℕ) (h : Heard) (mid next : code.Relay) (new : Machine) (other : ℕ) → IsSeated mid → IsHeardAs number left (Some h) mid new → pool_in next.pool ≡ new.core.pool → IsWho (holder (pool_in next.pool) number) other
+    → Cleans (whose (pool_in mid.pool) number) (Some h) [] out → (IsLeftOpen (Some h) → (out ≢ []) × HasNoRoom number out next.links.items) → (h.what ≡ whats.Closed) ⊎ (h.what ≢ whats.Closed) → LosesOn number left mid other
 sent_or number left out h mid next new other s heard is who cleans sends (inl closed) =
-    OfPacket (Some h) new heard (subst (λ (w : What). LosesBy w h.key (ends_in mid.applications) new.posts other) (sym closed)
+    OfPacket (Some h) new heard (subst (λ (w : What). LosesBy w h.key (ends_in mid.applications) new.queues other) (sym closed)
     (its_key number left h mid new other heard closed (whose_as number left (Some h) mid next new other s heard is who)))
 sent_or number left out h mid next new other s heard is who cleans sends (inr lasts) =
-    absurd (cleans_none (whose (desk_in mid.desk) number) out other (whose_as number left (Some h) mid next new other s heard is who) (sends lasts).0 (cleans lasts))
+    absurd (cleans_none (whose (pool_in mid.pool) number) out other (whose_as number left (Some h) mid next new other s heard is who) (sends lasts).0 (cleans lasts))
 
-by_sending : (number : ℕ) (left out : List ℕ) (o : Option Heard) (mid next : code.Relay) (new : House) (other : ℕ) → IsSeated mid → IsHeardAs number left o mid new → desk_in next.desk ≡ new.hall.desk → IsWho (holder (desk_in next.desk) number) other
-    → Cleans (whose (desk_in mid.desk) number) o [] out → (IsLeftOpen o → (out ≢ []) × HasNoRoom number out next.links.items) → LosesOn number left mid other
-by_sending number left out None mid next new other s heard is who cleans sends = OfPacket None new heard (for_before number left None mid next new (ends_in mid.applications) new.posts other heard is who)
+by_sending : (number : ℕ) (left out : List ℕ) (o : Option Heard) (mid next : code.Relay) (new : Machine) (other : ℕ) → IsSeated mid → IsHeardAs number left o mid new → pool_in next.pool ≡ new.core.pool → IsWho (holder (pool_in next.pool) number) other
+    → Cleans (whose (pool_in mid.pool) number) o [] out → (IsLeftOpen o → (out ≢ []) × HasNoRoom number out next.links.items) → LosesOn number left mid other
+by_sending number left out None mid next new other s heard is who cleans sends = OfPacket None new heard (for_before number left None mid next new (ends_in mid.applications) new.queues other heard is who)
 by_sending number left out (Some h) mid next new other s heard is who cleans sends = sent_or number left out h mid next new other s heard is who cleans sends (is_closed h.what)
 
 idle_left : (o : Option Heard) → HearsNothing o → IsLeftOpen o
 idle_left None none = absurd none
 idle_left (Some h) none = λ e. (let u : whats.Goes ≡ whats.Closed = sym none.1 ∙ e in cc)
 
-sending_or : (number : ℕ) (left : List ℕ) (o : Option Heard) (mid next : code.Relay) (new : House) (other : ℕ) → IsSeated mid → (HearsNothing o × IsIdle mid next) ⊎ IsHeardAs number left o mid new → desk_in next.desk ≡ new.hall.desk
-    → IsWho (holder (desk_in next.desk) number) other → Cleans (whose (desk_in mid.desk) number) o [] next.outbox.items → (IsLeftOpen o → (next.outbox.items ≢ []) × HasNoRoom number next.outbox.items next.links.items) → LosesOn number left mid other
+sending_or : (number : ℕ) (left : List ℕ) (o : Option Heard) (mid next : code.Relay) (new : Machine) (other : ℕ) → IsSeated mid → (HearsNothing o × IsIdle mid next) ⊎ IsHeardAs number left o mid new → pool_in next.pool ≡ new.core.pool
+    → IsWho (holder (pool_in next.pool) number) other → Cleans (whose (pool_in mid.pool) number) o [] next.outbox.items → (IsLeftOpen o → (next.outbox.items ≢ []) × HasNoRoom number next.outbox.items next.links.items) → LosesOn number left mid other
 sending_or number left o mid next new other s (inl idle) is who cleans sends = absurd ((sends (idle_left o idle.0)).0 idle.1.1)
 sending_or number left o mid next new other s (inr heard) is who cleans sends = by_sending number left next.outbox.items o mid next new other s heard is who cleans sends
 
 -- nothing goes out to who took something back
-held_idle : (number : ℕ) (left out : List ℕ) (h : Heard) (mid : code.Relay) (new : House) (ends : Ends) → IsHeardAs number left (Some h) mid new → HasTakenBack h.key ends → MayClean (whose (desk_in mid.desk) number) [] out → out ≡ []
+held_idle : (number : ℕ) (left out : List ℕ) (h : Heard) (mid : code.Relay) (new : Machine) (ends : Ends) → IsHeardAs number left (Some h) mid new → HasTakenBack h.key ends → MayClean (whose (pool_in mid.pool) number) [] out → out ≡ []
 held_idle number left out h mid new ends heard taken (inl same) = same
 held_idle number left out h mid new ends heard taken (inr cleans) =
     absurd (elim heard.hears.brings [
@@ -238,41 +238,41 @@ held_idle number left out h mid new ends heard taken (inr cleans) =
       | inr p ↦ (let u : None ≡ Some taken.0 = sym cleans.0 ∙ sym p.whose_is ∙ taken.1 in let v : ⊥ = cc in v)
     ])
 
-resumes_by : (number : ℕ) (left : List ℕ) (h : Heard) (mid next : code.Relay) (new : House) (other : ℕ) → IsHeardAs number left (Some h) mid new → desk_in next.desk ≡ new.hall.desk → told_by (Some h) (ends_in next.applications) ≡ new.hall.ends
-    → ends_in next.applications ≡ ends_in mid.applications → Cleans (whose (desk_in mid.desk) number) (Some h) [] next.outbox.items → KeepsPosts mid.links.items next.links.items → AskAsBefore mid.applications next.applications
+resumes_by : (number : ℕ) (left : List ℕ) (h : Heard) (mid next : code.Relay) (new : Machine) (other : ℕ) → IsHeardAs number left (Some h) mid new → pool_in next.pool ≡ new.core.pool → told_by (Some h) (ends_in next.applications) ≡ new.core.ends
+    → ends_in next.applications ≡ ends_in mid.applications → Cleans (whose (pool_in mid.pool) number) (Some h) [] next.outbox.items → KeepsQueues mid.links.items next.links.items → AskAsBefore mid.applications next.applications
     → ResumesAt number (Some h) next other → LosesOn number left mid other
-resumes_by number left h mid next new other heard desk told ends cleans same asks at =
+resumes_by number left h mid next new other heard pool told ends cleans same asks at =
     let lasts : h.what ≢ whats.Closed = λ e. (let u : whats.Acknowledged ≡ whats.Closed = sym at.0 ∙ e in cc) in
-    OfResuming h new heard at.0 (subst (λ (es : Ends). HasTakenBack h.key es) ends at.1) next.desk desk
-    (not_as number h.key (told_by (Some h) (ends_in next.applications)) new.hall.ends next.desk mid.links.items next.links.items (body_of other next) (body_of other mid) other told same (kept_asks other next mid asks)
+    OfResuming h new heard at.0 (subst (λ (es : Ends). HasTakenBack h.key es) ends at.1) next.pool pool
+    (not_as number h.key (told_by (Some h) (ends_in next.applications)) new.core.ends next.pool mid.links.items next.links.items (body_of other next) (body_of other mid) other told same (kept_asks other next mid asks)
     (at.2 (held_idle number left next.outbox.items h mid new (ends_in next.applications) heard at.1 (cleans lasts))))
 
 none_resumes : (number : ℕ) (h : Heard) (r : code.Relay) (other : ℕ) → IsNothing h → ResumesAt number (Some h) r other → ⊥
 none_resumes number h r other none at = (let u : whats.Acknowledged ≡ whats.Goes = sym at.0 ∙ none.1 in cc)
 
-resumes_or : (number : ℕ) (left : List ℕ) (o : Option Heard) (mid next : code.Relay) (new : House) (other : ℕ) → (HearsNothing o × IsIdle mid next) ⊎ IsHeardAs number left o mid new → desk_in next.desk ≡ new.hall.desk
-    → told_by o (ends_in next.applications) ≡ new.hall.ends → ends_in next.applications ≡ ends_in mid.applications → Cleans (whose (desk_in mid.desk) number) o [] next.outbox.items → KeepsPosts mid.links.items next.links.items
+resumes_or : (number : ℕ) (left : List ℕ) (o : Option Heard) (mid next : code.Relay) (new : Machine) (other : ℕ) → (HearsNothing o × IsIdle mid next) ⊎ IsHeardAs number left o mid new → pool_in next.pool ≡ new.core.pool
+    → told_by o (ends_in next.applications) ≡ new.core.ends → ends_in next.applications ≡ ends_in mid.applications → Cleans (whose (pool_in mid.pool) number) o [] next.outbox.items → KeepsQueues mid.links.items next.links.items
     → AskAsBefore mid.applications next.applications → ResumesAt number o next other → LosesOn number left mid other
-resumes_or number left None mid next new other heard desk told ends cleans same asks at = absurd at
-resumes_or number left (Some h) mid next new other (inl idle) desk told ends cleans same asks at = absurd (none_resumes number h next other idle.0 at)
-resumes_or number left (Some h) mid next new other (inr heard) desk told ends cleans same asks at = resumes_by number left h mid next new other heard desk told ends cleans same asks at
+resumes_or number left None mid next new other heard pool told ends cleans same asks at = absurd at
+resumes_or number left (Some h) mid next new other (inl idle) pool told ends cleans same asks at = absurd (none_resumes number h next other idle.0 at)
+resumes_or number left (Some h) mid next new other (inr heard) pool told ends cleans same asks at = resumes_by number left h mid next new other heard pool told ends cleans same asks at
 
-loses_or : (number : ℕ) (left : List ℕ) (o : Option Heard) (mid next : code.Relay) (new : House) (other : ℕ) → (HearsNothing o × IsIdle mid next) ⊎ IsHeardAs number left o mid new → desk_in next.desk ≡ new.hall.desk
-    → told_by o (ends_in next.applications) ≡ new.hall.ends → ends_in next.applications ≡ ends_in mid.applications → posts_in next.applications ≡ new.posts → Cleans (whose (desk_in mid.desk) number) o [] next.outbox.items
-    → KeepsPosts mid.links.items next.links.items → AskAsBefore mid.applications next.applications → IsSeated mid → LosesAt number o next other → LosesOn number left mid other
-loses_or number left o mid next new other heard desk told ends posts cleans same asks s (inl loses) =
-    by_packet number left o mid next new other (IsIdle mid next) heard desk
-    (subst (λ (ps : Posts). LosesFor number o (desk_in next.desk) (ends_in mid.applications) ps other) posts (subst (λ (es : Ends). LosesFor number o (desk_in next.desk) es (posts_in next.applications) other) ends loses))
-loses_or number left o mid next new other heard desk told ends posts cleans same asks s (inr (inl x)) = sending_or number left o mid next new other s heard desk x.0 cleans x.1
-loses_or number left o mid next new other heard desk told ends posts cleans same asks s (inr (inr at)) = resumes_or number left o mid next new other heard desk told ends cleans same asks at
+loses_or : (number : ℕ) (left : List ℕ) (o : Option Heard) (mid next : code.Relay) (new : Machine) (other : ℕ) → (HearsNothing o × IsIdle mid next) ⊎ IsHeardAs number left o mid new → pool_in next.pool ≡ new.core.pool
+    → told_by o (ends_in next.applications) ≡ new.core.ends → ends_in next.applications ≡ ends_in mid.applications → queues_in next.applications ≡ new.queues → Cleans (whose (pool_in mid.pool) number) o [] next.outbox.items
+    → KeepsQueues mid.links.items next.links.items → AskAsBefore mid.applications next.applications → IsSeated mid → LosesAt number o next other → LosesOn number left mid other
+loses_or number left o mid next new other heard pool told ends queues cleans same asks s (inl loses) =
+    by_packet number left o mid next new other (IsIdle mid next) heard pool
+    (subst (λ (ps : Queues). LosesFor number o (pool_in next.pool) (ends_in mid.applications) ps other) queues (subst (λ (es : Ends). LosesFor number o (pool_in next.pool) es (queues_in next.applications) other) ends loses))
+loses_or number left o mid next new other heard pool told ends queues cleans same asks s (inr (inl x)) = sending_or number left o mid next new other s heard pool x.0 cleans x.1
+loses_or number left o mid next new other heard pool told ends queues cleans same asks s (inr (inr at)) = resumes_or number left o mid next new other heard pool told ends cleans same asks at
 
-pub loses_by : (number : ℕ) (left : List ℕ) (o : Option Heard) (mid next : code.Relay) (es : Ends) (other : ℕ) → (HearsNothing o × IsIdle mid next) ⊎ IsHeardAs number left o mid (house_with (desk_in next.desk) (told_by o es) (posts_in next.applications))
-    → es ≡ ends_in mid.applications → ends_in next.applications ≡ ends_in mid.applications → Cleans (whose (desk_in mid.desk) number) o [] next.outbox.items → KeepsPosts mid.links.items next.links.items
+pub loses_by : (number : ℕ) (left : List ℕ) (o : Option Heard) (mid next : code.Relay) (es : Ends) (other : ℕ) → (HearsNothing o × IsIdle mid next) ⊎ IsHeardAs number left o mid (machine_with (pool_in next.pool) (told_by o es) (queues_in next.applications))
+    → es ≡ ends_in mid.applications → ends_in next.applications ≡ ends_in mid.applications → Cleans (whose (pool_in mid.pool) number) o [] next.outbox.items → KeepsQueues mid.links.items next.links.items
     → AskAsBefore mid.applications next.applications → IsSeated mid → LosesAt number o next other → LosesOn number left mid other
 loses_by number left o mid next es other heard was ends cleans same asks s why =
-    loses_or number left o mid next (house_with (desk_in next.desk) (told_by o es) (posts_in next.applications)) other heard refl (ap (told_by o) (ends ∙ sym was)) ends refl cleans same asks s why
+    loses_or number left o mid next (machine_with (pool_in next.pool) (told_by o es) (queues_in next.applications)) other heard refl (ap (told_by o) (ends ∙ sym was)) ends refl cleans same asks s why
 
--- as a desk tells whose it is
+-- as a pool tells whose it is
 pub cleans_as : (what : What) (key who : Option ℕ) (before after : List ℕ) → key ≡ who → (what ≢ whats.Closed → MayClean key before after) → what ≢ whats.Closed → MayClean who before after
 cleans_as what key who before after same h lasts = subst (λ (k : Option ℕ). MayClean k before after) same (h lasts)
 

@@ -16,7 +16,7 @@ use Rattle.tds_service.specs.Table.{client_by, client_of, seat_in, seats_in, ser
 use Rattle.tds_service.specs.Ties.{stage_of}
 use Rattle.tds_relay.specs.Cleaning.{rests_once}
 use Rattle.tds_relay.specs.Promises.{Each}
-use Rattle.tds_relay.specs.Walkers.{IsLed}
+use Rattle.tds_relay.specs.TokenParsers.{IsLed}
 use Rattle.tds_relay.proofs.bytes.Walking.{led_tidy}
 use Rattle.tds_relay.proofs.promises.Seats.{each_changed, each_found, found_meets}
 use Rattle.tds_relay.proofs.promises.Tidy.{Tidy, WithinIn, next_other}

@@ -2,21 +2,21 @@
 use Rattle.std.proofs.Common.{◌≡◌, ◌≢◌, ◌⊎◌, ◌∙◌, ℕ, Bool, List, Option, Some, None, inl, inr, refl, sym, ap, subst, option_map}
 use Rattle.std.specs.Prelude.{Result, Ok, Err, OnOk}
 use Rattle.tds_relay.specs.Apart.{SparesOthers}
-use Rattle.tds_relay.specs.declared.desk.Desk as desks
-use Rattle.tds_relay.specs.declared.desk.coming.Heard.{Heard}
+use Rattle.tds_relay.specs.declared.pool.Pool as pools
+use Rattle.tds_relay.specs.declared.pool.coming.Heard.{Heard}
 use Rattle.tds_relay.specs.declared.link.Link.{Link}
 use Rattle.tds_relay.specs.declared.relay.Relay as code
 use Rattle.tds_relay.specs.Bodies.{AskAsBefore, AskOn, Body, Starts, Stays, body_of}
-use Rattle.tds_relay.specs.Desk as desk
-use Rattle.tds_relay.specs.Fronts.{ends_in, hall_in, house_with, told_by}
-use Rattle.tds_relay.specs.Hall.{Ends, change_whose, holder, told}
+use Rattle.tds_relay.specs.Pool as pool
+use Rattle.tds_relay.specs.Fronts.{ends_in, core_in, machine_with, told_by}
+use Rattle.tds_relay.specs.Core.{Ends, change_whose, holder, told}
 use Rattle.tds_relay.specs.Handing.{heard_key}
-use Rattle.tds_relay.specs.Posts.{posts_in}
+use Rattle.tds_relay.specs.Queues.{queues_in}
 use Rattle.tds_relay.specs.Reads.{bytes_on, link_at, waits_on}
 use Rattle.tds_relay.specs.Reasons.{HearsNothing, IsHeardAs, IsIdle}
 use Rattle.tds_relay.specs.Sending.{Sending, sending_at, sending_of}
 use Rattle.tds_relay.specs.Sparing.{AllGo, AllRest, Held, IsOff, OffGo, OffHold, OthersRest, Rests, SendsOn, held_at}
-use Rattle.tds_relay.specs.Ties.{Connection, Goes, GoesOn, IsReached, Turns, desk_in}
+use Rattle.tds_relay.specs.Ties.{Connection, Goes, GoesOn, IsReached, Turns, pool_in}
 use Rattle.tds_relay.proofs.spared.Held.{holder_is}
 use Rattle.tds_relay.proofs.spared.Only.{HeardApart, apart_or, spares_changed, spares_renewed, spares_sent}
 use Rattle.tds_relay.proofs.spared.Resting.{AsksAt, asks_on, off_rests, put_reached, rests_start, starts_both}
@@ -27,27 +27,27 @@ use Rattle.tds_relay.proofs.steps.Reaching.{reached_on, reached_turn}
 pub off_none : (number : ℕ) (who : Option ℕ) (r : code.Relay) → OffGo number who r r
 off_none number who r = record { go = λ reached key w o. Stays }
 
-pub off_then : (number : ℕ) (who : Option ℕ) (a b c : code.Relay) → OffGo number who a b → SparesOthers number who (hall_in a) (hall_in b) → (IsReached (desk_in a.desk) → IsReached (desk_in b.desk)) → OffGo number who b c → OffGo number who a c
+pub off_then : (number : ℕ) (who : Option ℕ) (a b c : code.Relay) → OffGo number who a b → SparesOthers number who (core_in a) (core_in b) → (IsReached (pool_in a.pool) → IsReached (pool_in b.pool)) → OffGo number who b c → OffGo number who a c
 off_then number who a b c h spares led k = record {
   go = λ reached key w o. starts_both (h.go reached key w o) (k.go (led reached) key w (spares key w o).0);
 }
 
-pub off_then_on : {A E : Type 0} (r : Result A E) (number : ℕ) (who : Option ℕ) (a b c : code.Relay) → OffGo number who a b → SparesOthers number who (hall_in a) (hall_in b) → (IsReached (desk_in a.desk) → IsReached (desk_in b.desk)) → OnOk r (OffGo number who b c)
+pub off_then_on : {A E : Type 0} (r : Result A E) (number : ℕ) (who : Option ℕ) (a b c : code.Relay) → OffGo number who a b → SparesOthers number who (core_in a) (core_in b) → (IsReached (pool_in a.pool) → IsReached (pool_in b.pool)) → OnOk r (OffGo number who b c)
     → OnOk r (OffGo number who a c)
 off_then_on (Ok x) number who a b c h spares led k = off_then number who a b c h spares led k
 off_then_on (Err e) number who a b c h spares led k = tt
 
 -- each stays, or each but that of one
-pub all_off : {A E : Type 0} (r : Result A E) (number : ℕ) (who : Option ℕ) (a b : code.Relay) → (IsReached (desk_in a.desk) → OnOk r (AllRest a b)) → OnOk r (OffGo number who a b)
+pub all_off : {A E : Type 0} (r : Result A E) (number : ℕ) (who : Option ℕ) (a b : code.Relay) → (IsReached (pool_in a.pool) → OnOk r (AllRest a b)) → OnOk r (OffGo number who a b)
 all_off (Ok x) number who a b h = record { go = λ reached key w o. rests_start (body_of key a) (body_of key b) ((h reached).rest key) }
 all_off (Err e) number who a b h = tt
 
-pub others_off : (number key : ℕ) (a b : code.Relay) → (IsReached (desk_in a.desk) → OthersRest key a b) → OffGo number (Some key) a b
+pub others_off : (number key : ℕ) (a b : code.Relay) → (IsReached (pool_in a.pool) → OthersRest key a b) → OffGo number (Some key) a b
 others_off number key a b h = record {
   go = λ reached other w o. rests_start (body_of other a) (body_of other b) ((h reached).rest other (λ same. w (ap (λ (n : ℕ). Some n) (sym same))));
 }
 
-pub others_off_on : {A E : Type 0} (r : Result A E) (number key : ℕ) (a b : code.Relay) → (IsReached (desk_in a.desk) → OnOk r (OthersRest key a b)) → OnOk r (OffGo number (Some key) a b)
+pub others_off_on : {A E : Type 0} (r : Result A E) (number key : ℕ) (a b : code.Relay) → (IsReached (pool_in a.pool) → OnOk r (OthersRest key a b)) → OnOk r (OffGo number (Some key) a b)
 others_off_on (Ok x) number key a b h = others_off number key a b h
 others_off_on (Err e) number key a b h = tt
 
@@ -56,12 +56,12 @@ off_more (Ok x) number who a b h = record { go = λ reached key w o. h.go reache
 off_more (Err e) number who a b h = tt
 
 -- a connection is kept by another lease, or not, and then something is done
-pub renewed_off : {A E : Type 0} (r : Result A E) (number key : ℕ) (resumes : Bool) (a b c : code.Relay) {before after : List ℕ} → (IsReached (desk_in a.desk) → OthersRest key a b)
-    → Turns (desk.Renews key resumes) (desk_in a.desk) (desk_in b.desk) before after → ends_in b.applications ≡ ends_in a.applications → OnOk r (OffGo number (Some key) b c) → OnOk r (OffGo number (Some key) a c)
+pub renewed_off : {A E : Type 0} (r : Result A E) (number key : ℕ) (resumes : Bool) (a b c : code.Relay) {before after : List ℕ} → (IsReached (pool_in a.pool) → OthersRest key a b)
+    → Turns (pool.Renews key resumes) (pool_in a.pool) (pool_in b.pool) before after → ends_in b.applications ≡ ends_in a.applications → OnOk r (OffGo number (Some key) b c) → OnOk r (OffGo number (Some key) a c)
 renewed_off (Ok x) number key resumes a b c rests t ends k = record {
   go = λ reached other w o.
-      let spares = spares_renewed number key resumes (hall_in a) (hall_in b) reached t.desk_is ends in
-      let led : IsReached (desk_in b.desk) = reached_turn _ _ _ _ _ t reached in
+      let spares = spares_renewed number key resumes (core_in a) (core_in b) reached t.pool_is ends in
+      let led : IsReached (pool_in b.pool) = reached_turn _ _ _ _ _ t reached in
       starts_both ((others_off number key a b rests).go reached other w o) (k.go led other w (spares other w o).0);
 }
 renewed_off (Err e) number key resumes a b c rests t ends k = tt
@@ -69,27 +69,27 @@ renewed_off (Err e) number key resumes a b c rests t ends k = tt
 -- ---- What is done
 
 -- whoever doesn't hold it doesn't by his client either
-pub off_held : (number key : ℕ) (d : desks.Desk) → IsReached (desk_in d) → holder (desk_in d) number ≢ Some key → IsOff number key d
+pub off_held : (number key : ℕ) (d : pools.Pool) → IsReached (pool_in d) → holder (pool_in d) number ≢ Some key → IsOff number key d
 off_held number key d reached o client e =
     let held : Held = (number, client) in
     o (holder_is d key held reached e)
 
 -- something is done on that connection alone
-pub done_off : (number : ℕ) (who : Option ℕ) (a b : code.Relay) → OffHold number a.desk b.desk → ((other : ℕ) → other ≢ number → waits_on other b.links.items ≡ waits_on other a.links.items)
+pub done_off : (number : ℕ) (who : Option ℕ) (a b : code.Relay) → OffHold number a.pool b.pool → ((other : ℕ) → other ≢ number → waits_on other b.links.items ≡ waits_on other a.links.items)
     → ((key : ℕ) → who ≢ Some key → AsksAt key a b) → OffGo number who a b
 done_off number who a b holds waits asks = record {
   go = λ reached key w o.
-      let off : IsOff number key a.desk = off_held number key a.desk reached o in
+      let off : IsOff number key a.pool = off_held number key a.pool reached o in
       rests_start (body_of key a) (body_of key b) (off_rests number key a b off (holds.hold reached key off) waits (asks key w));
 }
 
-same_hold : (number : ℕ) (d e : desks.Desk) → e ≡ d → OffHold number d e
+same_hold : (number : ℕ) (d e : pools.Pool) → e ≡ d → OffHold number d e
 same_hold number d e same = record { hold = λ reached key off. inl (ap (held_at key) same) }
 
--- the desk is as it was
-pub link_off : {A E : Type 0} (r : Result A E) (number : ℕ) (who : Option ℕ) (a b : code.Relay) → b.desk ≡ a.desk → OnOk r ((other : ℕ) → other ≢ number → waits_on other b.links.items ≡ waits_on other a.links.items)
+-- the pool is as it was
+pub link_off : {A E : Type 0} (r : Result A E) (number : ℕ) (who : Option ℕ) (a b : code.Relay) → b.pool ≡ a.pool → OnOk r ((other : ℕ) → other ≢ number → waits_on other b.links.items ≡ waits_on other a.links.items)
     → OnOk r (AskOn a.applications b.applications) → OnOk r (OffGo number who a b)
-link_off (Ok x) number who a b at waits asks = done_off number who a b (same_hold number a.desk b.desk at) waits (λ key w. asks key)
+link_off (Ok x) number who a b at waits asks = done_off number who a b (same_hold number a.pool b.pool at) waits (λ key w. asks key)
 link_off (Err e) number who a b at waits asks = tt
 
 pub asks_more : {A E : Type 0} (r : Result A E) (a b : code.Relay) → OnOk r (AskAsBefore a.applications b.applications) → OnOk r (AskOn a.applications b.applications)
@@ -97,33 +97,33 @@ asks_more (Ok x) a b h = asks_on a b h
 asks_more (Err e) a b h = tt
 
 -- and the connections are
-pub same_off : {A E : Type 0} (r : Result A E) (number : ℕ) (who : Option ℕ) (a b : code.Relay) → b.desk ≡ a.desk → OnOk r (b.links.items ≡ a.links.items) → OnOk r (AskOn a.applications b.applications) → OnOk r (OffGo number who a b)
-same_off (Ok x) number who a b at links asks = done_off number who a b (same_hold number a.desk b.desk at) (λ other differs. ap (waits_on other) links) (λ key w. asks key)
+pub same_off : {A E : Type 0} (r : Result A E) (number : ℕ) (who : Option ℕ) (a b : code.Relay) → b.pool ≡ a.pool → OnOk r (b.links.items ≡ a.links.items) → OnOk r (AskOn a.applications b.applications) → OnOk r (OffGo number who a b)
+same_off (Ok x) number who a b at links asks = done_off number who a b (same_hold number a.pool b.pool at) (λ other differs. ap (waits_on other) links) (λ key w. asks key)
 same_off (Err e) number who a b at links asks = tt
 
-pub told_off : (number : ℕ) (who : Option ℕ) (a b : code.Relay) → b.desk ≡ a.desk → b.links.items ≡ a.links.items → ((key : ℕ) → who ≢ Some key → AsksAt key a b) → OffGo number who a b
-told_off number who a b at links asks = done_off number who a b (same_hold number a.desk b.desk at) (λ other differs. ap (waits_on other) links) asks
+pub told_off : (number : ℕ) (who : Option ℕ) (a b : code.Relay) → b.pool ≡ a.pool → b.links.items ≡ a.links.items → ((key : ℕ) → who ≢ Some key → AsksAt key a b) → OffGo number who a b
+told_off number who a b at links asks = done_off number who a b (same_hold number a.pool b.pool at) (λ other differs. ap (waits_on other) links) asks
 
--- the desk has lost it
-pub lost_off : {A E : Type 0} (r : Result A E) (number : ℕ) (who : Option ℕ) (a b : code.Relay) (d : desks.Desk) → OffHold number a.desk d → b.desk ≡ d → OnOk r ((other : ℕ) → other ≢ number → waits_on other b.links.items ≡ waits_on other a.links.items)
+-- the pool has lost it
+pub lost_off : {A E : Type 0} (r : Result A E) (number : ℕ) (who : Option ℕ) (a b : code.Relay) (d : pools.Pool) → OffHold number a.pool d → b.pool ≡ d → OnOk r ((other : ℕ) → other ≢ number → waits_on other b.links.items ≡ waits_on other a.links.items)
     → OnOk r (AskOn a.applications b.applications) → OnOk r (OffGo number who a b)
-lost_off (Ok x) number who a b d holds at waits asks = done_off number who a b (subst (λ (e : desks.Desk). OffHold number a.desk e) (sym at) holds) waits (λ key w. asks key)
+lost_off (Ok x) number who a b d holds at waits asks = done_off number who a b (subst (λ (e : pools.Pool). OffHold number a.pool e) (sym at) holds) waits (λ key w. asks key)
 lost_off (Err e) number who a b d holds at waits asks = tt
 
 -- and whoever held it stays
-pub parted_off : (number : ℕ) (who : Option ℕ) (a t b : code.Relay) (d : desks.Desk) → OffHold number a.desk d → b.desk ≡ d → ((other : ℕ) → other ≢ number → waits_on other b.links.items ≡ waits_on other t.links.items) → t.links.items ≡ a.links.items
+pub parted_off : (number : ℕ) (who : Option ℕ) (a t b : code.Relay) (d : pools.Pool) → OffHold number a.pool d → b.pool ≡ d → ((other : ℕ) → other ≢ number → waits_on other b.links.items ≡ waits_on other t.links.items) → t.links.items ≡ a.links.items
     → AskAsBefore a.applications t.applications → AskAsBefore t.applications b.applications → OffGo number who a b
 parted_off number who a t b d holds at waits links first then =
-    done_off number who a b (subst (λ (e : desks.Desk). OffHold number a.desk e) (sym at) holds) (λ other differs. waits other differs ∙ ap (waits_on other) links) (λ key w goes. inl (then key goes ∙ first key goes))
+    done_off number who a b (subst (λ (e : pools.Pool). OffHold number a.pool e) (sym at) holds) (λ other differs. waits other differs ∙ ap (waits_on other) links) (λ key w goes. inl (then key goes ∙ first key goes))
 
-sends_rests : (number key : ℕ) (a b : code.Relay) → IsReached (desk_in a.desk) → IsOff number key a.desk → SendsOn number a b → AskOn a.applications b.applications → Rests (body_of key a) (body_of key b)
+sends_rests : (number key : ℕ) (a b : code.Relay) → IsReached (pool_in a.pool) → IsOff number key a.pool → SendsOn number a b → AskOn a.applications b.applications → Rests (body_of key a) (body_of key b)
 sends_rests number key a b reached off (inl sent) asks = off_rests number key a b off (inl (ap (held_at key) sent.0)) sent.1 (asks key)
 sends_rests number key a b reached off (inr all) asks = all.rest key
 
--- what the desk has to send is sent there
-pub sends_off : (number : ℕ) (who : Option ℕ) (a b : code.Relay) → (IsReached (desk_in a.desk) → SendsOn number a b) → AskOn a.applications b.applications → OffGo number who a b
+-- what the pool has to send is sent there
+pub sends_off : (number : ℕ) (who : Option ℕ) (a b : code.Relay) → (IsReached (pool_in a.pool) → SendsOn number a b) → AskOn a.applications b.applications → OffGo number who a b
 sends_off number who a b sends asks = record {
-  go = λ reached key w o. rests_start (body_of key a) (body_of key b) (sends_rests number key a b reached (off_held number key a.desk reached o) (sends reached) asks);
+  go = λ reached key w o. rests_start (body_of key a) (body_of key b) (sends_rests number key a b reached (off_held number key a.pool reached o) (sends reached) asks);
 }
 
 -- whose body stays behind that
@@ -141,21 +141,21 @@ waits_sent other old new same =
     sym (sent_by (link_at other new)) ∙ ap (option_map (λ (s : Sending). s.1)) same ∙ sent_by (link_at other old)
 
 -- it is told to whom it comes, and what goes out is sent
-pub sent_off : (number : ℕ) (o : Option Heard) (h : Heard) (a t b : code.Relay) → o ≡ Some h → t.desk ≡ a.desk → t.links.items ≡ a.links.items → ends_in t.applications ≡ change_whose h.key (told h.what) (ends_in a.applications)
-    → ((key : ℕ) → h.key ≢ Some key → AsksAt key a t) → (IsReached (desk_in t.desk) → SendsOn number t b) → AskOn t.applications b.applications → OffGo number (heard_key o) a b
+pub sent_off : (number : ℕ) (o : Option Heard) (h : Heard) (a t b : code.Relay) → o ≡ Some h → t.pool ≡ a.pool → t.links.items ≡ a.links.items → ends_in t.applications ≡ change_whose h.key (told h.what) (ends_in a.applications)
+    → ((key : ℕ) → h.key ≢ Some key → AsksAt key a t) → (IsReached (pool_in t.pool) → SendsOn number t b) → AskOn t.applications b.applications → OffGo number (heard_key o) a b
 sent_off number o h a t b is at links ends tells sends asks =
-    let led : IsReached (desk_in a.desk) → IsReached (desk_in t.desk) = λ reached. subst (λ (d : desks.Desk). IsReached (desk_in d)) (sym at) reached in
-    let spares : SparesOthers number h.key (hall_in a) (hall_in t) = spares_changed number h.key (told h.what) (hall_in a) (hall_in t) (ap desk_in at) ends in
+    let led : IsReached (pool_in a.pool) → IsReached (pool_in t.pool) = λ reached. subst (λ (d : pools.Pool). IsReached (pool_in d)) (sym at) reached in
+    let spares : SparesOthers number h.key (core_in a) (core_in t) = spares_changed number h.key (told h.what) (core_in a) (core_in t) (ap pool_in at) ends in
     subst (λ (x : Option Heard). OffGo number (heard_key x) a b) (sym is)
     (off_then number h.key a t b (told_off number h.key a t at links tells) spares led (sends_off number h.key t b sends asks))
 
 -- and something behind that
-pub behind_sent : {A E : Type 0} (r : Result A E) (number : ℕ) (o : Option Heard) (h : Heard) (a t b c : code.Relay) → o ≡ Some h → t.desk ≡ a.desk → t.links.items ≡ a.links.items
-    → ends_in t.applications ≡ change_whose h.key (told h.what) (ends_in a.applications) → ((key : ℕ) → h.key ≢ Some key → AsksAt key a t) → (IsReached (desk_in t.desk) → SendsOn number t b) → AskOn t.applications b.applications
-    → GoesOn (desk_in t.desk) (desk_in b.desk) → SparesOthers number None (hall_in t) (hall_in b) → OnOk r (OffGo number (heard_key o) b c) → OnOk r (OffGo number (heard_key o) a c)
+pub behind_sent : {A E : Type 0} (r : Result A E) (number : ℕ) (o : Option Heard) (h : Heard) (a t b c : code.Relay) → o ≡ Some h → t.pool ≡ a.pool → t.links.items ≡ a.links.items
+    → ends_in t.applications ≡ change_whose h.key (told h.what) (ends_in a.applications) → ((key : ℕ) → h.key ≢ Some key → AsksAt key a t) → (IsReached (pool_in t.pool) → SendsOn number t b) → AskOn t.applications b.applications
+    → GoesOn (pool_in t.pool) (pool_in b.pool) → SparesOthers number None (core_in t) (core_in b) → OnOk r (OffGo number (heard_key o) b c) → OnOk r (OffGo number (heard_key o) a c)
 behind_sent r number o h a t b c is at links ends tells sends asks goes spares done =
     off_then_on r number (heard_key o) a b c (sent_off number o h a t b is at links ends tells sends asks) (spares_sent number o h a t b is at ends spares)
-    (λ reached. put_reached t.desk b.desk b.desk goes refl (subst (λ (d : desks.Desk). IsReached (desk_in d)) (sym at) reached)) done
+    (λ reached. put_reached t.pool b.pool b.pool goes refl (subst (λ (d : pools.Pool). IsReached (pool_in d)) (sym at) reached)) done
 
 -- and then something is done for whose it is
 pub whose_off : {A E : Type 0} (r : Result A E) (number : ℕ) (o : Option Heard) (h : Heard) (key : ℕ) (a b : code.Relay) → o ≡ Some h → h.key ≡ Some key → OnOk r (OffGo number (Some key) a b) → OnOk r (OffGo number (heard_key o) a b)
@@ -163,25 +163,25 @@ whose_off (Ok x) number o h key a b is its k = subst (λ (w : Option ℕ). OffGo
 whose_off (Err e) number o h key a b is its k = tt
 
 -- one behind the others
-pub one_off : (number : ℕ) (left : List ℕ) (o : Option Heard) (first a b c : code.Relay) (es : Ends) → Goes (Connection number) (desk_in first.desk) (desk_in a.desk) → OffGo number None first a
-    → (IsReached (desk_in first.desk) → SparesOthers number None (hall_in first) (hall_in a))
-    → (HearsNothing o × IsIdle a b) ⊎ IsHeardAs number left o a (house_with (desk_in b.desk) (told_by o es) (posts_in b.applications)) → Goes (Connection number) (desk_in a.desk) (desk_in b.desk)
-    → OffHold number a.desk b.desk → ((other : ℕ) → sending_at other b.links.items ≡ sending_at other a.links.items) → AskAsBefore a.applications b.applications
+pub one_off : (number : ℕ) (left : List ℕ) (o : Option Heard) (first a b c : code.Relay) (es : Ends) → Goes (Connection number) (pool_in first.pool) (pool_in a.pool) → OffGo number None first a
+    → (IsReached (pool_in first.pool) → SparesOthers number None (core_in first) (core_in a))
+    → (HearsNothing o × IsIdle a b) ⊎ IsHeardAs number left o a (machine_with (pool_in b.pool) (told_by o es) (queues_in b.applications)) → Goes (Connection number) (pool_in a.pool) (pool_in b.pool)
+    → OffHold number a.pool b.pool → ((other : ℕ) → sending_at other b.links.items ≡ sending_at other a.links.items) → AskAsBefore a.applications b.applications
     → OffGo number (heard_key o) b c → OffGo number None first c
 one_off number left o first a b c es before had spares hears goes holds sends asks done = record {
   go = λ reached key w none.
-      let there : IsReached (desk_in a.desk) = reached_on (Connection number) (desk_in first.desk) (desk_in a.desk) before reached in
-      let behind : IsReached (desk_in b.desk) = reached_on (Connection number) (desk_in a.desk) (desk_in b.desk) goes there in
-      let still : holder (desk_in a.desk) number ≢ Some key = (spares reached key w none).0 in
-      let apart : HeardApart number o (desk_in a.desk) (desk_in b.desk) = apart_or number left o a b (house_with (desk_in b.desk) (told_by o es) (posts_in b.applications)) there hears refl in
+      let there : IsReached (pool_in a.pool) = reached_on (Connection number) (pool_in first.pool) (pool_in a.pool) before reached in
+      let behind : IsReached (pool_in b.pool) = reached_on (Connection number) (pool_in a.pool) (pool_in b.pool) goes there in
+      let still : holder (pool_in a.pool) number ≢ Some key = (spares reached key w none).0 in
+      let apart : HeardApart number o (pool_in a.pool) (pool_in b.pool) = apart_or number left o a b (machine_with (pool_in b.pool) (told_by o es) (queues_in b.applications)) there hears refl in
       let heard : OffGo number None a b = done_off number None a b holds (λ other differs. waits_sent other a.links.items b.links.items (sends other)) (λ k v. asks_on a b asks k) in
       starts_both (had.go reached key w none)
       (starts_both (heard.go there key w still) (done.go behind key (λ is. still (apart.whose key is)) (λ is. still (apart.fewer number key is))));
 }
 
 -- and those who wait are served
-pub served_off : {A E : Type 0} (r : Result A E) (number : ℕ) (a b c : code.Relay) → Goes (Connection number) (desk_in a.desk) (desk_in b.desk) → OffGo number None a b → OnOk r (AllGo b c) → OnOk r (OffGo number None a c)
+pub served_off : {A E : Type 0} (r : Result A E) (number : ℕ) (a b c : code.Relay) → Goes (Connection number) (pool_in a.pool) (pool_in b.pool) → OffGo number None a b → OnOk r (AllGo b c) → OnOk r (OffGo number None a c)
 served_off (Ok x) number a b c goes h k = record {
-  go = λ reached key w o. starts_both (h.go reached key w o) (k.go (reached_on (Connection number) (desk_in a.desk) (desk_in b.desk) goes reached) key);
+  go = λ reached key w o. starts_both (h.go reached key w o) (k.go (reached_on (Connection number) (pool_in a.pool) (pool_in b.pool) goes reached) key);
 }
 served_off (Err e) number a b c goes h k = tt

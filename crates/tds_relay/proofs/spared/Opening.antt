@@ -4,19 +4,19 @@ use Rattle.std.specs.Prelude.{Result, Ok, Err, OnOk, nat_lt}
 use Rattle.tds_wire.specs.declared.told.Token.{Token}
 use Rattle.tds_service.specs.Service as calls
 use Rattle.tds_service.specs.Service.{Call, Seat, Service, find_by, is_lendable, step, service_after}
-use Rattle.tds_relay.specs.declared.desk.Served.{Served}
+use Rattle.tds_relay.specs.declared.pool.Served.{Served}
 use Rattle.tds_relay.specs.declared.link.Link.{Link}
 use Rattle.tds_relay.specs.declared.order.Order.{Order}
 use Rattle.tds_relay.specs.declared.order.Order.TheVariants as orders
 use Rattle.tds_relay.specs.declared.relay.Relay as code
 use Rattle.tds_relay.specs.Reads.{Stays}
-use Rattle.tds_relay.specs.Desk as desk
-use Rattle.tds_relay.specs.Desk.{Desk, Event, desk_after}
+use Rattle.tds_relay.specs.Pool as pool
+use Rattle.tds_relay.specs.Pool.{Pool, Event, pool_after}
 use Rattle.tds_relay.specs.Fronting.{calls_along}
 use Rattle.tds_relay.specs.Ordering.{GrowsByOrders, OpensNew, Rise, opens_if, opens_in}
-use Rattle.tds_relay.specs.Ties.{Cause, Goes, GoesOn, Leaving, Neither, Reaches, Serving, Turns, desk_in}
+use Rattle.tds_relay.specs.Ties.{Cause, Goes, GoesOn, Leaving, Neither, Reaches, Serving, Turns, pool_in}
 use Rattle.tds_relay.proofs.bytes.Walking.{Leaves, step_leaves}
-use Rattle.tds_relay.proofs.seats.Desks.{serves_at}
+use Rattle.tds_relay.proofs.seats.Pools.{serves_at}
 use Rattle.tds_relay.proofs.steps.Calling.{service_along}
 use Rattle.tds_relay.proofs.steps.Reaching.{reaches_left}
 
@@ -59,37 +59,37 @@ all_last s (call ∷ all) =
     let three : s.last ≤ (step s call).service.last = one.rises in
     omega (arith, two, three)
 
-along_last : (d : Desk) (events : List Event) → d.service.last ≤ (desk_after d events).service.last
+along_last : (d : Pool) (events : List Event) → d.service.last ≤ (pool_after d events).service.last
 along_last d events = subst (λ (s : Service). d.service.last ≤ s.last) (sym (service_along d events)) (all_last d.service (calls_along d events))
 
-reaches_last : (by : Cause) (d e : Desk) → Reaches by d e → d.service.last ≤ e.service.last
-reaches_last by d e r = subst (λ (x : Desk). d.service.last ≤ x.service.last) r.are (along_last d r.events)
+reaches_last : (by : Cause) (d e : Pool) → Reaches by d e → d.service.last ≤ e.service.last
+reaches_last by d e r = subst (λ (x : Pool). d.service.last ≤ x.service.last) r.are (along_last d r.events)
 
-pub goes_last : (by : Cause) (d e : Desk) → Goes by d e → d.service.last ≤ e.service.last
+pub goes_last : (by : Cause) (d e : Pool) → Goes by d e → d.service.last ≤ e.service.last
 goes_last by d e g = reaches_last by d e (g d (record { events = []; are = refl; caused = tt }))
 
-pub on_last : (d e : Desk) → GoesOn d e → d.service.last ≤ e.service.last
+pub on_last : (d e : Pool) → GoesOn d e → d.service.last ≤ e.service.last
 on_last d e g = goes_last Neither d e (g Neither)
 
-pub left_last : (key : ℕ) (d e : Desk) → Leaving key d e → d.service.last ≤ e.service.last
+pub left_last : (key : ℕ) (d e : Pool) → Leaving key d e → d.service.last ≤ e.service.last
 left_last key d e l = reaches_last _ d e (reaches_left key d d e l (record { events = []; are = refl; caused = tt }))
 
-pub turn_last : (event : Event) (d e : Desk) (before after : List ℕ) → Turns event d e before after → d.service.last ≤ e.service.last
-turn_last event d e before after t = subst (λ (x : Desk). d.service.last ≤ x.service.last) (sym t.desk_is) (along_last d (event ∷ []))
+pub turn_last : (event : Event) (d e : Pool) (before after : List ℕ) → Turns event d e before after → d.service.last ≤ e.service.last
+turn_last event d e before after t = subst (λ (x : Pool). d.service.last ≤ x.service.last) (sym t.pool_is) (along_last d (event ∷ []))
 
 -- ---- Call behind call
 
 pub opens_none : (r : code.Relay) → OpensNew r r
-opens_none r = record { more = []; are = sym (append-nil (opens_in r.orders.items)); rise = (let le : r.desk.service.last ≤ r.desk.service.last = omega arith in le) }
+opens_none r = record { more = []; are = sym (append-nil (opens_in r.orders.items)); rise = (let le : r.pool.service.last ≤ r.pool.service.last = omega arith in le) }
 
-pub opens_same : (a b : code.Relay) → opens_in b.orders.items ≡ opens_in a.orders.items → a.desk.service.last ≤ b.desk.service.last → OpensNew a b
+pub opens_same : (a b : code.Relay) → opens_in b.orders.items ≡ opens_in a.orders.items → a.pool.service.last ≤ b.pool.service.last → OpensNew a b
 opens_same a b same le = record { more = []; are = same ∙ sym (append-nil (opens_in a.orders.items)); rise = le }
 
 pub opens_new_both : (a b c : code.Relay) → OpensNew a b → OpensNew b c → OpensNew a c
 opens_new_both a b c h k = record {
   more = h.more ++ k.more;
   are = k.are ∙ ap (λ (ns : List ℕ). ns ++ k.more) h.are ∙ append_assoc (opens_in a.orders.items) h.more k.more;
-  rise = rise_both a.desk.service.last b.desk.service.last c.desk.service.last h.more k.more h.rise k.rise;
+  rise = rise_both a.pool.service.last b.pool.service.last c.pool.service.last h.more k.more h.rise k.rise;
 }
 
 pub opens_new_on : {A E : Type 0} (r : Result A E) (a b c : code.Relay) → OpensNew a b → OnOk r (OpensNew b c) → OnOk r (OpensNew a c)
@@ -108,22 +108,22 @@ lent_last : (s : Service) (o : Option Seat) (lease number : ℕ) → (calls.lend
 lent_last s None lease number e = opened_last s (nat_lt (length s.seats) s.max) lease number e
 lent_last s (Some c) lease number e = absurd (let u : ⊥ = cc in u)
 
-module _ (served : Served) (d e : Desk) (before after : List ℕ) (t : Turns desk.Serves d e before after) (serving : Serving d (Some served)) where
+module _ (served : Served) (d e : Pool) (before after : List ℕ) (t : Turns pool.Serves d e before after) (serving : Serving d (Some served)) where
   served_rise : (had : Bool) → served.had ≡ had → Rise d.service.last e.service.last (opens_if had served.hold.number)
-  served_rise true is = turn_last desk.Serves d e before after t
+  served_rise true is = turn_last pool.Serves d e before after t
   served_rise false is =
       let reply : (step {T = Token} d.service calls.Lease).reply ≡ calls.Lent served.hold.lease served.hold.number false = serving.2 ∙ ap (λ (b : Bool). calls.Lent served.hold.lease served.hold.number b) is in
       let same : e.service ≡ (step {T = Token} d.service calls.Lease).service =
-      ap (λ (x : Desk). x.service) t.desk_is ∙ serves_at d d.line served.hold.key serving.0 served.hold.lease served.hold.number served.had serving.1 serving.2 in
+      ap (λ (x : Pool). x.service) t.pool_is ∙ serves_at d d.line served.hold.key serving.0 served.hold.lease served.hold.number served.had serving.1 serving.2 in
       subst (λ (s : Service). Rise d.service.last s.last (served.hold.number ∷ [])) (sym same) (lent_last d.service (find_by is_lendable d.service.seats) served.hold.lease served.hold.number reply)
 
 -- by the order of a call that goes on behind it
-pub lent_opens : (served : Served) (a b : code.Relay) (e : Desk) (before after : List ℕ) → Turns desk.Serves (desk_in a.desk) e before after → Serving (desk_in a.desk) (Some served)
-    → opens_in b.orders.items ≡ opens_in a.orders.items ++ opens_if served.had served.hold.number → e.service.last ≤ b.desk.service.last → OpensNew a b
+pub lent_opens : (served : Served) (a b : code.Relay) (e : Pool) (before after : List ℕ) → Turns pool.Serves (pool_in a.pool) e before after → Serving (pool_in a.pool) (Some served)
+    → opens_in b.orders.items ≡ opens_in a.orders.items ++ opens_if served.had served.hold.number → e.service.last ≤ b.pool.service.last → OpensNew a b
 lent_opens served a b e before after t serving are le = record {
   more = opens_if served.had served.hold.number;
   are = are;
-  rise = rise_on a.desk.service.last e.service.last b.desk.service.last (opens_if served.had served.hold.number) (served_rise served (desk_in a.desk) e before after t serving served.had refl) le;
+  rise = rise_on a.pool.service.last e.service.last b.pool.service.last (opens_if served.had served.hold.number) (served_rise served (pool_in a.pool) e before after t serving served.had refl) le;
 }
 
 -- ---- How many are there

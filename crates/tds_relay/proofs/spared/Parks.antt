@@ -11,47 +11,47 @@ use Rattle.tds_relay.specs.declared.relay.Relay as code
 use Rattle.tds_relay.specs.Apart.{UnlessServed}
 use Rattle.tds_relay.specs.Bodies.{AskOn, Body, Closed, Spared, body_by, body_in, body_of, going_of}
 use Rattle.tds_relay.specs.Few.{Few, NoneNew}
-use Rattle.tds_relay.specs.Fronts.{hall_in}
-use Rattle.tds_relay.specs.Hall.{End, Ends, Hall, change_end, end_at, is_in, lets_go, may_park}
+use Rattle.tds_relay.specs.Fronts.{core_in}
+use Rattle.tds_relay.specs.Core.{End, Ends, Core, change_end, end_at, is_in, lets_go, may_park}
 use Rattle.tds_relay.specs.Parking.{has_no_request, is_asking_nothing, may_park_in}
 use Rattle.tds_relay.specs.Sparing.{AllGo, OthersRest, Rests}
-use Rattle.tds_relay.specs.Ties.{IsReached, Leaving, desk_in}
+use Rattle.tds_relay.specs.Ties.{IsReached, Leaving, pool_in}
 use Rattle.tds_relay.proofs.spared.Apart.{set_apart}
 use Rattle.tds_relay.proofs.spared.Lines.{waited_left}
 use Rattle.tds_relay.proofs.spared.Resting.{go_one, rests_start}
 use Rattle.tds_relay.proofs.steps.Fronts.{changed_at}
 use Rattle.tds_relay.proofs.steps.Parked.{and_first, and_second, rested}
 
-pub parks : (r : code.Relay) (key : ℕ) → may_park_in r key ≡ true → may_park (hall_in r) key ≡ true
-parks r key e = and_first (may_park (hall_in r) key) (has_no_request (get r.applications key)) e
+pub parks : (r : code.Relay) (key : ℕ) → may_park_in r key ≡ true → may_park (core_in r) key ≡ true
+parks r key e = and_first (may_park (core_in r) key) (has_no_request (get r.applications key)) e
 
 pub asks_none : (r : code.Relay) (key : ℕ) → may_park_in r key ≡ true → has_no_request (get r.applications key) ≡ true
-asks_none r key e = and_second (may_park (hall_in r) key) (has_no_request (get r.applications key)) e
+asks_none r key e = and_second (may_park (core_in r) key) (has_no_request (get r.applications key)) e
 
 -- ---- The ends
 
-at_rest : (o : Option End) (h : Hall) (key : ℕ) → may_park h key ≡ true → o ≡ option_map lets_go (end_at h.ends key) → o ≡ end_at h.ends key
+at_rest : (o : Option End) (h : Core) (key : ℕ) → may_park h key ≡ true → o ≡ option_map lets_go (end_at h.ends key) → o ≡ end_at h.ends key
 at_rest o h key e is =
     let r = rested h key e in
     is ∙ ap (option_map lets_go) r.end ∙ sym r.end
 
-kept_by : (h : Hall) (key other : ℕ) (es : Ends) → (other ≡ key) ⊎ (other ≢ key) → may_park h key ≡ true → es ≡ change_end key lets_go h.ends → end_at es other ≡ end_at h.ends other
+kept_by : (h : Core) (key other : ℕ) (es : Ends) → (other ≡ key) ⊎ (other ≢ key) → may_park h key ≡ true → es ≡ change_end key lets_go h.ends → end_at es other ≡ end_at h.ends other
 kept_by h key other es (inl same) e is =
     subst (λ (k : ℕ). end_at es k ≡ end_at h.ends k) (sym same)
     (at_rest (end_at es key) h key e (ap (λ (xs : Ends). end_at xs key) is ∙ changed_at h.ends key lets_go))
 kept_by h key other es (inr differs) e is = ap (λ (xs : Ends). end_at xs other) is ∙ set_apart h.ends key other (option_map lets_go (end_at h.ends key)) differs
 
 -- Who is at rest has nothing there that is let go with its connection.
-pub ends_stay : (h : Hall) (key : ℕ) (es : Ends) → may_park h key ≡ true → es ≡ change_end key lets_go h.ends → (other : ℕ) → end_at es other ≡ end_at h.ends other
+pub ends_stay : (h : Core) (key : ℕ) (es : Ends) → may_park h key ≡ true → es ≡ change_end key lets_go h.ends → (other : ℕ) → end_at es other ≡ end_at h.ends other
 ends_stay h key es e is other = kept_by h key other es (cases_eq other key) e is
 
 out_by : (b c : Bool) → (b ≡ true → c ≡ true) → c ≡ false → b ≡ false
 out_by true c f e = absurd (let u : true ≡ false = sym (f refl) ∙ e in let v : ⊥ = cc in v)
 out_by false c f e = refl
 
-pub parked_apart : (old mid new : Hall) (key : ℕ) → may_park old key ≡ true → mid.ends ≡ change_end key lets_go old.ends → Leaving key old.desk mid.desk → UnlessServed mid new → UnlessServed old new
+pub parked_apart : (old mid new : Core) (key : ℕ) → may_park old key ≡ true → mid.ends ≡ change_end key lets_go old.ends → Leaving key old.pool mid.pool → UnlessServed mid new → UnlessServed old new
 parked_apart old mid new key e is leaving served = λ other out.
-    served other (out_by (is_in other mid.desk.line) (is_in other old.desk.line) (waited_left key old.desk mid.desk leaving other) out) ∙ ends_stay old key mid.ends e is other
+    served other (out_by (is_in other mid.pool.line) (is_in other old.pool.line) (waited_left key old.pool mid.pool leaving other) out) ∙ ends_stay old key mid.ends e is other
 
 -- ---- The requests
 
@@ -68,7 +68,7 @@ own_rests : (key : ℕ) (old mid : code.Relay) → has_no_request (get old.appli
 own_rests key old mid none asks =
     inl (subst (λ (b : Body). Spared b (body_of key mid)) (alike (get old.applications key) (going_of key mid) (going_of key old) none) (asks key (going_of key mid)))
 
-pub parked_go : (key : ℕ) (old mid : code.Relay) → has_no_request (get old.applications key) ≡ true → AskOn old.applications mid.applications → (IsReached (desk_in old.desk) → OthersRest key old mid) → AllGo old mid
+pub parked_go : (key : ℕ) (old mid : code.Relay) → has_no_request (get old.applications key) ≡ true → AskOn old.applications mid.applications → (IsReached (pool_in old.pool) → OthersRest key old mid) → AllGo old mid
 parked_go key old mid none asks others = go_one key old mid (rests_start (body_of key old) (body_of key mid) (own_rests key old mid none asks)) others
 
 -- ---- The connections

@@ -19,24 +19,24 @@ use Rattle.tds_service.specs.Table.{Refuses, client_of, service_in}
 use Rattle.tds_relay.specs.declared.application.Application.{Application}
 use Rattle.tds_relay.specs.declared.application.Asking.{Asking}
 use Rattle.tds_relay.specs.declared.application.Asking.TheVariants as asking
-use Rattle.tds_relay.specs.declared.desk.Desk as desks
-use Rattle.tds_relay.specs.declared.desk.Hold.{Hold}
+use Rattle.tds_relay.specs.declared.pool.Pool as pools
+use Rattle.tds_relay.specs.declared.pool.Hold.{Hold}
 use Rattle.tds_relay.specs.declared.link.Link.{Link}
 use Rattle.tds_relay.specs.declared.relay.Relay as code
-use Rattle.tds_relay.specs.Bodies.{Body, Carries, ClientPuts, ClientStops, Closed, IsHalting, Kept, Nowhere, Spared, body_by, body_in, body_of, going, going_by}
+use Rattle.tds_relay.specs.Bodies.{Body, ClientPuts, ClientStops, Closed, IsHalting, Kept, Nowhere, Spared, body_by, body_in, body_of, going, going_by}
 use Rattle.tds_relay.specs.Closings.{ClosesOnly, IsNoRequest, Itself, Register}
-use Rattle.tds_relay.specs.Desk.{find_key}
-use Rattle.tds_relay.specs.Fronts.{house_in}
-use Rattle.tds_relay.specs.Hall.{End, IfOpen}
-use Rattle.tds_relay.specs.Posts.{Post, Posts, post_at, post_of, posts_in}
-use Rattle.tds_relay.specs.Reads.{Stays, waits_on}
+use Rattle.tds_relay.specs.Pool.{find_key}
+use Rattle.tds_relay.specs.Core.{End, IfOpen}
+use Rattle.tds_relay.specs.Queues.{Queue, Queues, queue_at, queue_of, queues_in}
+use Rattle.tds_relay.specs.Reads.{waits_on}
 use Rattle.tds_relay.specs.Holding.{Held}
-use Rattle.tds_relay.specs.Reasons.{ByLoan, CannotAsk, CannotBegin, CannotForget, CannotGoOn, CannotPut, CannotStart, CannotUnask, ForReasonOrWaiting, HasNoRoom, IsAstray, IsLentBehind, IsLentInVain, IsOverfull, IsReadyThere, IsReason, IsTurnedAway, IsUnbegun, IsUncancelled, IsUnheld, IsUnstopped, ItselfFor, MayClose, RefusesThere, StopsUnfit, room_left}
-use Rattle.tds_relay.specs.Ties.{Application as ByApplication, Goes, desk_in}
+use Rattle.tds_relay.specs.Waiting.{ByLoan, ForReasonOrWaiting, IsLentBehind, IsLentInVain, IsTakenTo}
+use Rattle.tds_relay.specs.Reasons.{CannotAsk, CannotBegin, CannotForget, CannotGoOn, CannotPut, CannotStart, CannotUnask, HasNoRoom, IsAstray, IsOverfull, IsReadyThere, IsReason, IsTurnedAway, IsUnbegun, IsUncancelled, IsUnheld, IsUnstopped, ItselfFor, MayClose, RefusesThere, StopsUnfit, room_left}
+use Rattle.tds_relay.specs.Ties.{Application as ByApplication, Goes, pool_in}
 use Rattle.tds_relay.specs.Told.{room_to_keep}
 use Rattle.tds_relay.proofs.spared.Closings.{closes_more_on}
 use Rattle.tds_relay.proofs.spared.Lines.{ItselfOrWaiting, waited_or}
-use Rattle.tds_relay.proofs.steps.Posting.{post_is}
+use Rattle.tds_relay.proofs.steps.Queueing.{queue_is}
 
 pub for_reason : {A E : Type 0} (r : Result A E) (key : ℕ) (R : Type 0) (a b : Register) → R → OnOk r (ClosesOnly (Itself key) a b) → OnOk r (ClosesOnly (ItselfFor key R) a b)
 for_reason r key R a b why h = closes_more_on r (Itself key) (ItselfFor key R) a b (λ other same. (same, why)) h
@@ -49,57 +49,57 @@ for_any r key R a b h = closes_more_on r (ItselfFor key R) (Itself key) a b (λ 
 
 -- ---- It can't go on
 
-nothing_by : (over whole : Bool) (more : List ℕ) (key : ℕ) (end : Option End) (room : ℕ) (d : desks.Desk) (links : List Link) → CannotGoOn whole more key end room d links (if over then Closed else Nowhere)
+nothing_by : (over whole : Bool) (more : List ℕ) (key : ℕ) (end : Option End) (room : ℕ) (d : pools.Pool) (links : List Link) → CannotGoOn whole more key end room d links (if over then Closed else Nowhere)
 nothing_by true whole more key end room d links = tt
 nothing_by false whole more key end room d links = tt
 
-pub nothing_goes : (whole : Bool) (more : List ℕ) (key : ℕ) (end : Option End) (room : ℕ) (d : desks.Desk) (links : List Link) (o : Option Application) (a : Application) (g : Body) → Some a ≡ o → a.asking ≡ asking.Nothing
+pub nothing_goes : (whole : Bool) (more : List ℕ) (key : ℕ) (end : Option End) (room : ℕ) (d : pools.Pool) (links : List Link) (o : Option Application) (a : Application) (g : Body) → Some a ≡ o → a.asking ≡ asking.Nothing
     → CannotGoOn whole more key end room d links (body_in o g)
 nothing_goes whole more key end room d links o a g is asks =
     subst (λ (x : Option Application). CannotGoOn whole more key end room d links (body_in x g)) is
     (subst (λ (x : Asking). CannotGoOn whole more key end room d links (if a.is_over then Closed else body_by x a.held.items g)) (sym asks) (nothing_by a.is_over whole more key end room d links))
 
-abbrev CannotGrow : Bool → List ℕ → ℕ → Option End → ℕ → desks.Desk → List Link → MessageKind → List ℕ → Type 0
+abbrev CannotGrow : Bool → List ℕ → ℕ → Option End → ℕ → pools.Pool → List Link → MessageKind → List ℕ → Type 0
 CannotGrow whole more key end room d links kind bytes = (room < length more) ⊎ (IfOpen (IsUnbegun false) end ⊎ IsTurnedAway key end d links (Kept kind (bytes ++ more) whole))
 
-kept_by : (over whole : Bool) (more : List ℕ) (key : ℕ) (end : Option End) (room : ℕ) (d : desks.Desk) (links : List Link) (kind : MessageKind) (bytes : List ℕ) (was : Bool) → CannotGrow whole more key end room d links kind bytes
+kept_by : (over whole : Bool) (more : List ℕ) (key : ℕ) (end : Option End) (room : ℕ) (d : pools.Pool) (links : List Link) (kind : MessageKind) (bytes : List ℕ) (was : Bool) → CannotGrow whole more key end room d links kind bytes
     → CannotGoOn whole more key end room d links (if over then Closed else Kept kind bytes was)
 kept_by true whole more key end room d links kind bytes was why = tt
 kept_by false whole more key end room d links kind bytes was why = why
 
-kept_goes : (whole : Bool) (more : List ℕ) (key : ℕ) (end : Option End) (room : ℕ) (d : desks.Desk) (links : List Link) (o : Option Application) (a : Application) (g : Body) (kind : MessageKind) (was : Bool) → Some a ≡ o
+kept_goes : (whole : Bool) (more : List ℕ) (key : ℕ) (end : Option End) (room : ℕ) (d : pools.Pool) (links : List Link) (o : Option Application) (a : Application) (g : Body) (kind : MessageKind) (was : Bool) → Some a ≡ o
     → a.asking ≡ asking.Waits kind was → CannotGrow whole more key end room d links kind a.held.items → CannotGoOn whole more key end room d links (body_in o g)
 kept_goes whole more key end room d links o a g kind was is asks why =
     subst (λ (x : Option Application). CannotGoOn whole more key end room d links (body_in x g)) is
     (subst (λ (x : Asking). CannotGoOn whole more key end room d links (if a.is_over then Closed else body_by x a.held.items g)) (sym asks) (kept_by a.is_over whole more key end room d links kind a.held.items was why))
 
 -- it is too long to be kept
-pub too_long : (whole : Bool) (more : List ℕ) (key : ℕ) (end : Option End) (d : desks.Desk) (links : List Link) (o : Option Application) (a : Application) (g : Body) (kind : MessageKind) (was : Bool) → Some a ≡ o
+pub too_long : (whole : Bool) (more : List ℕ) (key : ℕ) (end : Option End) (d : pools.Pool) (links : List Link) (o : Option Application) (a : Application) (g : Body) (kind : MessageKind) (was : Bool) → Some a ≡ o
     → a.asking ≡ asking.Waits kind was → room_to_keep a < length more → CannotGoOn whole more key end (room_left o) d links (body_in o g)
 too_long whole more key end d links o a g kind was is asks long = kept_goes whole more key end (room_left o) d links o a g kind was is asks (inl (subst (λ (x : Option Application). room_left x < length more) is long))
 
 -- none has begun
-pub unbegun_goes : (whole : Bool) (more : List ℕ) (key : ℕ) (end : Option End) (room : ℕ) (d : desks.Desk) (links : List Link) (o : Option Application) (a : Application) (g : Body) (kind : MessageKind) (was : Bool) → Some a ≡ o
+pub unbegun_goes : (whole : Bool) (more : List ℕ) (key : ℕ) (end : Option End) (room : ℕ) (d : pools.Pool) (links : List Link) (o : Option Application) (a : Application) (g : Body) (kind : MessageKind) (was : Bool) → Some a ≡ o
     → a.asking ≡ asking.Waits kind was → IfOpen (IsUnbegun false) end → CannotGoOn whole more key end room d links (body_in o g)
 unbegun_goes whole more key end room d links o a g kind was is asks unbegun = kept_goes whole more key end room d links o a g kind was is asks (inr (inl unbegun))
 
-going_with : (whole : Bool) (more : List ℕ) (key : ℕ) (end : Option End) (room : ℕ) (d : desks.Desk) (links : List Link) (number : ℕ) (o : Option ClientSession) (w : Option (List ℕ)) → CannotPut whole more key end d links
+going_with : (whole : Bool) (more : List ℕ) (key : ℕ) (end : Option End) (room : ℕ) (d : pools.Pool) (links : List Link) (number : ℕ) (o : Option ClientSession) (w : Option (List ℕ)) → CannotPut whole more key end d links
     → CannotGoOn whole more key end room d links (going_by number o w)
 going_with whole more key end room d links number None w why = why
 going_with whole more key end room d links number (Some client) None why = why
 going_with whole more key end room d links number (Some client) (Some waits) why = why
 
-going_goes : (whole : Bool) (more : List ℕ) (key : ℕ) (end : Option End) (room : ℕ) (d : desks.Desk) (links : List Link) (o : Option Hold) → CannotPut whole more key end d links
+going_goes : (whole : Bool) (more : List ℕ) (key : ℕ) (end : Option End) (room : ℕ) (d : pools.Pool) (links : List Link) (o : Option Hold) → CannotPut whole more key end d links
     → CannotGoOn whole more key end room d links (going d.service links o)
 going_goes whole more key end room d links None why = why
 going_goes whole more key end room d links (Some hold) why = going_with whole more key end room d links hold.number (client_of hold.lease d.service) (waits_on hold.number links) why
 
-over_or : (over whole : Bool) (more : List ℕ) (key : ℕ) (end : Option End) (room : ℕ) (d : desks.Desk) (links : List Link) (b : Body) → CannotGoOn whole more key end room d links b → CannotGoOn whole more key end room d links (if over then Closed else b)
+over_or : (over whole : Bool) (more : List ℕ) (key : ℕ) (end : Option End) (room : ℕ) (d : pools.Pool) (links : List Link) (b : Body) → CannotGoOn whole more key end room d links b → CannotGoOn whole more key end room d links (if over then Closed else b)
 over_or true whole more key end room d links b why = tt
 over_or false whole more key end room d links b why = why
 
 -- it isn't put where it goes on
-pub put_goes : (whole : Bool) (more : List ℕ) (key : ℕ) (end : Option End) (room : ℕ) (d : desks.Desk) (links : List Link) (o : Option Application) (a : Application) → Some a ≡ o → a.asking ≡ asking.Goes → CannotPut whole more key end d links
+pub put_goes : (whole : Bool) (more : List ℕ) (key : ℕ) (end : Option End) (room : ℕ) (d : pools.Pool) (links : List Link) (o : Option Application) (a : Application) → Some a ≡ o → a.asking ≡ asking.Goes → CannotPut whole more key end d links
     → CannotGoOn whole more key end room d links (body_in o (going d.service links (find_key key d.holds.items)))
 put_goes whole more key end room d links o a is asks why =
     let g = going d.service links (find_key key d.holds.items) in
@@ -107,27 +107,27 @@ put_goes whole more key end room d links o a is asks why =
     (subst (λ (x : Asking). CannotGoOn whole more key end room d links (if a.is_over then Closed else body_by x a.held.items g)) (sym asks)
     (over_or a.is_over whole more key end room d links g (going_goes whole more key end room d links (find_key key d.holds.items) why)))
 
-pub no_room_there : (whole : Bool) (more : List ℕ) (key : ℕ) (d mid : desks.Desk) (out : List ℕ) (links : List Link) (hold : Hold) (p : ClientPuts whole more key d mid [] out) → find_key key d.holds.items ≡ Some hold → HasNoRoom hold.number out links
+pub no_room_there : (whole : Bool) (more : List ℕ) (key : ℕ) (d mid : pools.Pool) (out : List ℕ) (links : List Link) (hold : Hold) (p : ClientPuts whole more key d mid [] out) → find_key key d.holds.items ≡ Some hold → HasNoRoom hold.number out links
     → HasNoRoom p.hold.number out links
 no_room_there whole more key d mid out links hold p its none =
     let same : hold ≡ p.hold = (let u : Some hold ≡ Some p.hold = sym its ∙ p.its in cc) in
     subst (λ (h : Hold). HasNoRoom h.number out links) same none
 
-pub no_request : (kind : Kind) (reset : Option Reset) (key : ℕ) (end : Option End) (d : desks.Desk) (links : List Link) → IsNoRequest kind → CannotBegin kind reset key end d links
+pub no_request : (kind : Kind) (reset : Option Reset) (key : ℕ) (end : Option End) (d : pools.Pool) (links : List Link) → IsNoRequest kind → CannotBegin kind reset key end d links
 no_request kind None key end d links none = inl none
 no_request kind (Some KeepTransaction) key end d links none = inl none
 no_request kind (Some Full) key end d links none = inl none
 
 -- ---- It isn't asked where it begins
 
-abbrev CannotAskNow : ℕ → Option End → desks.Desk → List Link → MessageKind → Type 0
+abbrev CannotAskNow : ℕ → Option End → pools.Pool → List Link → MessageKind → Type 0
 CannotAskNow key end d links message = IsReadyThere key end d links × CannotAsk message [] false key end d links
 
-asks_by : (over : Bool) (key : ℕ) (end : Option End) (d : desks.Desk) (links : List Link) (message : MessageKind) → CannotStart key end d links (if over then Closed else Kept message [] false) → CannotAskNow key end d links message
+asks_by : (over : Bool) (key : ℕ) (end : Option End) (d : pools.Pool) (links : List Link) (message : MessageKind) → CannotStart key end d links (if over then Closed else Kept message [] false) → CannotAskNow key end d links message
 asks_by true key end d links message why = absurd why
 asks_by false key end d links message why = why
 
-pub begun_asks : (key : ℕ) (end : Option End) (d : desks.Desk) (links : List Link) (o : Option Application) (g : Body) (b : Application) (message : MessageKind) → o ≡ Some b → b.asking ≡ asking.Waits message false → b.held.items ≡ []
+pub begun_asks : (key : ℕ) (end : Option End) (d : pools.Pool) (links : List Link) (o : Option Application) (g : Body) (b : Application) (message : MessageKind) → o ≡ Some b → b.asking ≡ asking.Waits message false → b.held.items ≡ []
     → CannotStart key end d links (body_in o g) → CannotAskNow key end d links message
 begun_asks key end d links o g b message is asked held why =
     asks_by b.is_over key end d links message
@@ -136,21 +136,21 @@ begun_asks key end d links o g b message is asked held why =
 
 -- ---- It can't be taken back
 
-refused_by : (call : ℕ → ℕ → Call Token) (key : ℕ) (d : desks.Desk) (refusal : Refusal) (o : Option Hold) → find_key key d.holds.items ≡ o → IsReason refusal
+refused_by : (call : ℕ → ℕ → Call Token) (key : ℕ) (d : pools.Pool) (refusal : Refusal) (o : Option Hold) → find_key key d.holds.items ≡ o → IsReason refusal
     → ((hold : Hold) → find_key key d.holds.items ≡ Some hold → (count : ℕ) → Refuses (call hold.lease count) (service_in d.service) refusal) → IsUnheld key d ⊎ RefusesThere call key d
 refused_by call key d refusal None its reason refuses = inl its
 refused_by call key d refusal (Some hold) its reason refuses = inr (record { hold = hold; its = its; refusal = refusal; reason = reason; refuses = refuses hold its })
 
 -- where it holds one
-pub refused_there : (call : ℕ → ℕ → Call Token) (key : ℕ) (d : desks.Desk) (refusal : Refusal) → IsReason refusal
+pub refused_there : (call : ℕ → ℕ → Call Token) (key : ℕ) (d : pools.Pool) (refusal : Refusal) → IsReason refusal
     → ((hold : Hold) → find_key key d.holds.items ≡ Some hold → (count : ℕ) → Refuses (call hold.lease count) (service_in d.service) refusal) → IsUnheld key d ⊎ RefusesThere call key d
 refused_there call key d refusal reason refuses = refused_by call key d refusal (find_key key d.holds.items) refl reason refuses
 
-pub uncancelled : (key : ℕ) (end : Option End) (d : desks.Desk) (links : List Link) → IsUnheld key d ⊎ IsUncancelled key d → IsUnheld key d ⊎ CannotUnask key end d links
+pub uncancelled : (key : ℕ) (end : Option End) (d : pools.Pool) (links : List Link) → IsUnheld key d ⊎ IsUncancelled key d → IsUnheld key d ⊎ CannotUnask key end d links
 uncancelled key end d links (inl none) = inl none
 uncancelled key end d links (inr why) = inr (inr (inl why))
 
-pub unstopped : (key : ℕ) (d : desks.Desk) → IsUnheld key d ⊎ IsUncancelled key d → IsUnstopped key d
+pub unstopped : (key : ℕ) (d : pools.Pool) → IsUnheld key d ⊎ IsUncancelled key d → IsUnstopped key d
 unstopped key d (inl none) = inl none
 unstopped key d (inr why) = inr (inl why)
 
@@ -168,7 +168,7 @@ astray_of s links o b none (inl e) = subst IsAstray (sym (e ∙ ap (going s link
 astray_of s links o b none (inr e) = subst IsAstray (sym e) tt
 
 -- who holds none is astray
-pub forgotten : (key : ℕ) (end : Option End) (d mid : desks.Desk) (links : List Link) (o : Option Application) → ((g : Body) → Spared g (body_in o g)) → mid.holds ≡ d.holds → mid.service ≡ d.service
+pub forgotten : (key : ℕ) (end : Option End) (d mid : pools.Pool) (links : List Link) (o : Option Application) → ((g : Body) → Spared g (body_in o g)) → mid.holds ≡ d.holds → mid.service ≡ d.service
     → IsUnheld key mid ⊎ CannotUnask key end mid links → CannotForget false key end d links (body_in o (going d.service links (find_key key d.holds.items)))
 forgotten key end d mid links o asked holds service (inl none) =
     let its : find_key key d.holds.items ≡ None = subst (λ (x : Held). find_key key x.items ≡ None) holds none in
@@ -181,13 +181,13 @@ some_of {A} o x P is h = subst (λ (p : Option A). IfSome p P) is h
 pub none_of : {A : Type 0} (o : Option A) (Q : Type 0) → o ≡ None → IfNone o Q → Q
 none_of {A} o Q is h = subst (λ (p : Option A). IfNone p Q) is h
 
-pub stops_unfit : (key : ℕ) (d mid : desks.Desk) (out : List ℕ) (links : List Link) (hold : Hold) (s : ClientStops key d mid [] out) → find_key key d.holds.items ≡ Some hold → HasNoRoom hold.number out links → StopsUnfit key d links
+pub stops_unfit : (key : ℕ) (d mid : pools.Pool) (out : List ℕ) (links : List Link) (hold : Hold) (s : ClientStops key d mid [] out) → find_key key d.holds.items ≡ Some hold → HasNoRoom hold.number out links → StopsUnfit key d links
 stops_unfit key d mid out links hold s its none =
     let same : hold ≡ s.hold = (let u : Some hold ≡ Some s.hold = sym its ∙ s.its in cc) in
     record { mid = mid; out = out; stops = s; no_room = subst (λ (h : Hold). HasNoRoom h.number out links) same none }
 
-pub halts_unfit : (key number : ℕ) (old new : code.Relay) (links : List Link) → IsHalting number key old new → HasNoRoom number new.outbox.items links → StopsUnfit key old.desk links
-halts_unfit key number old new links h none = stops_unfit key old.desk new.desk new.outbox.items links h.hold h.stops h.its (subst (λ (n : ℕ). HasNoRoom n new.outbox.items links) h.number_is none)
+pub halts_unfit : (key number : ℕ) (old new : code.Relay) (links : List Link) → IsHalting number key old new → HasNoRoom number new.outbox.items links → StopsUnfit key old.pool links
+halts_unfit key number old new links h none = stops_unfit key old.pool new.pool new.outbox.items links h.hold h.stops h.its (subst (λ (n : ℕ). HasNoRoom n new.outbox.items links) h.number_is none)
 
 -- no attention goes out
 abbrev pub is_asked : Cancelled → Bool
@@ -199,26 +199,25 @@ is_asked how.Asked = true
 pub asked_not : (c : Cancelled) → is_asked c ≡ false → c ≢ how.Asked
 asked_not c not is = (let u : true ≡ false = sym (ap is_asked is) ∙ not in cc)
 
-pub full_there : (s : Slab Application) (key : ℕ) (a : Application) → Some a ≡ get s key → a.out.is_full ≡ true → IsOverfull (post_at (posts_in s) key)
-full_there s key a is full = ap (option_map (λ (p : Post). p.is_full)) (post_is s key ∙ ap (option_map post_of) (sym is)) ∙ ap Some full
+pub full_there : (s : Slab Application) (key : ℕ) (a : Application) → Some a ≡ get s key → a.out.is_full ≡ true → IsOverfull (queue_at (queues_in s) key)
+full_there s key a is full = ap (option_map (λ (p : Queue). p.is_full)) (queue_is s key ∙ ap (option_map queue_of) (sym is)) ∙ ap Some full
 
 -- ---- What is said
 
 -- before its end has read them
-pub may_before : (answer : Said) (taken : List ℕ) (key : ℕ) (end next : Option End) (room after : ℕ) (d : desks.Desk) (links : List Link) (posts given : Posts) (body was : Body) → next ≡ end → after ≡ room → given ≡ posts → was ≡ body
-    → MayClose answer taken key next after d links given was → MayClose answer taken key end room d links posts body
-may_before answer taken key end next room after d links posts given body was ends rooms same bodies why =
-    subst (λ (b : Body). MayClose answer taken key end room d links posts b) bodies
-    (subst (λ (ps : Posts). MayClose answer taken key end room d links ps was) same
+pub may_before : (answer : Said) (taken : List ℕ) (key : ℕ) (end next : Option End) (room after : ℕ) (d : pools.Pool) (links : List Link) (queues given : Queues) (body was : Body) → next ≡ end → after ≡ room → given ≡ queues → was ≡ body
+    → MayClose answer taken key next after d links given was → MayClose answer taken key end room d links queues body
+may_before answer taken key end next room after d links queues given body was ends rooms same bodies why =
+    subst (λ (b : Body). MayClose answer taken key end room d links queues b) bodies
+    (subst (λ (ps : Queues). MayClose answer taken key end room d links ps was) same
     (subst (λ (n : ℕ). MayClose answer taken key end n d links given was) rooms (subst (λ (e : Option End). MayClose answer taken key e after d links given was) ends why)))
 
-lent_or : (key : ℕ) (bytes : List ℕ) (a : code.Relay) (other : ℕ) → (other ≡ key) ⊎ (other ≢ key) → IsLentBehind key bytes a other → ItselfOrWaiting key (desk_in a.desk).line other → ForReasonOrWaiting key bytes a other
+lent_or : (key : ℕ) (bytes : List ℕ) (a : code.Relay) (other : ℕ) → (other ≡ key) ⊎ (other ≢ key) → IsLentBehind key bytes a other → ItselfOrWaiting key (pool_in a.pool).line other → ForReasonOrWaiting key bytes a other
 lent_or key bytes a other (inl same) lent was = inl (same, ByLoan (subst (λ (n : ℕ). IsLentBehind key bytes a n) same lent))
 lent_or key bytes a other (inr differs) lent (inl same) = absurd (differs same)
 lent_or key bytes a other (inr differs) lent (inr was) = inr (differs, was, lent)
 
 -- those who wait behind them are served
-pub lent_behind : (key : ℕ) (bytes : List ℕ) (a b : code.Relay) → Carries key (house_in a) bytes [] (body_of key a) (body_of key b) (house_in b) → Stays a.links.items b.links.items
-    → Goes (ByApplication key) (desk_in a.desk) (desk_in b.desk) → (other : ℕ) → IsLentInVain b other → ForReasonOrWaiting key bytes a other
-lent_behind key bytes a b carries stays goes other lent =
-    lent_or key bytes a other (cases_eq other key) (record { mid = b; carries = carries; stays = stays; lent = lent }) (waited_or key (desk_in a.desk) (desk_in b.desk) goes other lent.waits)
+pub lent_behind : (key : ℕ) (bytes : List ℕ) (a b : code.Relay) → IsTakenTo key bytes [] a b → Goes (ByApplication key) (pool_in a.pool) (pool_in b.pool) → (other : ℕ) → IsLentInVain b other → ForReasonOrWaiting key bytes a other
+lent_behind key bytes a b taken goes other lent =
+    lent_or key bytes a other (cases_eq other key) (record { mid = b; taken = taken; lent = lent }) (waited_or key (pool_in a.pool) (pool_in b.pool) goes other lent.waits)

@@ -4,7 +4,7 @@ use Rattle.tds_relay.specs.declared.link.Link.{Link}
 use Rattle.tds_relay.specs.declared.order.Order.{Order}
 use Rattle.tds_relay.specs.declared.outgoing.Outgoing.{Outgoing}
 use Rattle.tds_relay.specs.Closings.{is_shut}
-use Rattle.tds_relay.specs.Posts.{post_in}
+use Rattle.tds_relay.specs.Queues.{queue_in}
 use Rattle.tds_relay.specs.Ordering.{IsOrdered, StayOrdered}
 use Rattle.tds_relay.specs.Reads.{Seen, Sees, StaysAt, bytes_on, link_at, opened_seen, seen_at, seen_of, waits_on, with_open, without_link}
 use Rattle.tds_relay.specs.Sending.{IsToWrite, IsWritten, Sending, called_at, name_in, sending_at, sending_of}
@@ -171,4 +171,4 @@ same_written ls i d m number sends opens n = (written_as sending_of ls i d m num
 
 pub sending_same : (l m : Link) → m.tag ≡ l.tag → m.out ≡ l.out → sending_of m ≡ sending_of l
 sending_same l m tag out =
-    ap (λ (t : Option ℕ). let s : Sending = (t, bytes_on m) in s) tag ∙ ap (λ (o : Outgoing). let s : Sending = (l.tag, (post_in o).bytes) in s) out
+    ap (λ (t : Option ℕ). let s : Sending = (t, bytes_on m) in s) tag ∙ ap (λ (o : Outgoing). let s : Sending = (l.tag, (queue_in o).bytes) in s) out

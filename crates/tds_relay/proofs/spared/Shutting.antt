@@ -12,10 +12,10 @@ use Rattle.tds_relay.specs.declared.order.Order.TheVariants as orders
 use Rattle.tds_relay.specs.Closings.{ClosesOnly, IsDue, IsToWriteAll, Nobody, OfApplication, OfConnection, Register, is_shut, is_shut_at, name_with, open_name, times_closed}
 use Rattle.tds_relay.specs.Fronts.{end_of, ends_in, goes_by, withdraws}
 use Rattle.tds_front.specs.declared.fault.FrontFault.{FrontFault}
-use Rattle.tds_relay.specs.declared.desk.coming.What.TheVariants as whats
-use Rattle.tds_relay.specs.Hall.{End, Ends, Open, Over, change_end, closes_for, end_at, lets_go, move_stage, told}
+use Rattle.tds_relay.specs.declared.pool.coming.What.TheVariants as whats
+use Rattle.tds_relay.specs.Core.{End, Ends, Open, Over, change_end, closes_for, end_at, lets_go, move_stage, told}
 use Rattle.tds_relay.specs.Ordering.{IsOrdered, StayOrdered}
-use Rattle.tds_relay.specs.Posts.{Posts, names_of, post_at}
+use Rattle.tds_relay.specs.Queues.{Queues, names_of, queue_at}
 use Rattle.tds_relay.specs.Reads.{Seen, Sees, StaysAt, bytes_on, link_at, opened_seen, seen_at, seen_of, waits_on, with_open}
 use Rattle.tds_relay.specs.Sending.{IsToWrite, IsWritten, called_at, name_in, sending_at, sending_of}
 use Rattle.tds_relay.proofs.spared.Once.{times_other}
@@ -71,10 +71,10 @@ open_closes number a b is = record {
 -- each application is open as it was, and each connection called
 closes_same : (May : ℕ → Type 0) (a b : Register) → ((key : ℕ) → open_name key b ≡ open_name key a) → b.kept ≡ a.kept
     → ((number : ℕ) → is_shut_at number b ≡ true → (is_shut_at number a ≡ true) ⊎ IsOrdered (orders.Open number) b.orders)
-    → ((key : ℕ) → (post_at b.posts key ≡ post_at a.posts key) ⊎ IsToWriteAll (open_name key b) (post_at b.posts key) b.orders)
+    → ((key : ℕ) → (queue_at b.queues key ≡ queue_at a.queues key) ⊎ IsToWriteAll (open_name key b) (queue_at b.queues key) b.orders)
     → ((number tag : ℕ) → called_at number b.links ≡ Some tag → called_at number a.links ≡ Some tag) → ((number tag : ℕ) → called_at number a.links ≡ Some tag → called_at number b.links ≡ Some tag)
     → ((number : ℕ) → (sending_at number b.links ≡ sending_at number a.links) ⊎ IsWritten (sending_at number b.links) b.orders) → NoneClosed a.orders b.orders → ClosesOnly May a b
-closes_same May a b names told shut posts called calls sends n = record {
+closes_same May a b names told shut queues called calls sends n = record {
   ordered = n.more;
   told = told;
   closes = λ key tag e. inl (names key ∙ e);
@@ -82,25 +82,25 @@ closes_same May a b names told shut posts called calls sends n = record {
   cuts = λ number tag e. inl (calls number tag e);
   due = λ tag o. inl (n.were tag o);
   once = λ tag one. inl (n.times tag);
-  writes = posts;
+  writes = queues;
   writes_on = sends;
   were_open = λ key tag e. sym (names key) ∙ e;
   were_called = called;
 }
 
-pub same_names : (a b : Register) → b.ends ≡ a.ends → b.posts ≡ a.posts → (key : ℕ) → open_name key b ≡ open_name key a
-same_names a b ends posts key =
-    ap (λ (es : Ends). name_with (end_at es key) (slice_index_or (names_of b.posts) key None)) ends
-    ∙ ap (λ (ps : Posts). name_with (end_at a.ends key) (slice_index_or (names_of ps) key None)) posts
+pub same_names : (a b : Register) → b.ends ≡ a.ends → b.queues ≡ a.queues → (key : ℕ) → open_name key b ≡ open_name key a
+same_names a b ends queues key =
+    ap (λ (es : Ends). name_with (end_at es key) (slice_index_or (names_of b.queues) key None)) ends
+    ∙ ap (λ (ps : Queues). name_with (end_at a.ends key) (slice_index_or (names_of ps) key None)) queues
 
-closes_as : (May : ℕ → Type 0) (a b : Register) → ((key : ℕ) → open_name key b ≡ open_name key a) → b.posts ≡ a.posts → b.kept ≡ a.kept → AreKept a.links b.links → NoneClosed a.orders b.orders → ClosesOnly May a b
-closes_as May a b names posts told links n =
+closes_as : (May : ℕ → Type 0) (a b : Register) → ((key : ℕ) → open_name key b ≡ open_name key a) → b.queues ≡ a.queues → b.kept ≡ a.kept → AreKept a.links b.links → NoneClosed a.orders b.orders → ClosesOnly May a b
+closes_as May a b names queues told links n =
     let sends : (number : ℕ) → sending_at number b.links ≡ sending_at number a.links = sending_kept a.links b.links links in
-    closes_same May a b names told (λ number e. inl (shut_stays a.links b.links links.sees number e)) (λ key. inl (ap (λ (ps : Posts). post_at ps key) posts)) (λ number tag e. sym (ap name_in (sends number)) ∙ e)
+    closes_same May a b names told (λ number e. inl (shut_stays a.links b.links links.sees number e)) (λ key. inl (ap (λ (ps : Queues). queue_at ps key) queues)) (λ number tag e. sym (ap name_in (sends number)) ∙ e)
     (λ number tag e. ap name_in (sends number) ∙ e) (λ number. inl (sends number)) n
 
-pub closes_kept : (May : ℕ → Type 0) (a b : Register) → b.ends ≡ a.ends → b.posts ≡ a.posts → b.kept ≡ a.kept → AreKept a.links b.links → NoneClosed a.orders b.orders → ClosesOnly May a b
-closes_kept May a b ends posts told links n = closes_as May a b (same_names a b ends posts) posts told links n
+pub closes_kept : (May : ℕ → Type 0) (a b : Register) → b.ends ≡ a.ends → b.queues ≡ a.queues → b.kept ≡ a.kept → AreKept a.links b.links → NoneClosed a.orders b.orders → ClosesOnly May a b
+closes_kept May a b ends queues told links n = closes_as May a b (same_names a b ends queues) queues told links n
 
 -- ---- Ends that move
 
@@ -115,11 +115,11 @@ moved_name by keeps (suc key) (suc other) (e ∷ es) n = moved_name by keeps key
 
 -- an end moves, and is open as it was
 pub closes_moved : (May : ℕ → Type 0) (key : ℕ) (by : End → End) (a b : Register) → ((e : End) (n : Option (Option ℕ)) → name_with (Some (by e)) n ≡ name_with (Some e) n) → b.ends ≡ change_end key by a.ends
-    → b.posts ≡ a.posts → b.kept ≡ a.kept → AreKept a.links b.links → NoneClosed a.orders b.orders → ClosesOnly May a b
-closes_moved May key by a b keeps ends posts told links n =
+    → b.queues ≡ a.queues → b.kept ≡ a.kept → AreKept a.links b.links → NoneClosed a.orders b.orders → ClosesOnly May a b
+closes_moved May key by a b keeps ends queues told links n =
     closes_as May a b (λ k.
-    ap (λ (es : Ends). name_with (end_at es k) (slice_index_or (names_of b.posts) k None)) ends ∙ moved_name by keeps key k a.ends (slice_index_or (names_of b.posts) k None)
-    ∙ ap (λ (ps : Posts). name_with (end_at a.ends k) (slice_index_or (names_of ps) k None)) posts) posts told links n
+    ap (λ (es : Ends). name_with (end_at es k) (slice_index_or (names_of b.queues) k None)) ends ∙ moved_name by keeps key k a.ends (slice_index_or (names_of b.queues) k None)
+    ∙ ap (λ (ps : Queues). name_with (end_at a.ends k) (slice_index_or (names_of ps) k None)) queues) queues told links n
 
 pub end_is : (s : Slab Application) (key : ℕ) → end_at (ends_in s) key ≡ option_map end_of (get s key)
 end_is s key = get_or-map (option_map end_of) s.slots key None
@@ -143,13 +143,13 @@ open_as a c m same =
     subst (λ (b : Bool). name_with (Some (if b then Over c.fault else Open c.front c.is_withdrawn c.reset)) m ≡ name_with (Some (end_of a)) m) (sym same) (over_by a.is_over a c m)
 
 pub closes_written : (May : ℕ → Type 0) (s : Slab Application) (key : ℕ) (a c : Application) (r q : Register) → Some a ≡ get s key → c.is_over ≡ a.is_over → r.ends ≡ ends_in s → q.ends ≡ ends_in (with_value s key c)
-    → q.posts ≡ r.posts → q.kept ≡ r.kept → AreKept r.links q.links → NoneClosed r.orders q.orders → ClosesOnly May r q
-closes_written May s key a c r q is same before behind posts told links n =
+    → q.queues ≡ r.queues → q.kept ≡ r.kept → AreKept r.links q.links → NoneClosed r.orders q.orders → ClosesOnly May r q
+closes_written May s key a c r q is same before behind queues told links n =
     closes_as May r q (λ k.
-    ap (λ (es : Ends). name_with (end_at es k) (slice_index_or (names_of q.posts) k None)) (behind ∙ ends_written s key c)
-    ∙ set_name (end_of c) key k (ends_in s) (slice_index_or (names_of q.posts) k None) (λ m. open_as a c m same ∙ sym (ap (λ (o : Option End). name_with o m) (end_is s key ∙ ap (option_map end_of) (sym is))))
-    ∙ ap (λ (ps : Posts). name_with (end_at (ends_in s) k) (slice_index_or (names_of ps) k None)) posts
-    ∙ ap (λ (es : Ends). name_with (end_at es k) (slice_index_or (names_of r.posts) k None)) (sym before)) posts told links n
+    ap (λ (es : Ends). name_with (end_at es k) (slice_index_or (names_of q.queues) k None)) (behind ∙ ends_written s key c)
+    ∙ set_name (end_of c) key k (ends_in s) (slice_index_or (names_of q.queues) k None) (λ m. open_as a c m same ∙ sym (ap (λ (o : Option End). name_with o m) (end_is s key ∙ ap (option_map end_of) (sym is))))
+    ∙ ap (λ (ps : Queues). name_with (end_at (ends_in s) k) (slice_index_or (names_of ps) k None)) queues
+    ∙ ap (λ (es : Ends). name_with (end_at es k) (slice_index_or (names_of r.queues) k None)) (sym before)) queues told links n
 
 -- ends that move
 pub keeps_lets_go : (e : End) (n : Option (Option ℕ)) → name_with (Some (lets_go e)) n ≡ name_with (Some e) n
@@ -199,11 +199,11 @@ unshut true None e = e
 unshut true (Some s) e = absurd (let u : ⊥ = cc in u)
 unshut false o e = e
 
-pub closes_opened : (May : ℕ → Type 0) (number : ℕ) (a b : Register) → b.ends ≡ a.ends → b.posts ≡ a.posts → b.kept ≡ a.kept → ((other : ℕ) → seen_at other b.links ≡ opened_seen number other a.links)
+pub closes_opened : (May : ℕ → Type 0) (number : ℕ) (a b : Register) → b.ends ≡ a.ends → b.queues ≡ a.queues → b.kept ≡ a.kept → ((other : ℕ) → seen_at other b.links ≡ opened_seen number other a.links)
     → ((other : ℕ) → waits_on other b.links ≡ waits_on other a.links) → b.orders ≡ a.orders → ClosesOnly May a b
-closes_opened May number a b ends posts told seen waits are =
+closes_opened May number a b ends queues told seen waits are =
     let sends : (other : ℕ) → sending_at other b.links ≡ sending_at other a.links = sending_opened number a.links b.links seen waits in
-    closes_same May a b (same_names a b ends posts) told (λ other e. inl (unshut (other == number) (seen_at other a.links) (ap is_shut (sym (seen other)) ∙ e))) (λ key. inl (ap (λ (ps : Posts). post_at ps key) posts))
+    closes_same May a b (same_names a b ends queues) told (λ other e. inl (unshut (other == number) (seen_at other a.links) (ap is_shut (sym (seen other)) ∙ e))) (λ key. inl (ap (λ (ps : Queues). queue_at ps key) queues))
     (λ other tag e. sym (ap name_in (sends other)) ∙ e) (λ other tag e. ap name_in (sends other) ∙ e) (λ other. inl (sends other)) (unclosed a.orders b.orders are)
 
 pushed_by : (b : Bool) (l : Link) (number : ℕ) → (l.number == number) ≡ b → is_shut (option_map seen_of (if b then Some l else None)) ≡ true → number ≡ l.number
@@ -236,13 +236,13 @@ pushed_sends : (l : Link) (o p : Option Link) (all : List Order) → bytes_on l 
 pushed_sends l o p all empty Same = inl refl
 pushed_sends l o p all empty Comes = inr (inl empty)
 
-pub closes_pushed : (May : ℕ → Type 0) (a b : Register) (l : Link) (named : ℕ) → b.ends ≡ a.ends → b.posts ≡ a.posts → b.kept ≡ a.kept → b.links ≡ a.links ++ l ∷ [] → l.number ≡ named → l.tag ≡ None → bytes_on l ≡ []
+pub closes_pushed : (May : ℕ → Type 0) (a b : Register) (l : Link) (named : ℕ) → b.ends ≡ a.ends → b.queues ≡ a.queues → b.kept ≡ a.kept → b.links ≡ a.links ++ l ∷ [] → l.number ≡ named → l.tag ≡ None → bytes_on l ≡ []
     → b.orders ≡ a.orders ++ orders.Open named ∷ [] → ClosesOnly May a b
-closes_pushed May a b l named ends posts told links is none empty are =
+closes_pushed May a b l named ends queues told links is none empty are =
     let by : (number : ℕ) → Pushed l (link_at number a.links) (link_at number b.links) = λ number. subst (λ (ls : List Link). Pushed l (link_at number a.links) (link_at number ls)) (sym links) (pushed a.links l number) in
-    closes_same May a b (same_names a b ends posts) told
+    closes_same May a b (same_names a b ends queues) told
     (λ number e. ordered_open number l.number named a.orders b.orders (is_shut_at number a ≡ true) are is (shut_pushed a.links l number (ap (λ (ls : List Link). is_shut (seen_at number ls)) (sym links) ∙ e)))
-    (λ key. inl (ap (λ (ps : Posts). post_at ps key) posts)) (λ number tag e. pushed_called l (link_at number a.links) (link_at number b.links) tag none (by number) e)
+    (λ key. inl (ap (λ (ps : Queues). queue_at ps key) queues)) (λ number tag e. pushed_called l (link_at number a.links) (link_at number b.links) tag none (by number) e)
     (λ number tag e. pushed_calls l (link_at number a.links) (link_at number b.links) tag (by number) e) (λ number. pushed_sends l (link_at number a.links) (link_at number b.links) b.orders empty (by number))
     (open_closes named a.orders b.orders are)
 
@@ -259,12 +259,12 @@ filled_called number other out ls ms sees others waits (inl same) = subst (λ (n
 filled_called number other out ls ms sees others waits (inr differs) = ap name_in (sending_other number other ls ms sees (others other differs))
 
 -- and it is ordered written to
-pub closes_filled : (May : ℕ → Type 0) (number : ℕ) (out : List ℕ) (a b : Register) → b.ends ≡ a.ends → b.posts ≡ a.posts → b.kept ≡ a.kept → Sees a.links b.links
+pub closes_filled : (May : ℕ → Type 0) (number : ℕ) (out : List ℕ) (a b : Register) → b.ends ≡ a.ends → b.queues ≡ a.queues → b.kept ≡ a.kept → Sees a.links b.links
     → ((n : ℕ) → n ≢ number → waits_on n b.links ≡ waits_on n a.links) → waits_on number b.links ≡ option_map (λ (waits : List ℕ). waits ++ out) (waits_on number a.links) → NoneClosed a.orders b.orders
     → IsToWrite (called_at number b.links) b.orders → ClosesOnly May a b
-closes_filled May number out a b ends posts told sees others waits n w =
+closes_filled May number out a b ends queues told sees others waits n w =
     let called : (other : ℕ) → called_at other b.links ≡ called_at other a.links = λ other. filled_called number other out a.links b.links sees others waits (cases_eq other number) in
-    closes_same May a b (same_names a b ends posts) told (λ other e. inl (shut_stays a.links b.links sees other e)) (λ key. inl (ap (λ (ps : Posts). post_at ps key) posts)) (λ other tag e. sym (called other) ∙ e)
+    closes_same May a b (same_names a b ends queues) told (λ other e. inl (shut_stays a.links b.links sees other e)) (λ key. inl (ap (λ (ps : Queues). queue_at ps key) queues)) (λ other tag e. sym (called other) ∙ e)
     (λ other tag e. called other ∙ e) (λ other. filled_sends number other a.links b.links b.orders sees others w (cases_eq other number)) n
 
 none_due : (tag : ℕ) (b c : Register) → c.links ≡ b.links → IsOrdered (orders.Close tag) b.orders ⊎ IsDue Nobody tag b c → IsOrdered (orders.Close tag) b.orders
@@ -272,11 +272,11 @@ none_due tag b c links (inl o) = o
 none_due tag b c links (inr (OfApplication key may was gone)) = absurd may
 none_due tag b c links (inr (OfConnection number was gone)) = absurd (let u : None ≡ Some tag = sym gone ∙ ap (called_at number) links ∙ was in let v : ⊥ = cc in v)
 
-pub closes_filled_on : (May : ℕ → Type 0) (number : ℕ) (out : List ℕ) (a b c : Register) → c.ends ≡ a.ends → c.posts ≡ a.posts → b.kept ≡ a.kept → Sees a.links b.links
+pub closes_filled_on : (May : ℕ → Type 0) (number : ℕ) (out : List ℕ) (a b c : Register) → c.ends ≡ a.ends → c.queues ≡ a.queues → b.kept ≡ a.kept → Sees a.links b.links
     → ((n : ℕ) → n ≢ number → waits_on n b.links ≡ waits_on n a.links) → waits_on number b.links ≡ option_map (λ (waits : List ℕ). waits ++ out) (waits_on number a.links) → b.orders ≡ a.orders
     → c.links ≡ b.links → IsToWrite (called_at number c.links) c.orders → ((tag : ℕ) → times_closed tag c.orders ≡ times_closed tag b.orders) → ClosesOnly Nobody b c → ClosesOnly May a c
-closes_filled_on May number out a b c ends posts told sees others waits are links w times h =
-    closes_filled May number out a c ends posts (h.told ∙ told) (subst (λ (ls : List Link). Sees a.links ls) (sym links) sees) (λ n differs. ap (waits_on n) links ∙ others n differs) (ap (waits_on number) links ∙ waits)
+closes_filled_on May number out a b c ends queues told sees others waits are links w times h =
+    closes_filled May number out a c ends queues (h.told ∙ told) (subst (λ (ls : List Link). Sees a.links ls) (sym links) sees) (λ n differs. ap (waits_on n) links ∙ others n differs) (ap (waits_on number) links ∙ waits)
     (record { more = subst (λ (xs : List Order). StayOrdered xs c.orders) are h.ordered; were = λ tag o. subst (IsOrdered (orders.Close tag)) are (none_due tag b c links (h.due tag o)); times = λ tag. times tag ∙ ap (times_closed tag) are }) w
 
 unfit_waits : (number other : ℕ) (ls ms : List Link) → ((n : ℕ) → n ≢ number → waits_on n ms ≡ waits_on n ls) → waits_on number ms ≡ waits_on number ls → (other ≡ number) ⊎ (other ≢ number) → waits_on other ms ≡ waits_on other ls

@@ -9,19 +9,19 @@ use Rattle.tds_service.specs.Table.{client_of}
 use Rattle.tds_relay.specs.declared.application.Application.{Application}
 use Rattle.tds_relay.specs.declared.application.Asking.{Asking}
 use Rattle.tds_relay.specs.declared.application.Asking.TheVariants as asking
-use Rattle.tds_relay.specs.declared.desk.Desk as desks
-use Rattle.tds_relay.specs.declared.desk.Hold.{Hold}
+use Rattle.tds_relay.specs.declared.pool.Pool as pools
+use Rattle.tds_relay.specs.declared.pool.Hold.{Hold}
 use Rattle.tds_relay.specs.declared.link.Link.{Link}
 use Rattle.tds_relay.specs.declared.relay.Relay as code
 use Rattle.tds_relay.specs.Asking.{IsTakenBack, waits_in}
 use Rattle.tds_relay.specs.Bodies.{Astray, Body, Closed, Closes, Goes, Going, Kept, Nowhere, Starts, Stays, Strays, body_by, body_in, body_of, going, going_by, going_of}
-use Rattle.tds_relay.specs.Desk.{find_key, find_number, key_of}
+use Rattle.tds_relay.specs.Pool.{find_key, find_number, key_of}
 use Rattle.tds_relay.specs.Fronts.{ends_in}
-use Rattle.tds_relay.specs.Hall.{Ends, end_at}
+use Rattle.tds_relay.specs.Core.{Ends, end_at}
 use Rattle.tds_relay.specs.Reads.{open_at, opened_at, reader_at, waits_on}
 use Rattle.tds_relay.specs.Sparing as sparing
 use Rattle.tds_relay.specs.Sparing.{AllGo, AllRest, AreCalls, Drains, HasGone, Held, IsHeldBack, IsKept, IsLeft, IsUnkept, Opens, Rests, StartsBehind, StartsOn, StartsThere, behind_all, held_at}
-use Rattle.tds_relay.specs.Ties.{IsReached, desk_in}
+use Rattle.tds_relay.specs.Ties.{IsReached, pool_in}
 use Rattle.tds_relay.proofs.spared.Held.{holder_is, holds}
 use Rattle.tds_relay.proofs.spared.Resting.{starts_both}
 use Rattle.tds_relay.proofs.steps.Bodied.{written_body}
@@ -64,7 +64,7 @@ pub unkept_there : (key : ℕ) (r : code.Relay) (a : Application) → Some a ≡
 unkept_there key r a is none =
     subst (λ (o : Option Application). IsUnkept (body_in o (going_of key r))) is
     (unkept_if a.is_over (body_by a.asking a.held.items (going_of key r))
-    (unkept_asking a.asking a.held.items (going_of key r) none (unkept_going r.desk.service r.links.items (find_key key r.desk.holds.items))))
+    (unkept_asking a.asking a.held.items (going_of key r) none (unkept_going r.pool.service r.links.items (find_key key r.pool.holds.items))))
 
 put_unkept : (X : Type 0) (key : ℕ) (s : Slab Application) (a b : Application) (new : code.Relay) → Some a ≡ get s key → b.asking ≡ asking.Goes
     → (body_of key new ≡ Closed) ⊎ (((goes : Body) → body_in (get new.applications key) goes ≡ body_in (get (with_value s key b) key) goes) × X) → IsUnkept (body_of key new)
@@ -74,7 +74,7 @@ put_unkept X key s a b new is goes (inr puts) =
     let one : body_of key new ≡ body_in (Some b) g = puts.0 g ∙ written_body s key a b g is in
     subst IsUnkept (sym one)
     (unkept_if b.is_over (body_by b.asking b.held.items g)
-    (unkept_asking b.asking b.held.items g (ap waits_in goes) (unkept_going new.desk.service new.links.items (find_key key new.desk.holds.items))))
+    (unkept_asking b.asking b.held.items g (ap waits_in goes) (unkept_going new.pool.service new.links.items (find_key key new.pool.holds.items))))
 
 pub put_unkept_on : {A E : Type 0} (r : Result A E) (X : Type 0) (key : ℕ) (s : Slab Application) (a b : Application) (new : code.Relay)
     → OnOk r ((body_of key new ≡ Closed) ⊎ (((goes : Body) → body_in (get new.applications key) goes ≡ body_in (get (with_value s key b) key) goes) × X)) → Some a ≡ get s key
@@ -147,13 +147,13 @@ rest_behind waited x a b c (inr astray) behind kept un first later = absurd (sub
 -- ---- Where its connection opens
 
 -- what it is held back by, before that
-before_open : (number key : ℕ) (old mid : code.Relay) (held : Held) → held_at key old.desk ≡ Some held → held.0 ≡ number → mid.desk ≡ old.desk → ends_in mid.applications ≡ ends_in old.applications
+before_open : (number key : ℕ) (old mid : code.Relay) (held : Held) → held_at key old.pool ≡ Some held → held.0 ≡ number → mid.pool ≡ old.pool → ends_in mid.applications ≡ ends_in old.applications
     → ((other : ℕ) → open_at other mid.links.items ≡ opened_at number other old.links.items) → IsHeldBack key mid
     → IsTakenBack (end_at (ends_in old.applications) key) ⊎ (reader_at number old.links.items ≡ None)
 before_open number key old mid held e same at ends opens (Drains back) = inl (subst (λ (es : Ends). IsTakenBack (end_at es key)) ends back)
 before_open number key old mid held e same at ends opens (Opens hold its closed) =
-    let x = holds old.desk key held e in
-    let own : find_key key old.desk.holds.items ≡ Some hold = subst (λ (d : desks.Desk). find_key key d.holds.items ≡ Some hold) at its in
+    let x = holds old.pool key held e in
+    let own : find_key key old.pool.holds.items ≡ Some hold = subst (λ (d : pools.Pool). find_key key d.holds.items ≡ Some hold) at its in
     let one : x.hold ≡ hold = (let u : Some x.hold ≡ Some hold = sym x.its ∙ own in cc) in
     let named : hold.number ≡ number = sym (ap (λ (h : Hold). h.number) one) ∙ x.number ∙ same in
     let shut : opened_at number number old.links.items ≡ None = sym (opens number) ∙ subst (λ (n : ℕ). open_at n mid.links.items ≡ None) named closed in
@@ -161,23 +161,23 @@ before_open number key old mid held e same at ends opens (Opens hold its closed)
     inr (sym (ap (λ (b : Bool). if b then reader_at number old.links.items else open_at number old.links.items) here) ∙ shut)
 
 -- what waited on the connection that it holds, before that
-there_before : (number key : ℕ) (old mid next : code.Relay) (held : Held) → held_at key old.desk ≡ Some held → held.0 ≡ number → mid.desk ≡ old.desk → ((other : ℕ) → waits_on other mid.links.items ≡ waits_on other old.links.items)
+there_before : (number key : ℕ) (old mid next : code.Relay) (held : Held) → held_at key old.pool ≡ Some held → held.0 ≡ number → mid.pool ≡ old.pool → ((other : ℕ) → waits_on other mid.links.items ≡ waits_on other old.links.items)
     → StartsThere key mid next → StartsBehind (waits_on number old.links.items) (body_of key mid) (body_of key next)
 there_before number key old mid next held e same at waits behind =
-    let x = holds old.desk key held e in
-    let own : find_key key mid.desk.holds.items ≡ Some x.hold = subst (λ (d : desks.Desk). find_key key d.holds.items ≡ Some x.hold) (sym at) x.its in
+    let x = holds old.pool key held e in
+    let own : find_key key mid.pool.holds.items ≡ Some x.hold = subst (λ (d : pools.Pool). find_key key d.holds.items ≡ Some x.hold) (sym at) x.its in
     subst (λ (n : ℕ). StartsBehind (waits_on n old.links.items) (body_of key mid) (body_of key next)) (x.number ∙ same)
     (subst (λ (w : Option (List ℕ)). StartsBehind w (body_of key mid) (body_of key next)) (waits x.hold.number) (behind x.hold own))
 
-pub started : (number : ℕ) (old mid next new : code.Relay) → IsReached (desk_in old.desk) → mid.desk ≡ old.desk → ends_in mid.applications ≡ ends_in old.applications
+pub started : (number : ℕ) (old mid next new : code.Relay) → IsReached (pool_in old.pool) → mid.pool ≡ old.pool → ends_in mid.applications ≡ ends_in old.applications
     → ((other : ℕ) → open_at other mid.links.items ≡ opened_at number other old.links.items) → ((other : ℕ) → waits_on other mid.links.items ≡ waits_on other old.links.items) → AllRest old mid → AllGo mid next → AllGo next new
-    → (IsReached (desk_in mid.desk) → IsReached (desk_in next.desk)) → ((key : ℕ) → key_of (find_number number (desk_in mid.desk).holds) ≡ Some key → IsUnkept (body_of key next) ⊎ IsHeldBack key mid)
-    → ((key : ℕ) → key_of (find_number number (desk_in mid.desk).holds) ≡ Some key → StartsThere key mid next) → StartsOn number old new
+    → (IsReached (pool_in mid.pool) → IsReached (pool_in next.pool)) → ((key : ℕ) → key_of (find_number number (pool_in mid.pool).holds) ≡ Some key → IsUnkept (body_of key next) ⊎ IsHeldBack key mid)
+    → ((key : ℕ) → key_of (find_number number (pool_in mid.pool).holds) ≡ Some key → StartsThere key mid next) → StartsOn number old new
 started number old mid next new reached at ends opens waits zero first later led unkept behind = record {
   start = λ key client e kept.
       let held : Held = (number, client) in
-      let here : IsReached (desk_in mid.desk) = subst (λ (d : desks.Desk). IsReached (desk_in d)) (sym at) reached in
-      let whose : key_of (find_number number (desk_in mid.desk).holds) ≡ Some key = ap (λ (d : desks.Desk). key_of (find_number number d.holds.items)) at ∙ holder_is old.desk key held reached e in
+      let here : IsReached (pool_in mid.pool) = subst (λ (d : pools.Pool). IsReached (pool_in d)) (sym at) reached in
+      let whose : key_of (find_number number (pool_in mid.pool).holds) ≡ Some key = ap (λ (d : pools.Pool). key_of (find_number number d.holds.items)) at ∙ holder_is old.pool key held reached e in
       elim (unkept key whose) [
         | inl un ↦ inl (rest_behind (waits_on number old.links.items) (body_of key old) (body_of key mid) (body_of key next) (body_of key new) (zero.rest key)
             (there_before number key old mid next held e refl at waits (behind key whose)) kept un (first.go here key) (later.go (led here) key))
@@ -185,10 +185,10 @@ started number old mid next new reached at ends opens waits zero first later led
       ];
 }
 
-pub started_on : {A E : Type 0} (r : Result A E) (number : ℕ) (old mid next new : code.Relay) → IsReached (desk_in old.desk) → mid.desk ≡ old.desk → ends_in mid.applications ≡ ends_in old.applications
+pub started_on : {A E : Type 0} (r : Result A E) (number : ℕ) (old mid next new : code.Relay) → IsReached (pool_in old.pool) → mid.pool ≡ old.pool → ends_in mid.applications ≡ ends_in old.applications
     → ((other : ℕ) → open_at other mid.links.items ≡ opened_at number other old.links.items) → ((other : ℕ) → waits_on other mid.links.items ≡ waits_on other old.links.items) → AllRest old mid → AllGo mid next → OnOk r (AllGo next new)
-    → (IsReached (desk_in mid.desk) → IsReached (desk_in next.desk)) → ((key : ℕ) → key_of (find_number number (desk_in mid.desk).holds) ≡ Some key → IsUnkept (body_of key next) ⊎ IsHeldBack key mid)
-    → ((key : ℕ) → key_of (find_number number (desk_in mid.desk).holds) ≡ Some key → StartsThere key mid next) → OnOk r (StartsOn number old new)
+    → (IsReached (pool_in mid.pool) → IsReached (pool_in next.pool)) → ((key : ℕ) → key_of (find_number number (pool_in mid.pool).holds) ≡ Some key → IsUnkept (body_of key next) ⊎ IsHeldBack key mid)
+    → ((key : ℕ) → key_of (find_number number (pool_in mid.pool).holds) ≡ Some key → StartsThere key mid next) → OnOk r (StartsOn number old new)
 started_on (Ok x) number old mid next new reached at ends opens waits zero first later led unkept behind = started number old mid next new reached at ends opens waits zero first later led unkept behind
 started_on (Err e) number old mid next new reached at ends opens waits zero first later led unkept behind = tt
 

@@ -11,28 +11,28 @@ use Rattle.tds_packet.specs.declared.status.Reset.TheVariants.{KeepTransaction}
 use Rattle.tds_relay.specs.declared.application.Application.{Application}
 use Rattle.tds_relay.specs.declared.application.Asking.{Asking}
 use Rattle.tds_relay.specs.declared.application.Asking.TheVariants as asking
-use Rattle.tds_relay.specs.declared.desk.Desk as desks
-use Rattle.tds_relay.specs.declared.desk.Hold.{Hold}
+use Rattle.tds_relay.specs.declared.pool.Pool as pools
+use Rattle.tds_relay.specs.declared.pool.Hold.{Hold}
 use Rattle.tds_relay.specs.declared.link.Link.{Link}
 use Rattle.tds_relay.specs.declared.relay.Relay as code
 use Rattle.tds_relay.specs.Anew.{ResetsFor}
 use Rattle.tds_relay.specs.Asking.{IsTakenBack, waits_in}
 use Rattle.tds_relay.specs.Bodies.{AskAsBefore, Astray, Body, Closed, Going, Kept, Nowhere, body_by, body_in, body_of, going_of}
 use Rattle.tds_relay.specs.Closings.{ClosesOnly, IsWho, Nobody, Register, register_in}
-use Rattle.tds_relay.specs.Desk.{Desk, Renews, Serves, find_key, turn, without_lease}
-use Rattle.tds_relay.specs.declared.desk.leaving.Renewed.TheVariants as renewals
+use Rattle.tds_relay.specs.Pool.{Pool, Renews, Serves, find_key, turn, without_lease}
+use Rattle.tds_relay.specs.declared.pool.leaving.Renewed.TheVariants as renewals
 use Rattle.tds_relay.proofs.held.Fewer.{last_held, who_held}
 use Rattle.tds_relay.proofs.spared.Filling.{lent_holds}
-use Rattle.tds_relay.specs.declared.desk.Served.{Served}
-use Rattle.tds_relay.specs.Fronts.{MovedOn, ends_in, hall_in}
-use Rattle.tds_relay.specs.Hall.{AsksFor, End, Ends, IfOpen, IfOpenAsks, Open, Over, end_at, holder}
-use Rattle.tds_relay.specs.Waiting.{IsOpened, IsUnheldOrTurnedAway, KeepsPosts, OpensFor}
-use Rattle.tds_relay.specs.Posts.{Post, fits, post_in}
-use Rattle.tds_relay.specs.Reads.{Opens, Seen, Sees, StaysAt, link_at, open_at, open_of, seen_at, seen_of, post_on}
+use Rattle.tds_relay.specs.declared.pool.Served.{Served}
+use Rattle.tds_relay.specs.Fronts.{MovedOn, ends_in, core_in}
+use Rattle.tds_relay.specs.Core.{AsksFor, End, Ends, IfOpen, IfOpenAsks, Open, Over, end_at, holder}
+use Rattle.tds_relay.specs.Waiting.{IsOpened, IsUnheldOrTurnedAway, KeepsQueues, OpensFor, IsLentInVain}
+use Rattle.tds_relay.specs.Queues.{Queue, fits, queue_in, queues_in}
+use Rattle.tds_relay.specs.Reads.{Opens, Seen, Sees, StaysAt, link_at, open_at, open_of, seen_at, seen_of, queue_on}
 use Rattle.tds_relay.specs.Reasons as reasons
-use Rattle.tds_relay.specs.Reasons.{CannotAsk, CannotGoOn, CannotMove, CannotPart, CannotPut, CannotResume, CannotStart, CannotStartAt, HasNoRoom, IsLentInVain, IsReadyThere, IsTurnedAway, IsTurnedAwayAt, IsUnbegun, IsUnheld, IsUnrenewed, ItselfFor, NoneBegun, ResumesNot, ResumesNotAt, Unreset}
+use Rattle.tds_relay.specs.Reasons.{CannotAsk, CannotGoOn, CannotMove, CannotPart, CannotPut, CannotResume, CannotStart, CannotStartAt, HasNoRoom, IsReadyThere, IsTurnedAway, IsTurnedAwayAt, IsUnbegun, IsUnheld, IsUnrenewed, ItselfFor, NoneBegun, ResumesNot, ResumesNotAt, Unreset}
 use Rattle.tds_relay.specs.Sparing.{AllGo, IsKept, IsRenewed, IsUnkept}
-use Rattle.tds_relay.specs.Ties.{IsReached, Leaving, Serving, Turns, desk_in}
+use Rattle.tds_relay.specs.Ties.{IsReached, Leaving, Neither, Serving, Turns, pool_in}
 use Rattle.tds_relay.specs.Lent.{LendsInLine}
 use Rattle.tds_relay.proofs.spared.Apart.{Unserved}
 use Rattle.tds_relay.proofs.spared.Lines.{served_waited}
@@ -41,6 +41,8 @@ use Rattle.tds_relay.proofs.spared.Closings.{closes_first, closes_more_on}
 use Rattle.tds_relay.proofs.spared.Reasons.{for_that}
 use Rattle.tds_relay.proofs.spared.Starting.{unkept_going, unkept_there}
 use Rattle.tds_relay.proofs.steps.Fed.{end_open, end_there}
+use Rattle.tds_relay.proofs.steps.Staying.{at_refl}
+use Rattle.tds_relay.proofs.visits.Unheld.{first_waits, unheld_behind}
 
 -- ---- It waits, and its connection is ready
 
@@ -68,27 +70,27 @@ not_back s key a is over drained back =
     let v : ⊥ = cc in
     v
 
-pub ready_there : (key : ℕ) (s : Slab Application) (d : desks.Desk) (links : List Link) (a : Application) (hold : Hold) → Some a ≡ get s key → a.is_over ≡ false → a.is_withdrawn ≡ false → find_key key d.holds.items ≡ Some hold
+pub ready_there : (key : ℕ) (s : Slab Application) (d : pools.Pool) (links : List Link) (a : Application) (hold : Hold) → Some a ≡ get s key → a.is_over ≡ false → a.is_withdrawn ≡ false → find_key key d.holds.items ≡ Some hold
     → IsSome (open_at hold.number links) → IsReadyThere key (end_at (ends_in s) key) d links
 ready_there key s d links a hold is over drained its there = record { hold = hold; its = its; open_there = there; drained = not_back s key a is over drained }
 
-pub turned_by : (key : ℕ) (end : Option End) (d : desks.Desk) (links : List Link) (body : Body) (hold : Hold) → find_key key d.holds.items ≡ Some hold → IsKept body → IsReadyThere key end d links
-    → IfOpen (IsUnbegun false) end ⊎ IfOpenAsks (λ asks. ¬ ResetsFor asks (Some hold) (desk_in d)) end → IsTurnedAway key end d links body
+pub turned_by : (key : ℕ) (end : Option End) (d : pools.Pool) (links : List Link) (body : Body) (hold : Hold) → find_key key d.holds.items ≡ Some hold → IsKept body → IsReadyThere key end d links
+    → IfOpen (IsUnbegun false) end ⊎ IfOpenAsks (λ asks. ¬ ResetsFor asks (Some hold) (pool_in d)) end → IsTurnedAway key end d links body
 turned_by key end d links body hold its kept ready (inl none) = NoneBegun kept ready none
 turned_by key end d links body hold its kept ready (inr not) =
     let same : hold ≡ ready.hold = (let u : Some hold ≡ Some ready.hold = sym its ∙ ready.its in cc) in
-    Unreset kept ready (subst (λ (h : Hold). IfOpenAsks (λ asks. ¬ ResetsFor asks (Some h) (desk_in d)) end) same not)
+    Unreset kept ready (subst (λ (h : Hold). IfOpenAsks (λ asks. ¬ ResetsFor asks (Some h) (pool_in d)) end) same not)
 
 -- ---- Its next bytes
 
-grown : (over was_over whole was : Bool) (more : List ℕ) (key : ℕ) (end : Option End) (room : ℕ) (d : desks.Desk) (links : List Link) (kind : MessageKind) (bytes : List ℕ) → over ≡ was_over
+grown : (over was_over whole was : Bool) (more : List ℕ) (key : ℕ) (end : Option End) (room : ℕ) (d : pools.Pool) (links : List Link) (kind : MessageKind) (bytes : List ℕ) → over ≡ was_over
     → IsTurnedAway key end d links (if over then Closed else Kept kind (bytes ++ more) whole) → CannotGoOn whole more key end room d links (if was_over then Closed else Kept kind bytes was)
 grown over true whole was more key end room d links kind bytes same why = tt
 grown true false whole was more key end room d links kind bytes same why = absurd (let u : true ≡ false = same in let v : ⊥ = cc in v)
 grown false false whole was more key end room d links kind bytes same why = inr (inr why)
 
 -- with them it is turned away
-pub turned_goes : (whole was : Bool) (more : List ℕ) (key : ℕ) (end : Option End) (room : ℕ) (d : desks.Desk) (links : List Link) (o p : Option Application) (a b : Application) (g h : Body) (kind : MessageKind) → Some a ≡ o → p ≡ Some b
+pub turned_goes : (whole was : Bool) (more : List ℕ) (key : ℕ) (end : Option End) (room : ℕ) (d : pools.Pool) (links : List Link) (o p : Option Application) (a b : Application) (g h : Body) (kind : MessageKind) → Some a ≡ o → p ≡ Some b
     → a.asking ≡ asking.Waits kind was → b.is_over ≡ a.is_over → b.held.items ≡ a.held.items ++ more → b.asking ≡ asking.Waits kind whole → IsTurnedAway key end d links (body_in p h) → CannotGoOn whole more key end room d links (body_in o g)
 turned_goes whole was more key end room d links o p a b g h kind is there asks over held keeps why =
     let from : body_in p h ≡ (if b.is_over then Closed else Kept kind (a.held.items ++ more) whole) =
@@ -99,43 +101,43 @@ turned_goes whole was more key end room d links o p a b g h kind is there asks o
 
 -- ---- Who holds one
 
-pub unstarted_or : (key : ℕ) (r : code.Relay) → IsUnheld key r.desk ⊎ CannotStartAt key r → IsUnheldOrTurnedAway key r
+pub unstarted_or : (key : ℕ) (r : code.Relay) → IsUnheld key r.pool ⊎ CannotStartAt key r → IsUnheldOrTurnedAway key r
 unstarted_or key r (inl none) = inl none
 unstarted_or key r (inr why) = inr (reasons.Unstarted why)
 
-turned_or : (key : ℕ) (r : code.Relay) → (IsUnheld key r.desk → ⊥) → IsUnheldOrTurnedAway key r → IsTurnedAwayAt key r
+turned_or : (key : ℕ) (r : code.Relay) → (IsUnheld key r.pool → ⊥) → IsUnheldOrTurnedAway key r → IsTurnedAwayAt key r
 turned_or key r held (inl none) = absurd (held none)
 turned_or key r held (inr why) = why
 
-pub turned_held : (key : ℕ) (hold : Hold) (r : code.Relay) → find_key key r.desk.holds.items ≡ Some hold → IsUnheldOrTurnedAway key r → IsTurnedAwayAt key r
+pub turned_held : (key : ℕ) (hold : Hold) (r : code.Relay) → find_key key r.pool.holds.items ≡ Some hold → IsUnheldOrTurnedAway key r → IsTurnedAwayAt key r
 turned_held key hold r its why = turned_or key r (λ none. (let u : None ≡ Some hold = sym none ∙ its in let v : ⊥ = cc in v)) why
 
-pub turned_there : (key number : ℕ) (r : code.Relay) → holder (desk_in r.desk) number ≡ Some key → IsUnheldOrTurnedAway key r → IsTurnedAwayAt key r
-turned_there key number r its why = turned_or key r (λ none. who_held number key r.desk.holds.items its none) why
+pub turned_there : (key number : ℕ) (r : code.Relay) → holder (pool_in r.pool) number ≡ Some key → IsUnheldOrTurnedAway key r → IsTurnedAwayAt key r
+turned_there key number r its why = turned_or key r (λ none. who_held number key r.pool.holds.items its none) why
 
-pub renewed_held : (key : ℕ) (old d : desks.Desk) (r : code.Relay) (hold : Hold) → IsRenewed (renewals.Kept hold) key old d → r.desk ≡ d → IsUnheldOrTurnedAway key r → IsTurnedAwayAt key r
+pub renewed_held : (key : ℕ) (old d : pools.Pool) (r : code.Relay) (hold : Hold) → IsRenewed (renewals.Kept hold) key old d → r.pool ≡ d → IsUnheldOrTurnedAway key r → IsTurnedAwayAt key r
 renewed_held key old d r hold is same why =
-    turned_or key r (λ none. last_held key hold (without_lease is.0.lease old.holds.items) is.2 (ap (find_key key) (sym is.3) ∙ ap (λ (e : desks.Desk). find_key key e.holds.items) (sym same) ∙ none)) why
+    turned_or key r (λ none. last_held key hold (without_lease is.0.lease old.holds.items) is.2 (ap (find_key key) (sym is.3) ∙ ap (λ (e : pools.Pool). find_key key e.holds.items) (sym same) ∙ none)) why
 
 -- ---- It begins
 
-pub held_asks : (key : ℕ) (d : desks.Desk) (A : Type 0) → IsSome (find_key key d.holds.items) → IsUnheld key d ⊎ A → A
+pub held_asks : (key : ℕ) (d : pools.Pool) (A : Type 0) → IsSome (find_key key d.holds.items) → IsUnheld key d ⊎ A → A
 held_asks key d A held (inl none) = absurd (let u : false ≡ true = subst (λ (o : Option Hold). IsSome o) none held in let v : ⊥ = cc in v)
 held_asks key d A held (inr why) = why
 
 -- ---- A connection opens
 
-either_post : (b : Bool) (l m : Link) (o p : Option Link) → post_in l.out ≡ post_in m.out → option_map (λ (x : Link). post_in x.out) o ≡ option_map (λ (x : Link). post_in x.out) p
-    → option_map (λ (x : Link). post_in x.out) (if b then Some l else o) ≡ option_map (λ (x : Link). post_in x.out) (if b then Some m else p)
-either_post true l m o p same rest = ap Some same
-either_post false l m o p same rest = rest
+either_queue : (b : Bool) (l m : Link) (o p : Option Link) → queue_in l.out ≡ queue_in m.out → option_map (λ (x : Link). queue_in x.out) o ≡ option_map (λ (x : Link). queue_in x.out) p
+    → option_map (λ (x : Link). queue_in x.out) (if b then Some l else o) ≡ option_map (λ (x : Link). queue_in x.out) (if b then Some m else p)
+either_queue true l m o p same rest = ap Some same
+either_queue false l m o p same rest = rest
 
 -- one is written back with what waited there
-pub posts_same : (ls : List Link) (i : ℕ) (d m : Link) → m.number ≡ (slice_index_or ls i d).number → post_in m.out ≡ post_in (slice_index_or ls i d).out → (n : ℕ) → post_on n (slice_set ls i m) ≡ post_on n ls
-posts_same [] i d m number post n = refl
-posts_same (x ∷ xs) zero d m number post n =
-    ap (λ (k : ℕ). option_map (λ (l : Link). post_in l.out) (if k == n then Some m else link_at n xs)) number ∙ either_post (x.number == n) m x (link_at n xs) (link_at n xs) post refl
-posts_same (x ∷ xs) (suc i) d m number post n = either_post (x.number == n) x x (link_at n (slice_set xs i m)) (link_at n xs) refl (posts_same xs i d m number post n)
+pub queues_same : (ls : List Link) (i : ℕ) (d m : Link) → m.number ≡ (slice_index_or ls i d).number → queue_in m.out ≡ queue_in (slice_index_or ls i d).out → (n : ℕ) → queue_on n (slice_set ls i m) ≡ queue_on n ls
+queues_same [] i d m number queue n = refl
+queues_same (x ∷ xs) zero d m number queue n =
+    ap (λ (k : ℕ). option_map (λ (l : Link). queue_in l.out) (if k == n then Some m else link_at n xs)) number ∙ either_queue (x.number == n) m x (link_at n xs) (link_at n xs) queue refl
+queues_same (x ∷ xs) (suc i) d m number queue n = either_queue (x.number == n) x x (link_at n (slice_set xs i m)) (link_at n xs) refl (queues_same xs i d m number queue n)
 
 -- whose reason is told no more
 pub whoever : {A E : Type 0} (r : Result A E) (May Why : ℕ → Type 0) (a b : Register) → OnOk r (ClosesOnly (λ other. May other × Why other) a b) → OnOk r (ClosesOnly May a b)
@@ -164,98 +166,94 @@ pub kept_any : (o : Option Application) (g h : Body) → IsUnkept g → IsKept (
 kept_any None g h un kept = refl
 kept_any (Some a) g h un kept = kept_open a.is_over a.asking a.held.items g h un kept
 
-fits_by : (bytes : List ℕ) (o : Option Link) → option_map (λ (l : Link). fits (post_in l.out) bytes) o ≡ option_map (λ (p : Post). fits p bytes) (option_map (λ (l : Link). post_in l.out) o)
+fits_by : (bytes : List ℕ) (o : Option Link) → option_map (λ (l : Link). fits (queue_in l.out) bytes) o ≡ option_map (λ (p : Queue). fits p bytes) (option_map (λ (l : Link). queue_in l.out) o)
 fits_by bytes None = refl
 fits_by bytes (Some l) = refl
 
-pub room_as : (number : ℕ) (bytes : List ℕ) (old new : List Link) → post_on number new ≡ post_on number old → HasNoRoom number bytes new → HasNoRoom number bytes old
+pub room_as : (number : ℕ) (bytes : List ℕ) (old new : List Link) → queue_on number new ≡ queue_on number old → HasNoRoom number bytes new → HasNoRoom number bytes old
 room_as number bytes old new same none =
-    fits_by bytes (link_at number old) ∙ sym (ap (option_map (λ (p : Post). fits p bytes)) same) ∙ sym (fits_by bytes (link_at number new)) ∙ none
+    fits_by bytes (link_at number old) ∙ sym (ap (option_map (λ (p : Queue). fits p bytes)) same) ∙ sym (fits_by bytes (link_at number new)) ∙ none
 
-put_as : (whole : Bool) (more : List ℕ) (key : ℕ) (end : Option End) (d : desks.Desk) (a b : List Link) → KeepsPosts a b → CannotPut whole more key end d b → CannotPut whole more key end d a
+put_as : (whole : Bool) (more : List ℕ) (key : ℕ) (end : Option End) (d : pools.Pool) (a b : List Link) → KeepsQueues a b → CannotPut whole more key end d b → CannotPut whole more key end d a
 put_as whole more key end d a b alike (reasons.Unheld none) = reasons.Unheld none
 put_as whole more key end d a b alike (reasons.Unbegun none) = reasons.Unbegun none
 put_as whole more key end d a b alike (reasons.Untaken why) = reasons.Untaken why
-put_as whole more key end d a b alike (reasons.Unfit mid out puts none) = reasons.Unfit mid out puts (room_as puts.hold.number out a b (alike.posts puts.hold.number) none)
+put_as whole more key end d a b alike (reasons.Unfit mid out puts none) = reasons.Unfit mid out puts (room_as puts.hold.number out a b (alike.queues puts.hold.number) none)
 
-ask_as : (kind : MessageKind) (bytes : List ℕ) (whole : Bool) (key : ℕ) (end : Option End) (d : desks.Desk) (a b : List Link) → KeepsPosts a b → CannotAsk kind bytes whole key end d b → CannotAsk kind bytes whole key end d a
+ask_as : (kind : MessageKind) (bytes : List ℕ) (whole : Bool) (key : ℕ) (end : Option End) (d : pools.Pool) (a b : List Link) → KeepsQueues a b → CannotAsk kind bytes whole key end d b → CannotAsk kind bytes whole key end d a
 ask_as kind bytes whole key end d a b alike (reasons.Unasked why) = reasons.Unasked why
 ask_as kind bytes whole key end d a b alike (reasons.Unput hold its mid turns opens why) = reasons.Unput hold its mid turns opens (put_as whole bytes key end mid a b alike why)
 
-abbrev ready_as : (key : ℕ) (end : Option End) (d : desks.Desk) (a b : List Link) → KeepsPosts a b → IsReadyThere key end d b → IsReadyThere key end d a
+abbrev ready_as : (key : ℕ) (end : Option End) (d : pools.Pool) (a b : List Link) → KeepsQueues a b → IsReadyThere key end d b → IsReadyThere key end d a
 ready_as key end d a b alike ready = record { hold = ready.hold; its = ready.its; open_there = alike.opens ready.hold.number ready.open_there; drained = ready.drained }
 
-starts_kept : (key : ℕ) (end : Option End) (d : desks.Desk) (links : List Link) (body : Body) → CannotStart key end d links body → IsKept body
+starts_kept : (key : ℕ) (end : Option End) (d : pools.Pool) (links : List Link) (body : Body) → CannotStart key end d links body → IsKept body
 starts_kept key end d links Closed why = why
 starts_kept key end d links Nowhere why = why
 starts_kept key end d links (Kept kind bytes whole) why = tt
 starts_kept key end d links Astray why = why
 starts_kept key end d links (Going number client waits) why = why
 
-asks_as : (kind : MessageKind) (bytes : List ℕ) (whole : Bool) (key : ℕ) (end : Option End) (d : desks.Desk) (a b : List Link) → KeepsPosts a b → IsReadyThere key end d b × CannotAsk kind bytes whole key end d b
+asks_as : (kind : MessageKind) (bytes : List ℕ) (whole : Bool) (key : ℕ) (end : Option End) (d : pools.Pool) (a b : List Link) → KeepsQueues a b → IsReadyThere key end d b × CannotAsk kind bytes whole key end d b
     → IsReadyThere key end d a × CannotAsk kind bytes whole key end d a
 asks_as kind bytes whole key end d a b alike why = (ready_as key end d a b alike why.0, ask_as kind bytes whole key end d a b alike why.1)
 
-start_as : (key : ℕ) (end : Option End) (d : desks.Desk) (a b : List Link) (body : Body) → KeepsPosts a b → CannotStart key end d b body → CannotStart key end d a body
+start_as : (key : ℕ) (end : Option End) (d : pools.Pool) (a b : List Link) (body : Body) → KeepsQueues a b → CannotStart key end d b body → CannotStart key end d a body
 start_as key end d a b Closed alike why = why
 start_as key end d a b Nowhere alike why = why
 start_as key end d a b (Kept kind bytes whole) alike why = asks_as kind bytes whole key end d a b alike why
 start_as key end d a b Astray alike why = why
 start_as key end d a b (Going number client waits) alike why = why
 
-pub turned_as : (key : ℕ) (end : Option End) (d : desks.Desk) (a b : List Link) (body was : Body) → KeepsPosts a b → (IsKept body → was ≡ body) → IsTurnedAway key end d b body → IsTurnedAway key end d a was
+pub turned_as : (key : ℕ) (end : Option End) (d : pools.Pool) (a b : List Link) (body was : Body) → KeepsQueues a b → (IsKept body → was ≡ body) → IsTurnedAway key end d b body → IsTurnedAway key end d a was
 turned_as key end d a b body was alike same (reasons.Unstarted why) =
     reasons.Unstarted (subst (CannotStart key end d a) (sym (same (starts_kept key end d b body why))) (start_as key end d a b body alike why))
 turned_as key end d a b body was alike same (NoneBegun kept ready none) = NoneBegun (subst IsKept (sym (same kept)) kept) (ready_as key end d a b alike ready) none
 turned_as key end d a b body was alike same (Unreset kept ready not) = Unreset (subst IsKept (sym (same kept)) kept) (ready_as key end d a b alike ready) not
 
-pub as_refl : (a : List Link) → KeepsPosts a a
-as_refl a = record { posts = λ n. refl; opens = λ n some. some }
+pub as_refl : (a : List Link) → KeepsQueues a a
+as_refl a = record { queues = λ n. refl; opens = λ n some. some }
 
-some_seen : (o p : Option Seen) → StaysAt p o → IsSome (open_of o) → IsSome (open_of p)
+pub some_seen : (o p : Option Seen) → StaysAt p o → IsSome (open_of o) → IsSome (open_of p)
 some_seen None p stays some = absurd (let u : false ≡ true = some in let v : ⊥ = cc in v)
 some_seen (Some s) p stays some = subst (λ (q : Option Seen). IsSome (open_of q)) (sym stays) some
 
-stays_refl : (o : Option Seen) → StaysAt o o
-stays_refl None = tt
-stays_refl (Some s) = refl
-
 -- where those that are there are seen as they were
-pub as_seen : (a b : List Link) → ((n : ℕ) → post_on n b ≡ post_on n a) → Sees a b → KeepsPosts a b
-as_seen a b posts sees = record { posts = posts; opens = λ n some. some_seen (seen_at n b) (seen_at n a) (sees n (seen_at n a) (stays_refl (seen_at n a))) some }
+pub as_seen : (a b : List Link) → ((n : ℕ) → queue_on n b ≡ queue_on n a) → Sees a b → KeepsQueues a b
+as_seen a b queues sees = record { queues = queues; opens = λ n some. some_seen (seen_at n b) (seen_at n a) (sees n (seen_at n a) (at_refl (seen_at n a))) some }
 
 -- what is kept is as it was kept
 pub kept_asks : (key : ℕ) (r r0 : code.Relay) → AskAsBefore r0.applications r.applications → IsKept (body_of key r) → body_of key r0 ≡ body_of key r
 kept_asks key r r0 asks kept =
-    kept_any (get r0.applications key) (going_of key r) (going_of key r0) (unkept_going r.desk.service r.links.items (find_key key r.desk.holds.items)) (subst IsKept (asks key (going_of key r)) kept) ∙ sym (asks key (going_of key r))
+    kept_any (get r0.applications key) (going_of key r) (going_of key r0) (unkept_going r.pool.service r.links.items (find_key key r.pool.holds.items)) (subst IsKept (asks key (going_of key r)) kept) ∙ sym (asks key (going_of key r))
 
--- as its application was before, at this desk
-pub turned_with : (key : ℕ) (r r0 : code.Relay) (d : desks.Desk) (a : List Link) → r.desk ≡ d → ends_in r.applications ≡ ends_in r0.applications → AskAsBefore r0.applications r.applications → KeepsPosts a r.links.items → IsTurnedAwayAt key r
+-- as its application was before, at this pool
+pub turned_with : (key : ℕ) (r r0 : code.Relay) (d : pools.Pool) (a : List Link) → r.pool ≡ d → ends_in r.applications ≡ ends_in r0.applications → AskAsBefore r0.applications r.applications → KeepsQueues a r.links.items → IsTurnedAwayAt key r
     → IsTurnedAway key (end_at (ends_in r0.applications) key) d a (body_of key r0)
-turned_with key r r0 d a desk ends asks alike why =
-    subst (λ (e : desks.Desk). IsTurnedAway key (end_at (ends_in r0.applications) key) e a (body_of key r0)) desk
-    (subst (λ (es : Ends). IsTurnedAway key (end_at es key) r.desk a (body_of key r0)) ends (turned_as key (end_at (ends_in r.applications) key) r.desk a r.links.items (body_of key r) (body_of key r0) alike (kept_asks key r r0 asks) why))
+turned_with key r r0 d a pool ends asks alike why =
+    subst (λ (e : pools.Pool). IsTurnedAway key (end_at (ends_in r0.applications) key) e a (body_of key r0)) pool
+    (subst (λ (es : Ends). IsTurnedAway key (end_at es key) r.pool a (body_of key r0)) ends (turned_as key (end_at (ends_in r.applications) key) r.pool a r.links.items (body_of key r) (body_of key r0) alike (kept_asks key r r0 asks) why))
 
-pub turned_on : (key : ℕ) (r r0 : code.Relay) (a : List Link) → r.desk ≡ r0.desk → ends_in r.applications ≡ ends_in r0.applications → AskAsBefore r0.applications r.applications → KeepsPosts a r.links.items → IsTurnedAwayAt key r
-    → IsTurnedAway key (end_at (ends_in r0.applications) key) r0.desk a (body_of key r0)
-turned_on key r r0 a desk ends asks alike why = turned_with key r r0 r0.desk a desk ends asks alike why
+pub turned_on : (key : ℕ) (r r0 : code.Relay) (a : List Link) → r.pool ≡ r0.pool → ends_in r.applications ≡ ends_in r0.applications → AskAsBefore r0.applications r.applications → KeepsQueues a r.links.items → IsTurnedAwayAt key r
+    → IsTurnedAway key (end_at (ends_in r0.applications) key) r0.pool a (body_of key r0)
+turned_on key r r0 a pool ends asks alike why = turned_with key r r0 r0.pool a pool ends asks alike why
 
-pub turned_kept : (key : ℕ) (end : Option End) (d : desks.Desk) (links : List Link) (body : Body) → IsTurnedAway key end d links body → IsKept body
+pub turned_kept : (key : ℕ) (end : Option End) (d : pools.Pool) (links : List Link) (body : Body) → IsTurnedAway key end d links body → IsKept body
 turned_kept key end d links body (reasons.Unstarted why) = starts_kept key end d links body why
 turned_kept key end d links body (NoneBegun kept ready none) = kept
 turned_kept key end d links body (Unreset kept ready not) = kept
 
 -- ---- What is to keep its transaction
 
-pub renewed_as : (Stays : Type 0) (key : ℕ) (end : Option End) (d : desks.Desk) (a b : List Link) (body was : Body) → KeepsPosts a b → (IsKept body → was ≡ body) → IsUnrenewed Stays key end d b body → IsUnrenewed Stays key end d a was
+pub renewed_as : (Stays : Type 0) (key : ℕ) (end : Option End) (d : pools.Pool) (a b : List Link) (body was : Body) → KeepsQueues a b → (IsKept body → was ≡ body) → IsUnrenewed Stays key end d b body → IsUnrenewed Stays key end d a was
 renewed_as Stays key end d a b body was alike same (reasons.Unkept resumes is stays) = reasons.Unkept resumes is stays
 renewed_as Stays key end d a b body was alike same (reasons.Unserved resumes mid may is why) = reasons.Unserved resumes mid may is (turned_as key end mid a b body was alike same why)
 
-resume_as : (key : ℕ) (end : Option End) (d : desks.Desk) (a b : List Link) (body was : Body) → KeepsPosts a b → (IsKept body → was ≡ body) → CannotResume key end d b body → CannotResume key end d a was
+resume_as : (key : ℕ) (end : Option End) (d : pools.Pool) (a b : List Link) (body was : Body) → KeepsQueues a b → (IsKept body → was ≡ body) → CannotResume key end d b body → CannotResume key end d a was
 resume_as key end d a b body was alike same (inl x) = inl (x.0, turned_as key end d a b body was alike same x.1)
-resume_as key end d a b body was alike same (inr x) = inr (x.0, renewed_as (CannotMove key end (desk_in d)) key end d a b body was alike same x.1)
+resume_as key end d a b body was alike same (inr x) = inr (x.0, renewed_as (CannotMove key end (pool_in d)) key end d a b body was alike same x.1)
 
-pub not_as : (number : ℕ) (key : Option ℕ) (ends ends1 : Ends) (d : desks.Desk) (a b : List Link) (body was : Body) (other : ℕ) → ends ≡ ends1 → KeepsPosts a b → (IsKept body → was ≡ body) → ResumesNot number key ends d b body other
+pub not_as : (number : ℕ) (key : Option ℕ) (ends ends1 : Ends) (d : pools.Pool) (a b : List Link) (body was : Body) (other : ℕ) → ends ≡ ends1 → KeepsQueues a b → (IsKept body → was ≡ body) → ResumesNot number key ends d b body other
     → ResumesNot number key ends1 d a was other
 not_as number key ends ends1 d a b body was other e alike same (inl x) =
     inl (
@@ -267,9 +265,9 @@ not_as number key ends ends1 d a b body was other e alike same (inl x) =
     )
 not_as number key ends ends1 d a b body was other e alike same (inr x) = inr x
 
-pub part_at : (key : ℕ) (end : Option End) (d e : desks.Desk) → desk_in d ≡ desk_in e → CannotPart key end d → CannotPart key end e
+pub part_at : (key : ℕ) (end : Option End) (d e : pools.Pool) → pool_in d ≡ pool_in e → CannotPart key end d → CannotPart key end e
 part_at key end d e same (reasons.Out out) = reasons.Out out
-part_at key end d e same (reasons.Held mid leaving some) = reasons.Held mid (subst (λ (x : Desk). Leaving key x (desk_in mid)) same leaving) some
+part_at key end d e same (reasons.Held mid leaving some) = reasons.Held mid (subst (λ (x : Pool). Leaving key x (pool_in mid)) same leaving) some
 
 begun_if : (over : Bool) (b : Body) → IsKept (if over then Closed else b) → b ≡ (if over then Closed else b)
 begun_if true b kept = absurd kept
@@ -305,23 +303,23 @@ back_not s key a is drained back = back_if a.is_over a.is_withdrawn a.fault a.fr
 
 -- with what a relay has
 abbrev pub CannotResumeAt : ℕ → code.Relay → Type 0
-CannotResumeAt key r = CannotResume key (end_at (ends_in r.applications) key) r.desk r.links.items (body_of key r)
+CannotResumeAt key r = CannotResume key (end_at (ends_in r.applications) key) r.pool r.links.items (body_of key r)
 
-pub resume_or : (key : ℕ) (r : code.Relay) → (IsKept (body_of key r) → ¬ AsksFor KeepTransaction (end_at (ends_in r.applications) key)) → IsUnheldOrTurnedAway key r → IsUnheld key r.desk ⊎ CannotResumeAt key r
+pub resume_or : (key : ℕ) (r : code.Relay) → (IsKept (body_of key r) → ¬ AsksFor KeepTransaction (end_at (ends_in r.applications) key)) → IsUnheldOrTurnedAway key r → IsUnheld key r.pool ⊎ CannotResumeAt key r
 resume_or key r not (inl none) = inl none
-resume_or key r not (inr why) = inr (inl (not (turned_kept key (end_at (ends_in r.applications) key) r.desk r.links.items (body_of key r) why), why))
+resume_or key r not (inr why) = inr (inl (not (turned_kept key (end_at (ends_in r.applications) key) r.pool r.links.items (body_of key r) why), why))
 
 pub resumes_for : (number key other : ℕ) (old : code.Relay) → other ≡ key → AsksFor KeepTransaction (end_at (ends_in old.applications) key)
-    → IsUnrenewed (CannotMove key (end_at (ends_in old.applications) key) (desk_in old.desk)) key (end_at (ends_in old.applications) key) old.desk old.links.items (body_of key old) → ResumesNotAt number key old other
+    → IsUnrenewed (CannotMove key (end_at (ends_in old.applications) key) (pool_in old.pool)) key (end_at (ends_in old.applications) key) old.pool old.links.items (body_of key old) → ResumesNotAt number key old other
 resumes_for number key other old same asks why = inl (ap (λ (k : ℕ). Some k) (sym same), inr (subst (λ (k : ℕ). CannotResumeAt k old) (sym same) (inr (asks, why))))
 
-pub stays_for : (number key other : ℕ) (old : code.Relay) (d : Desk) → AsksFor KeepTransaction (end_at (ends_in old.applications) key) → d ≡ desk_in old.desk → (resumes : Bool) → (turn (desk_in old.desk) (Renews key resumes)).desk ≡ desk_in old.desk
+pub stays_for : (number key other : ℕ) (old : code.Relay) (d : Pool) → AsksFor KeepTransaction (end_at (ends_in old.applications) key) → d ≡ pool_in old.pool → (resumes : Bool) → (turn (pool_in old.pool) (Renews key resumes)).pool ≡ pool_in old.pool
     → (other ≡ key) ⊎ (other ≢ key) → IsWho (holder d number) other × CannotMove other (end_at (ends_in old.applications) other) d → ResumesNotAt number key old other
 stays_for number key other old d asks is resumes still (inl same) why =
     resumes_for number key other old same asks
-    (reasons.Unkept resumes still (subst (λ (k : ℕ). CannotMove k (end_at (ends_in old.applications) k) (desk_in old.desk)) same (subst (λ (e : Desk). CannotMove other (end_at (ends_in old.applications) other) e) is why.1)))
+    (reasons.Unkept resumes still (subst (λ (k : ℕ). CannotMove k (end_at (ends_in old.applications) k) (pool_in old.pool)) same (subst (λ (e : Pool). CannotMove other (end_at (ends_in old.applications) other) e) is why.1)))
 stays_for number key other old d asks is resumes still (inr differs) why =
-    inr ((λ e. differs (let u : Some key ≡ Some other = e in cc)), subst (λ (e : Desk). IsWho (holder e number) other) is why.0)
+    inr ((λ e. differs (let u : Some key ≡ Some other = e in cc)), subst (λ (e : Pool). IsWho (holder e number) other) is why.0)
 
 -- ---- A connection is written back
 
@@ -348,50 +346,53 @@ open_flag (Some l) None e some = absurd (let u : Some l.is_open ≡ None = e in 
 open_flag (Some l) (Some m) e some = open_if l.is_open m.is_open l.reader m.reader (let u : Some l.is_open ≡ Some m.is_open = e in cc) some
 
 -- with what waited there, and open as it was
-pub keeps_written : (ls : List Link) (i : ℕ) (d m : Link) → m.number ≡ (slice_index_or ls i d).number → post_in m.out ≡ post_in (slice_index_or ls i d).out → m.is_open ≡ (slice_index_or ls i d).is_open → KeepsPosts ls (slice_set ls i m)
-keeps_written ls i d m number post same = record {
-  posts = λ n. posts_same ls i d m number post n;
+pub keeps_written : (ls : List Link) (i : ℕ) (d m : Link) → m.number ≡ (slice_index_or ls i d).number → queue_in m.out ≡ queue_in (slice_index_or ls i d).out → m.is_open ≡ (slice_index_or ls i d).is_open → KeepsQueues ls (slice_set ls i m)
+keeps_written ls i d m number queue same = record {
+  queues = λ n. queues_same ls i d m number queue n;
   opens = λ n some. open_flag (link_at n (slice_set ls i m)) (link_at n ls) (flags_same ls i d m number same n) some;
 }
 
 -- ---- As a connection opens
 
-pub opens_for : (number other : ℕ) (old r : code.Relay) → r.desk ≡ old.desk → ends_in r.applications ≡ ends_in old.applications → AskAsBefore old.applications r.applications → IsOpened number old.links.items r.links.items
-    → IsWho (holder (desk_in r.desk) number) other × IsTurnedAwayAt other r → OpensFor number old other
-opens_for number other old r desk ends asks opened why =
-    inl (ap (λ (d : desks.Desk). holder (desk_in d) number) (sym desk) ∙ why.0, r.links.items, opened, turned_on other r old r.links.items desk ends asks (as_refl r.links.items) why.1)
+pub opens_for : (number other : ℕ) (old r : code.Relay) → r.pool ≡ old.pool → ends_in r.applications ≡ ends_in old.applications → AskAsBefore old.applications r.applications → IsOpened number old.links.items r.links.items
+    → IsWho (holder (pool_in r.pool) number) other × IsTurnedAwayAt other r → OpensFor number old other
+opens_for number other old r pool ends asks opened why =
+    (ap (λ (d : pools.Pool). holder (pool_in d) number) (sym pool) ∙ why.0, r.links.items, opened, turned_on other r old r.links.items pool ends asks (as_refl r.links.items) why.1)
 
 -- ---- One that is lent one
 
-pub lent_for : {A E : Type 0} (r : Result A E) (key : ℕ) (old mid new : code.Relay) → mid.desk ≡ old.desk → mid.applications ≡ old.applications → ((n : ℕ) → post_on n mid.links.items ≡ post_on n old.links.items)
+pub lent_for : {A E : Type 0} (r : Result A E) (key : ℕ) (old mid new : code.Relay) → mid.pool ≡ old.pool → mid.applications ≡ old.applications → ((n : ℕ) → queue_on n mid.links.items ≡ queue_on n old.links.items)
     → Sees old.links.items mid.links.items → ClosesOnly Nobody (register_in old) (register_in mid) → OnOk r (ClosesOnly (ItselfFor key (IsUnheldOrTurnedAway key mid)) (register_in mid) (register_in new))
     → OnOk r (ClosesOnly (ItselfFor key (IsUnheldOrTurnedAway key old)) (register_in old) (register_in new))
-lent_for r key old mid new desk same posts sees first next =
+lent_for r key old mid new pool same queues sees first next =
     closes_first r (ItselfFor key (IsUnheldOrTurnedAway key old)) (register_in old) (register_in mid) (register_in new)
     (for_that r key (IsUnheldOrTurnedAway key mid) (IsUnheldOrTurnedAway key old) (register_in mid) (register_in new) (λ why. elim why [
-      | inl none ↦ inl (subst (λ (d : desks.Desk). IsUnheld key d) desk none)
-      | inr away ↦ inr (turned_on key mid old old.links.items desk (ap ends_in same) (λ k goes. ap (λ (s : Slab Application). body_in (get s k) goes) same) (as_seen old.links.items mid.links.items posts sees) away)
+      | inl none ↦ inl (subst (λ (d : pools.Pool). IsUnheld key d) pool none)
+      | inr away ↦ inr (turned_on key mid old old.links.items pool (ap ends_in same) (λ k goes. ap (λ (s : Slab Application). body_in (get s k) goes) same) (as_seen old.links.items mid.links.items queues sees) away)
     ]) next) first
 
-abbrev at_desk : code.Relay → desks.Desk → code.Relay
-at_desk r d = record r { desk = d }
+abbrev at_pool : code.Relay → pools.Pool → code.Relay
+at_pool r d = record r { pool = d }
 
 -- in turn
-pub lent_in_vain : (start mid : code.Relay) (after : desks.Desk) (o : Option Served) (served : Served) (key : ℕ) → Unserved (hall_in start) (hall_in mid) → Serving (desk_in mid.desk) o → o ≡ Some served
-    → Turns Serves (desk_in mid.desk) (desk_in after) [] [] → MovedOn (hall_in start) (hall_in mid) → AllGo start (at_desk mid after) → Opens start.links.items mid.links.items → (IsReached (desk_in start.desk) → LendsInLine start mid)
-    → key ≡ served.hold.key → IsUnheldOrTurnedAway served.hold.key (at_desk mid after) → IsLentInVain start key
-lent_in_vain start mid after o served key unserved serving is turns moved goes opens posts same turned = record {
-  waits = served_waited (hall_in start) (hall_in mid) o served unserved serving is key same;
-  free = mid.desk;
-  at = at_desk mid after;
+pub lent_in_vain : (start mid : code.Relay) (after : pools.Pool) (o : Option Served) (served : Served) (key : ℕ) → Unserved (core_in start) (core_in mid) → Serving (pool_in mid.pool) o → o ≡ Some served
+    → Turns Serves (pool_in mid.pool) (pool_in after) [] [] → MovedOn (core_in start) (core_in mid) → AllGo start (at_pool mid after) → Opens start.links.items mid.links.items → (IsReached (pool_in start.pool) → LendsInLine start mid)
+    → key ≡ served.hold.key → IsUnheldOrTurnedAway served.hold.key (at_pool mid after) → IsLentInVain start key
+lent_in_vain start mid after o served key unserved serving is turns moved goes opens queues same turned = record {
+  waits = served_waited (core_in start) (core_in mid) o served unserved serving is key same;
+  free = mid.pool;
+  first = λ sharing led.
+      let s = subst (Serving (pool_in mid.pool)) is serving in
+      unheld_behind sharing key (core_in start) (core_in mid) (queues_in start.applications) (moved Neither) led (first_waits key served.hold.key mid.pool.line.items s.0 s.1 (sym same));
+  at = at_pool mid after;
   lent = turns;
   moved = λ by from h. moves_does by from _ _ _ _ _ _ _ turns tt tt refl (moved by from h);
   goes = goes;
   opens = opens;
-  posts = posts;
+  queues = queues;
   turned =
-      let s = subst (Serving (desk_in mid.desk)) is serving in
-      let held : after.holds.items ≡ mid.desk.holds.items ++ served.hold ∷ [] = lent_holds (desk_in mid.desk) (desk_in after) served s.0 turns.desk_is s.1 s.2 in
-      subst (λ (k : ℕ). IsTurnedAwayAt k (at_desk mid after)) (sym same)
-      (turned_or served.hold.key (at_desk mid after) (λ none. last_held served.hold.key served.hold mid.desk.holds.items refl (ap (find_key served.hold.key) (sym held) ∙ none)) turned);
+      let s = subst (Serving (pool_in mid.pool)) is serving in
+      let held : after.holds.items ≡ mid.pool.holds.items ++ served.hold ∷ [] = lent_holds (pool_in mid.pool) (pool_in after) served s.0 turns.pool_is s.1 s.2 in
+      subst (λ (k : ℕ). IsTurnedAwayAt k (at_pool mid after)) (sym same)
+      (turned_or served.hold.key (at_pool mid after) (λ none. last_held served.hold.key served.hold mid.pool.holds.items refl (ap (find_key served.hold.key) (sym held) ∙ none)) turned);
 }

@@ -5,8 +5,8 @@ use Rattle.tds_packet.specs.declared.status.Reset.TheVariants.{Full, KeepTransac
 use Rattle.tds_service.specs.Anew.{begins_anew}
 use Rattle.tds_service.specs.Service.{Seat}
 use Rattle.tds_relay.specs.Anew.{Resets}
-use Rattle.tds_relay.specs.Desk.{owes_of}
-use Rattle.tds_relay.specs.Hall.{End, IfOpenAsks, Open, Over}
+use Rattle.tds_relay.specs.Pool.{owes_of}
+use Rattle.tds_relay.specs.Core.{End, IfOpenAsks, Open, Over}
 
 pub asks_map : (P Q : Option Reset → Type 0) (o : Option End) → ((asks : Option Reset) → P asks → Q asks) → IfOpenAsks P o → IfOpenAsks Q o
 asks_map P Q None f p = tt

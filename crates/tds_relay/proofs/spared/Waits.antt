@@ -1,16 +1,18 @@
 -- What waits on each connection, where one of them is written back or taken out.
-use Rattle.std.proofs.Common.{◌≡◌, ◌≢◌, ◌∙◌, ◌==◌, ◌++◌, ℕ, zero, suc, not, Bool, true, false, List, [], ◌∷◌, Option, Some, None, refl, sym, ap, subst, slice_index_or, slice_set, option_map, if◌then◌else◌}
+use Rattle.std.proofs.Common.{◌≡◌, ◌≢◌, ◌∙◌, ◌==◌, ◌++◌, ◌+◌, ◌&&◌, length, ℕ, zero, suc, not, Bool, true, false, List, [], ◌∷◌, Option, Some, None, refl, sym, ap, subst, slice_index_or, slice_set, option_map, if◌then◌else◌}
 use Rattle.std.proofs.lemmas.Bool.{eqb-true}
+use Rattle.std.specs.Prelude.{nat_le}
 use Rattle.tds_relay.specs.declared.link.Link.{Link}
-use Rattle.tds_relay.specs.Posts.{Post, fits, post_in, put}
+use Rattle.tds_relay.specs.Queues.{Queue, fits, queue_in, put}
 use Rattle.tds_relay.specs.Reasons.{HasNoRoom}
-use Rattle.tds_relay.specs.Reads.{FillsAt, link_at, place_of, post_on, waits_on, without_link}
+use Rattle.tds_relay.specs.Reads.{FillsAt, Fullness, link_at, place_of, queue_on, waits_on, without_link}
+use Rattle.tds_relay.proofs.steps.Fullness.{full_by}
 use Rattle.tds_relay.proofs.steps.Placed.{IsAt, is_at, is_nowhere}
 use Rattle.tds_relay.proofs.steps.Staying.{fills_refl}
 use Rattle.tds_relay.proofs.visits.Waiting.{put_fills, put_fits}
 
 abbrev waits_of : Link → List ℕ
-waits_of l = (post_in l.out).bytes
+waits_of l = (queue_in l.out).bytes
 
 -- ---- One is written back
 
@@ -56,9 +58,9 @@ pub others_wait : (number : ℕ) (ls : List Link) (place : ℕ) (d m : Link) →
 others_wait number ls place d m is same other differs = ap (option_map waits_of) (others_link number ls place d m is same other differs)
 
 -- with whether it fits
-pub others_post : (number : ℕ) (ls : List Link) (place : ℕ) (d m : Link) → place_of number ls ≡ Some place → m.number ≡ (slice_index_or ls place d).number
-    → (other : ℕ) → other ≢ number → post_on other (slice_set ls place m) ≡ post_on other ls
-others_post number ls place d m is same other differs = ap (option_map (λ (l : Link). post_in l.out)) (others_link number ls place d m is same other differs)
+pub others_queue : (number : ℕ) (ls : List Link) (place : ℕ) (d m : Link) → place_of number ls ≡ Some place → m.number ≡ (slice_index_or ls place d).number
+    → (other : ℕ) → other ≢ number → queue_on other (slice_set ls place m) ≡ queue_on other ls
+others_queue number ls place d m is same other differs = ap (option_map (λ (l : Link). queue_in l.out)) (others_link number ls place d m is same other differs)
 
 -- its own changes with it
 pub one_waits : (by : List ℕ → List ℕ) (number : ℕ) (ls : List Link) (place : ℕ) (d m : Link) → place_of number ls ≡ Some place → m.number ≡ (slice_index_or ls place d).number
@@ -73,56 +75,47 @@ none_waits by number ls is =
     let none : link_at number ls ≡ None = is_nowhere number ls is in
     ap (option_map waits_of) none ∙ sym (ap (λ (o : Option Link). option_map by (option_map waits_of o)) none)
 
-pub one_post : (by : Post → Post) (number : ℕ) (ls : List Link) (place : ℕ) (d m : Link) → place_of number ls ≡ Some place → m.number ≡ (slice_index_or ls place d).number
-    → post_in m.out ≡ by (post_in (slice_index_or ls place d).out) → post_on number (slice_set ls place m) ≡ option_map by (post_on number ls)
-one_post by number ls place d m is same post =
+pub one_queue : (by : Queue → Queue) (number : ℕ) (ls : List Link) (place : ℕ) (d m : Link) → place_of number ls ≡ Some place → m.number ≡ (slice_index_or ls place d).number
+    → queue_in m.out ≡ by (queue_in (slice_index_or ls place d).out) → queue_on number (slice_set ls place m) ≡ option_map by (queue_on number ls)
+one_queue by number ls place d m is same queue =
     let at : IsAt number ls place = is_at number ls place is in
-    ap (option_map (λ (l : Link). post_in l.out)) (at.written d m same) ∙ ap Some post ∙ sym (ap (λ (o : Option Link). option_map by (option_map (λ (l : Link). post_in l.out) o)) (at.found d))
+    ap (option_map (λ (l : Link). queue_in l.out)) (at.written d m same) ∙ ap Some queue ∙ sym (ap (λ (o : Option Link). option_map by (option_map (λ (l : Link). queue_in l.out) o)) (at.found d))
 
-pub none_post : (by : Post → Post) (number : ℕ) (ls : List Link) → place_of number ls ≡ None → post_on number ls ≡ option_map by (post_on number ls)
-none_post by number ls is =
+pub none_queue : (by : Queue → Queue) (number : ℕ) (ls : List Link) → place_of number ls ≡ None → queue_on number ls ≡ option_map by (queue_on number ls)
+none_queue by number ls is =
     let none : link_at number ls ≡ None = is_nowhere number ls is in
-    ap (option_map (λ (l : Link). post_in l.out)) none ∙ sym (ap (λ (o : Option Link). option_map by (option_map (λ (l : Link). post_in l.out) o)) none)
+    ap (option_map (λ (l : Link). queue_in l.out)) none ∙ sym (ap (λ (o : Option Link). option_map by (option_map (λ (l : Link). queue_in l.out) o)) none)
 
 -- ---- What is put there, or sent
 
-put_by : (b : Bool) (bytes : List ℕ) (p : Post) → fits p bytes ≡ b → (put bytes p).is_full ≡ false → (put bytes p).bytes ≡ p.bytes ++ bytes
-put_by true bytes p e all = ap (λ (q : Post). q.bytes) (put_fits bytes p e)
-put_by false bytes p e all = absurd (let u : true ≡ false = sym (ap (λ (q : Post). q.is_full) (put_fills bytes p e)) ∙ all in let v : ⊥ = cc in v)
+-- where it fits, all of it waits
+pub put_waits : (bytes : List ℕ) (p q : Queue) → q ≡ put bytes p → fits p bytes ≡ true → q.bytes ≡ p.bytes ++ bytes
+put_waits bytes p q is fit = ap (λ (r : Queue). r.bytes) (is ∙ put_fits bytes p fit)
 
--- where it isn't full behind it, all of it waits
-pub put_waits : (bytes : List ℕ) (p q : Post) → q ≡ put bytes p → q.is_full ≡ false → q.bytes ≡ p.bytes ++ bytes
-put_waits bytes p q is all = ap (λ (r : Post). r.bytes) is ∙ put_by (fits p bytes) bytes p refl (sym (ap (λ (r : Post). r.is_full) is) ∙ all)
+not_full : (b c : Bool) → (not b && c) ≡ true → b ≡ false
+not_full true c e = absurd (let u : false ≡ true = e in let v : ⊥ = cc in v)
+not_full false c e = refl
 
-full_by : (b : Bool) (bytes : List ℕ) (p : Post) → fits p bytes ≡ b → (put bytes p).is_full ≡ true → (put bytes p).bytes ≡ p.bytes
-full_by true bytes p e full = absurd (let u : false ≡ true = sym (ap (λ (q : Post). q.is_full) (put_fits bytes p e)) ∙ full in let v : ⊥ = cc in v)
-full_by false bytes p e full = ap (λ (q : Post). q.bytes) (put_fills bytes p e)
+-- and it is as full as it was
+pub put_full : (bytes : List ℕ) (p q : Queue) → q ≡ put bytes p → fits p bytes ≡ true → full_by q ≡ full_by p
+put_full bytes p q is fit =
+    ap full_by (is ∙ put_fits bytes p fit) ∙ ap (λ (b : Bool). let f : Fullness = (p.size, b) in f) (sym (not_full p.is_full (nat_le (length p.bytes + length bytes) (p.size + 32768)) fit))
 
--- where it is, none of it does
-pub put_unfit : (bytes : List ℕ) (p q : Post) → q ≡ put bytes p → q.is_full ≡ true → q.bytes ≡ p.bytes
-put_unfit bytes p q is full = ap (λ (r : Post). r.bytes) is ∙ full_by (fits p bytes) bytes p refl (sym (ap (λ (r : Post). r.is_full) is) ∙ full)
-
-unfit_by : (b : Bool) (bytes : List ℕ) (p : Post) → fits p bytes ≡ b → (put bytes p).is_full ≡ true → fits p bytes ≡ false
-unfit_by true bytes p e full = absurd (let u : false ≡ true = sym (ap (λ (q : Post). q.is_full) (put_fits bytes p e)) ∙ full in let v : ⊥ = cc in v)
-unfit_by false bytes p e full = e
-
--- then there was no room for it
-pub no_room : (bytes : List ℕ) (number : ℕ) (ls : List Link) (place : ℕ) (l : Link) (q : Post) → place_of number ls ≡ Some place → l ≡ slice_index_or ls place l → q ≡ put bytes (post_in l.out) → q.is_full ≡ true → HasNoRoom number bytes ls
-no_room bytes number ls place l q is there behind full =
+-- there is no room for it
+pub no_room : (bytes : List ℕ) (number : ℕ) (ls : List Link) (place : ℕ) (l : Link) → place_of number ls ≡ Some place → l ≡ slice_index_or ls place l → fits (queue_in l.out) bytes ≡ false → HasNoRoom number bytes ls
+no_room bytes number ls place l is there unfit =
     let at : IsAt number ls place = is_at number ls place is in
-    let p = post_in l.out in
-    ap (option_map (λ (x : Link). fits (post_in x.out) bytes)) (at.found l) ∙ ap (λ (x : Link). Some (fits (post_in x.out) bytes)) (sym there)
-    ∙ ap Some (unfit_by (fits p bytes) bytes p refl (sym (ap (λ (r : Post). r.is_full) behind) ∙ full))
+    ap (option_map (λ (x : Link). fits (queue_in x.out) bytes)) (at.found l) ∙ ap (λ (x : Link). Some (fits (queue_in x.out) bytes)) (sym there) ∙ ap Some unfit
 
-either_put : (b : Bool) (bytes : List ℕ) (p : Post) → fits p bytes ≡ b → FillsAt (Some p.bytes) (Some (put bytes p).bytes)
-either_put true bytes p e = subst (λ (q : Post). FillsAt (Some p.bytes) (Some q.bytes)) (sym (put_fits bytes p e)) (bytes, refl)
-either_put false bytes p e = subst (λ (q : Post). FillsAt (Some p.bytes) (Some q.bytes)) (sym (put_fills bytes p e)) (fills_refl (Some p.bytes))
+either_put : (b : Bool) (bytes : List ℕ) (p : Queue) → fits p bytes ≡ b → FillsAt (Some p.bytes) (Some (put bytes p).bytes)
+either_put true bytes p e = subst (λ (q : Queue). FillsAt (Some p.bytes) (Some q.bytes)) (sym (put_fits bytes p e)) (bytes, refl)
+either_put false bytes p e = subst (λ (q : Queue). FillsAt (Some p.bytes) (Some q.bytes)) (sym (put_fills bytes p e)) (fills_refl (Some p.bytes))
 
 -- what is put stands behind what waited, or isn't there
-pub fills_put : (bytes waits : List ℕ) (p q : Post) → q ≡ put bytes p → p.bytes ≡ waits → FillsAt (Some waits) (Some q.bytes)
+pub fills_put : (bytes waits : List ℕ) (p q : Queue) → q ≡ put bytes p → p.bytes ≡ waits → FillsAt (Some waits) (Some q.bytes)
 fills_put bytes waits p q is same =
     subst (λ (xs : List ℕ). FillsAt (Some xs) (Some q.bytes)) same
-    (subst (λ (r : Post). FillsAt (Some p.bytes) (Some r.bytes)) (sym is) (either_put (fits p bytes) bytes p refl))
+    (subst (λ (r : Queue). FillsAt (Some p.bytes) (Some r.bytes)) (sym is) (either_put (fits p bytes) bytes p refl))
 
 -- ---- One is taken out
 
@@ -151,5 +144,5 @@ left_link number other (x ∷ xs) differs =
 pub left_wait : (number other : ℕ) (ls : List Link) → other ≢ number → waits_on other (without_link number ls) ≡ waits_on other ls
 left_wait number other ls differs = ap (option_map waits_of) (left_link number other ls differs)
 
-pub left_post : (number other : ℕ) (ls : List Link) → other ≢ number → post_on other (without_link number ls) ≡ post_on other ls
-left_post number other ls differs = ap (option_map (λ (l : Link). post_in l.out)) (left_link number other ls differs)
+pub left_queue : (number other : ℕ) (ls : List Link) → other ≢ number → queue_on other (without_link number ls) ≡ queue_on other ls
+left_queue number other ls differs = ap (option_map (λ (l : Link). queue_in l.out)) (left_link number other ls differs)

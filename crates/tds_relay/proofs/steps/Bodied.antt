@@ -10,7 +10,7 @@ use Rattle.tds_relay.specs.declared.application.Asking.{Asking}
 use Rattle.tds_relay.specs.declared.application.Asking.TheVariants as asking
 use Rattle.tds_relay.specs.Bodies.{AskAsBefore, AskOn, Body, Closed, Closes, Grows, Nowhere, Shuts, Spared, Starts, Stays, body_by, body_in}
 use Rattle.tds_relay.specs.Fronts.{end_of, ends_in}
-use Rattle.tds_relay.specs.Hall.{End, Ends, Open, Over, change_end, closes, end_at}
+use Rattle.tds_relay.specs.Core.{End, Ends, Open, Over, change_end, closes, end_at}
 use Rattle.tds_relay.specs.Taking.{IsDeaf}
 use Rattle.tds_relay.proofs.steps.Fronts.{end_is}
 use Rattle.tds_relay.proofs.steps.Told.{deaf_closed}

@@ -9,79 +9,78 @@ use Rattle.tds_front.specs.declared.front.Said.{Said}
 use Rattle.tds_front.specs.declared.front.Said.TheVariants as said
 use Rattle.tds_front.specs.Bytes.{fed}
 use Rattle.tds_relay.specs.Asking.{said_of}
-use Rattle.tds_relay.specs.Bodies.{AreFollowed, Body, Carries, Obeys, Starts, Stays, taken_of}
-use Rattle.tds_relay.specs.Desk.{Desk}
-use Rattle.tds_relay.specs.Fronts.{ClosesInstead, FedOn, IsFed, Moved, MovedOn, TakesBetween, given_by, hall_of_ends, house_with}
-use Rattle.tds_relay.specs.Hall.{End, Ends, Feeds, Hall, Move, Moves, Open, change_end, closes, closes_for, end_at, moved}
-use Rattle.tds_relay.specs.House.{House, Step, Admits, Hands, Makes, Removes, Takes, Writes, after, after_all, owed, put_some}
-use Rattle.tds_relay.specs.Posts.{Posts, change}
+use Rattle.tds_relay.specs.Bodies.{AreFollowed, Body, Carries, IsClosedAsEnd, Obeys, Starts, Stays, taken_of}
+use Rattle.tds_relay.specs.Pool.{Pool}
+use Rattle.tds_relay.specs.Fronts.{ClosesInstead, FedOn, IsFed, Moved, MovedOn, TakesBetween, given_by, core_of_ends, machine_with}
+use Rattle.tds_relay.specs.Core.{End, Ends, Feeds, Core, Move, Moves, Open, change_end, closes_for, end_at, moved}
+use Rattle.tds_relay.specs.Machine.{Machine, Step, Admits, Hands, Makes, Removes, Takes, Writes, after, after_all, owed, put_some}
+use Rattle.tds_relay.specs.Queues.{Queues, change}
 use Rattle.tds_relay.specs.Taking.{IsDeaf, count_by, left_by}
 use Rattle.tds_relay.specs.Ties.{Application}
 use Rattle.tds_relay.proofs.spared.Resting.{starts_both}
 use Rattle.tds_relay.proofs.steps.Asked.{said_is}
 use Rattle.tds_relay.proofs.steps.Fed.{left_fed, waits_fed}
-use Rattle.tds_relay.proofs.steps.Fronts.{moves_closes, no_moves}
+use Rattle.tds_relay.proofs.steps.Fronts.{no_moves}
 use Rattle.tds_relay.proofs.steps.Stepping.{makes_all}
-use Rattle.tds_relay.proofs.steps.Told.{deaf_closed, deaf_for, tells_begin, tells_deaf, tells_moves, tells_takes}
+use Rattle.tds_relay.proofs.steps.Tied.{closed_deaf}
+use Rattle.tds_relay.proofs.steps.Told.{deaf_for, tells_begin, tells_deaf, tells_moves, tells_takes}
 
 -- ---- Steps one behind the other
 
 module _ (key : ℕ) where
-  none_followed : (h : House) (moves : List Move) (a b : Body) → Starts a b → AreFollowed key h (makes_all moves) a b
+  none_followed : (h : Machine) (moves : List Move) (a b : Body) → Starts a b → AreFollowed key h (makes_all moves) a b
   none_followed h [] a b s = s
   none_followed h (move ∷ moves) a b s = none_followed (after h (Makes move)) moves a b s
 
-  starts_followed : (h : House) (xs : List Step) (a b c : Body) → Starts a b → AreFollowed key h xs b c → AreFollowed key h xs a c
+  starts_followed : (h : Machine) (xs : List Step) (a b c : Body) → Starts a b → AreFollowed key h xs b c → AreFollowed key h xs a c
   starts_followed h [] a b c s f = starts_both s f
-  starts_followed h (Takes other bytes ∷ xs) a b c s f = (f.0, f.1, starts_both s f.2, f.3, f.4)
+  starts_followed h (Takes other bytes ∷ xs) a b c s f = (f.0, f.1, starts_both s f.2, f.3, f.4, f.5)
   starts_followed h (Makes move ∷ xs) a b c s f = starts_followed (after h (Makes move)) xs a b c s f
   starts_followed h (Hands number header content part way manner ∷ xs) a b c s f = starts_followed (after h (Hands number header content part way manner)) xs a b c s f
   starts_followed h (Writes other count ∷ xs) a b c s f = starts_followed (after h (Writes other count)) xs a b c s f
-  starts_followed h (Admits other ends posts ∷ xs) a b c s f = starts_followed (after h (Admits other ends posts)) xs a b c s f
+  starts_followed h (Admits other ends queues ∷ xs) a b c s f = starts_followed (after h (Admits other ends queues)) xs a b c s f
   starts_followed h (Removes other gives way ∷ xs) a b c s f = starts_followed (after h (Removes other gives way)) xs a b c s f
 
-  followed_both : (h : House) (xs ys : List Step) (a b c : Body) → AreFollowed key h xs a b → AreFollowed key (after_all h xs) ys b c → AreFollowed key h (xs ++ ys) a c
+  followed_both : (h : Machine) (xs ys : List Step) (a b c : Body) → AreFollowed key h xs a b → AreFollowed key (after_all h xs) ys b c → AreFollowed key h (xs ++ ys) a c
   followed_both h [] ys a b c f g = starts_followed h ys a b c f g
-  followed_both h (Takes other bytes ∷ xs) ys a b c f g = (f.0, f.1, f.2, f.3, followed_both (after h (Takes other bytes)) xs ys f.1 b c f.4 g)
+  followed_both h (Takes other bytes ∷ xs) ys a b c f g = (f.0, f.1, f.2, f.3, f.4, followed_both (after h (Takes other bytes)) xs ys f.1 b c f.5 g)
   followed_both h (Makes move ∷ xs) ys a b c f g = followed_both (after h (Makes move)) xs ys a b c f g
   followed_both h (Hands number header content part way manner ∷ xs) ys a b c f g = followed_both (after h (Hands number header content part way manner)) xs ys a b c f g
   followed_both h (Writes other count ∷ xs) ys a b c f g = followed_both (after h (Writes other count)) xs ys a b c f g
-  followed_both h (Admits other ends posts ∷ xs) ys a b c f g = followed_both (after h (Admits other ends posts)) xs ys a b c f g
+  followed_both h (Admits other ends queues ∷ xs) ys a b c f g = followed_both (after h (Admits other ends queues)) xs ys a b c f g
   followed_both h (Removes other gives way ∷ xs) ys a b c f g = followed_both (after h (Removes other gives way)) xs ys a b c f g
 
-  taken_followed : (old h : House) (left : List ℕ) (xs : List Step) (moves : List Move) (a b c : Body) → after_all old xs ≡ h → AreFollowed key old xs a b
-      → Obeys (said_of left (end_at h.hall.ends key)) (taken_of left (end_at h.hall.ends key)) b c → AreFollowed key old ((xs ++ Takes key left ∷ []) ++ makes_all moves) a c
-  taken_followed old h left xs moves a b c e f o =
+  taken_followed : (old h : Machine) (left : List ℕ) (xs : List Step) (moves : List Move) (a b c : Body) → after_all old xs ≡ h → AreFollowed key old xs a b → IsClosedAsEnd (end_at h.core.ends key) b
+      → Obeys (said_of left (end_at h.core.ends key)) (taken_of left (end_at h.core.ends key)) b c → AreFollowed key old ((xs ++ Takes key left ∷ []) ++ makes_all moves) a c
+  taken_followed old h left xs moves a b c e f closed o =
       subst (λ (steps : List Step). AreFollowed key old steps a c) (sym (append_assoc xs (Takes key left ∷ []) (makes_all moves)))
       (followed_both old xs (Takes key left ∷ makes_all moves) a b c f
-      (subst (λ (x : House). AreFollowed key x (Takes key left ∷ makes_all moves) b c) (sym e) (b, o.mid, Stays, o.does, none_followed (after h (Takes key left)) moves o.mid c o.starts)))
+      (subst (λ (x : Machine). AreFollowed key x (Takes key left ∷ makes_all moves) b c) (sym e) (b, o.mid, Stays, closed, o.does, none_followed (after h (Takes key left)) moves o.mid c o.starts)))
 
 -- ---- Of a call
 
-pub carries_begin : (key : ℕ) (h : House) (bytes : List ℕ) (b : Body) → Carries key h bytes bytes b b h
-carries_begin key h bytes b = record { tells = tells_begin key h bytes; followed = Stays }
+pub carries_begin : (key : ℕ) (h : Machine) (bytes : List ℕ) (b : Body) → IsClosedAsEnd (end_at h.core.ends key) b → Carries key h bytes bytes b b h
+carries_begin key h bytes b closed = record { tells = tells_begin key h bytes; followed = Stays; closed = closed }
 
-pub carries_left : (key : ℕ) (old new : House) (bytes left rest : List ℕ) (a b : Body) → rest ≡ left → Carries key old bytes left a b new → Carries key old bytes rest a b new
+pub carries_left : (key : ℕ) (old new : Machine) (bytes left rest : List ℕ) (a b : Body) → rest ≡ left → Carries key old bytes left a b new → Carries key old bytes rest a b new
 carries_left key old new bytes left rest a b is t = subst (λ (xs : List ℕ). Carries key old bytes xs a b new) (sym is) t
 
-pub carries_to : (key : ℕ) (old new : House) (bytes left : List ℕ) (a b c : Body) → c ≡ b → Carries key old bytes left a b new → Carries key old bytes left a c new
-carries_to key old new bytes left a b c is t = subst (λ (x : Body). Carries key old bytes left a x new) (sym is) t
-
 -- it is to be closed, so the others aren't taken
-pub carries_deaf : (key : ℕ) (old new : House) (bytes left rest : List ℕ) (a b : Body) → IsDeaf (end_at new.hall.ends key) → Carries key old bytes left a b new → Carries key old bytes rest a b new
-carries_deaf key old new bytes left rest a b deaf t = record { tells = tells_deaf key old new bytes left rest deaf t.tells; followed = t.followed }
+pub carries_deaf : (key : ℕ) (old new : Machine) (bytes left rest : List ℕ) (a b : Body) → IsDeaf (end_at new.core.ends key) → Carries key old bytes left a b new → Carries key old bytes rest a b new
+carries_deaf key old new bytes left rest a b deaf t = record { tells = tells_deaf key old new bytes left rest deaf t.tells; followed = t.followed; closed = t.closed }
 
--- the hall moves on, and the body may start
-carries_moves : (key : ℕ) (old : House) (bytes left : List ℕ) (a b c : Body) (h h1 : Hall) (ps ps1 : Posts) → Moves (Application key) h h1 → ps1 ≡ ps → Starts b c
-    → Carries key old bytes left a b (record { hall = h; posts = ps }) → Carries key old bytes left a c (record { hall = h1; posts = ps1 })
-carries_moves key old bytes left a b c h h1 ps ps1 m kept s t = record {
+-- the core moves on, and the body may start
+carries_moves : (key : ℕ) (old : Machine) (bytes left : List ℕ) (a b c : Body) (h h1 : Core) (ps ps1 : Queues) → Moves (Application key) h h1 → ps1 ≡ ps → Starts b c
+    → IsClosedAsEnd (end_at h1.ends key) c → Carries key old bytes left a b (record { core = h; queues = ps }) → Carries key old bytes left a c (record { core = h1; queues = ps1 })
+carries_moves key old bytes left a b c h h1 ps ps1 m kept s closed t = record {
   tells = tells_moves key old bytes left h h1 ps ps1 m kept t.tells;
   followed = followed_both key old t.tells.steps (makes_all m.moves) a b c t.followed (none_followed key (after_all old t.tells.steps) m.moves b c s);
+  closed = closed;
 }
 
-pub carries_moved : (key : ℕ) (old : House) (bytes left : List ℕ) (a b c : Body) (h h1 : Hall) (ps ps1 : Posts) → Moved (Application key) h h1 → ps1 ≡ ps → Starts b c
-    → Carries key old bytes left a b (record { hall = h; posts = ps }) → Carries key old bytes left a c (record { hall = h1; posts = ps1 })
-carries_moved key old bytes left a b c h h1 ps ps1 m kept s t = carries_moves key old bytes left a b c h h1 ps ps1 (m h (no_moves (Application key) h)) kept s t
+pub carries_moved : (key : ℕ) (old : Machine) (bytes left : List ℕ) (a b c : Body) (h h1 : Core) (ps ps1 : Queues) → Moved (Application key) h h1 → ps1 ≡ ps → Starts b c
+    → IsClosedAsEnd (end_at h1.ends key) c → Carries key old bytes left a b (record { core = h; queues = ps }) → Carries key old bytes left a c (record { core = h1; queues = ps1 })
+carries_moved key old bytes left a b c h h1 ps ps1 m kept s closed t = carries_moves key old bytes left a b c h h1 ps ps1 (m h (no_moves (Application key) h)) kept s closed t
 
 -- ---- Bytes are taken, and then it goes on
 
@@ -89,60 +88,57 @@ taken_is : (bytes : List ℕ) (o : Option End) (front : Front) (withdrawn : Bool
     → taken_of bytes o ≡ take (count_by brings bytes) bytes
 taken_is bytes o front withdrawn asks brings was says = ap (taken_of bytes) was ∙ ap (λ (r : Result Fed FrontFault). take (count_by r bytes) bytes) says
 
-carries_taken : (key : ℕ) (old : House) (bytes left rest : List ℕ) (a b c : Body) (h : House) (h1 : Hall) (ps1 : Posts) (front : Front) (withdrawn : Bool) (asks : Option Reset) → end_at h.hall.ends key ≡ Some (Open front withdrawn asks)
-    → left_by left (end_at h.hall.ends key) ≡ rest → change key (put_some (owed left (end_at h.hall.ends key))) h.posts ≡ ps1 → Moves (Application key) (moved h.hall (Feeds key left)) h1
-    → Obeys (said_of left (end_at h.hall.ends key)) (taken_of left (end_at h.hall.ends key)) b c → Carries key old bytes left a b h → Carries key old bytes rest a c (record { hall = h1; posts = ps1 })
-carries_taken key old bytes left rest a b c h h1 ps1 front withdrawn asks opened left_is waits m o t = record {
-  tells = tells_moves key old bytes rest (moved h.hall (Feeds key left)) h1 ps1 ps1 m refl (tells_takes key old bytes left rest h ps1 front withdrawn asks opened left_is waits t.tells);
-  followed = taken_followed key old h left t.tells.steps m.moves a b c t.tells.are t.followed o;
+carries_taken : (key : ℕ) (old : Machine) (bytes left rest : List ℕ) (a b c : Body) (h : Machine) (h1 : Core) (ps1 : Queues) (front : Front) (withdrawn : Bool) (asks : Option Reset) → end_at h.core.ends key ≡ Some (Open front withdrawn asks)
+    → left_by left (end_at h.core.ends key) ≡ rest → change key (put_some (owed left (end_at h.core.ends key))) h.queues ≡ ps1 → Moves (Application key) (moved h.core (Feeds key left)) h1
+    → Obeys (said_of left (end_at h.core.ends key)) (taken_of left (end_at h.core.ends key)) b c → IsClosedAsEnd (end_at h1.ends key) c → Carries key old bytes left a b h
+    → Carries key old bytes rest a c (record { core = h1; queues = ps1 })
+carries_taken key old bytes left rest a b c h h1 ps1 front withdrawn asks opened left_is waits m o closed t = record {
+  tells = tells_moves key old bytes rest (moved h.core (Feeds key left)) h1 ps1 ps1 m refl (tells_takes key old bytes left rest h ps1 front withdrawn asks opened left_is waits t.tells);
+  followed = taken_followed key old h left t.tells.steps m.moves a b c t.tells.are t.followed t.closed o;
+  closed = closed;
 }
 
 -- ---- As it is done
 
-pub carries_refused : (key : ℕ) (old : House) (bytes left rest : List ℕ) (a b c : Body) (h : House) (h1 : Hall) (ps1 : Posts) (front : Front) (withdrawn : Bool) (asks : Option Reset) (fault : FrontFault) → end_at h.hall.ends key ≡ Some (Open front withdrawn asks)
-    → change key (put_some (owed left (end_at h.hall.ends key))) h.posts ≡ h.posts → moved h.hall (Feeds key left) ≡ hall_of_ends h.hall.desk (change_end key (closes_for (Some fault)) h.hall.ends) → (fed front left).brings ≡ Err fault
-    → Moved (Application key) (hall_of_ends h.hall.desk (change_end key (closes_for (Some fault)) h.hall.ends)) h1 → ps1 ≡ h.posts → Starts b c → Carries key old bytes left a b h → Carries key old bytes rest a c (record { hall = h1; posts = ps1 })
-carries_refused key old bytes left rest a b c h h1 ps1 front withdrawn asks fault opened waits is says m kept s t =
-    let closed : Hall = hall_of_ends h.hall.desk (change_end key (closes_for (Some fault)) h.hall.ends) in
-    let moves : Moves (Application key) (moved h.hall (Feeds key left)) closed = subst (Moves (Application key) (moved h.hall (Feeds key left))) is (no_moves (Application key) (moved h.hall (Feeds key left))) in
-    let stays : Obeys said.Nothing (taken_of left (end_at h.hall.ends key)) b b = record { mid = b; does = refl; starts = Stays } in
-    carries_moved key old bytes rest a b c closed h1 h.posts ps1 m kept s
-    (carries_deaf key old (record { hall = closed; posts = h.posts }) bytes (left_by left (end_at h.hall.ends key)) rest a b (deaf_for (Some fault) key h.hall.ends)
-    (carries_taken key old bytes left (left_by left (end_at h.hall.ends key)) a b b h closed h.posts front withdrawn asks opened refl waits moves
-    (subst (λ (answer : Said). Obeys answer (taken_of left (end_at h.hall.ends key)) b b) (sym (said_is left (end_at h.hall.ends key) front withdrawn asks (Err fault) opened says)) stays) t))
+pub carries_refused : (key : ℕ) (old : Machine) (bytes left rest : List ℕ) (a b c : Body) (h : Machine) (h1 : Core) (ps1 : Queues) (front : Front) (withdrawn : Bool) (asks : Option Reset) (fault : FrontFault) → end_at h.core.ends key ≡ Some (Open front withdrawn asks)
+    → change key (put_some (owed left (end_at h.core.ends key))) h.queues ≡ h.queues → moved h.core (Feeds key left) ≡ core_of_ends h.core.pool (change_end key (closes_for (Some fault)) h.core.ends) → (fed front left).brings ≡ Err fault
+    → Moved (Application key) (core_of_ends h.core.pool (change_end key (closes_for (Some fault)) h.core.ends)) h1 → ps1 ≡ h.queues → Starts b c → IsClosedAsEnd (end_at h1.ends key) c → Carries key old bytes left a b h
+    → Carries key old bytes rest a c (record { core = h1; queues = ps1 })
+carries_refused key old bytes left rest a b c h h1 ps1 front withdrawn asks fault opened waits is says m kept s shut t =
+    let closed : Core = core_of_ends h.core.pool (change_end key (closes_for (Some fault)) h.core.ends) in
+    let moves : Moves (Application key) (moved h.core (Feeds key left)) closed = subst (Moves (Application key) (moved h.core (Feeds key left))) is (no_moves (Application key) (moved h.core (Feeds key left))) in
+    let stays : Obeys said.Nothing (taken_of left (end_at h.core.ends key)) b b = record { mid = b; does = refl; starts = Stays } in
+    carries_moved key old bytes rest a b c closed h1 h.queues ps1 m kept s shut
+    (carries_deaf key old (record { core = closed; queues = h.queues }) bytes (left_by left (end_at h.core.ends key)) rest a b (deaf_for (Some fault) key h.core.ends)
+    (carries_taken key old bytes left (left_by left (end_at h.core.ends key)) a b b h closed h.queues front withdrawn asks opened refl waits moves
+    (subst (λ (answer : Said). Obeys answer (taken_of left (end_at h.core.ends key)) b b) (sym (said_is left (end_at h.core.ends key) front withdrawn asks (Err fault) opened says)) stays) (closed_deaf (end_at closed.ends key) b (deaf_for (Some fault) key h.core.ends)) t))
 
-pub carries_expelled : {A E : Type 0} (r : Result A E) (key : ℕ) (old : House) (bytes left : List ℕ) (a b c : Body) (d : Desk) (es : Ends) (ps ps1 : Posts) (h1 : Hall) → Carries key old bytes left a b (house_with d es ps)
-    → OnOk r (Moved (Application key) (hall_of_ends d (change_end key closes es)) h1) → OnOk r (ps1 ≡ ps) → OnOk r (Starts b c) → OnOk r (Carries key old bytes [] a c (record { hall = h1; posts = ps1 }))
-carries_expelled (Ok x) key old bytes left a b c d es ps ps1 h1 t m kept s =
-    carries_moved key old bytes [] a b c (hall_of_ends d (change_end key closes es)) h1 ps ps1 m kept s
-    (carries_deaf key old (house_with d (change_end key closes es) ps) bytes left [] a b (deaf_closed key es)
-    (carries_moved key old bytes left a b b (hall_of_ends d es) (hall_of_ends d (change_end key closes es)) ps ps (λ from h. moves_closes (Application key) from d d es (change_end key closes es) key refl refl h) refl Stays t))
-carries_expelled (Err e) key old bytes left a b c d es ps ps1 h1 t m kept s = tt
-
-carries_between : (key : ℕ) (old : House) (bytes left rest : List ℕ) (a b c : Body) (d : Desk) (before now : Ends) (ps ps1 : Posts) (h1 : Hall) (answer : Said) → (f : IsFed key before now left answer)
-    → TakesBetween key (hall_of_ends d before) left h1 ⊎ ClosesInstead key answer (hall_of_ends d before) h1 → Obeys answer (take f.count left) b c → rest ≡ drop f.count left → ps1 ≡ given_by key answer ps
-    → (IsDeaf (end_at h1.ends key) → Starts b c) → Carries key old bytes left a b (house_with d before ps) → Carries key old bytes rest a c (record { hall = h1; posts = ps1 })
-carries_between key old bytes left rest a b c d before now ps ps1 h1 answer f (inl m) o is given shut t =
+carries_between : (key : ℕ) (old : Machine) (bytes left rest : List ℕ) (a b c : Body) (d : Pool) (before now : Ends) (ps ps1 : Queues) (h1 : Core) (answer : Said) → (f : IsFed key before now left answer)
+    → TakesBetween key (core_of_ends d before) left h1 ⊎ ClosesInstead key answer (core_of_ends d before) h1 → Obeys answer (take f.count left) b c → rest ≡ drop f.count left → ps1 ≡ given_by key answer ps
+    → (IsDeaf (end_at h1.ends key) → Starts b c) → IsClosedAsEnd (end_at h1.ends key) c → Carries key old bytes left a b (machine_with d before ps)
+    → Carries key old bytes rest a c (record { core = h1; queues = ps1 })
+carries_between key old bytes left rest a b c d before now ps ps1 h1 answer f (inl m) o is given shut closed t =
     let same : end_at m.mid.ends key ≡ end_at before key = ap (λ (es : Ends). end_at es key) m.same in
-    carries_taken key old bytes left rest a b c (record { hall = m.mid; posts = ps }) h1 ps1 f.front f.withdrawn f.asks (same ∙ f.was)
+    carries_taken key old bytes left rest a b c (record { core = m.mid; queues = ps }) h1 ps1 f.front f.withdrawn f.asks (same ∙ f.was)
     (ap (left_by left) same ∙ left_fed key before now left answer f ∙ sym is)
     (ap (λ (o : Option End). change key (put_some (owed left o)) ps) same ∙ waits_fed key before now left answer ps f ∙ sym given)
     m.next
     (subst (λ (said : Said). Obeys said (taken_of left (end_at m.mid.ends key)) b c) (sym (said_is left (end_at m.mid.ends key) f.front f.withdrawn f.asks (Ok (record { count = f.count; said = answer })) (same ∙ f.was) f.says))
     (subst (λ (xs : List ℕ). Obeys answer xs b c) (sym (taken_is left (end_at m.mid.ends key) f.front f.withdrawn f.asks (Ok (record { count = f.count; said = answer })) (same ∙ f.was) f.says)) o))
-    (carries_moves key old bytes left a b b (hall_of_ends d before) m.mid ps ps m.first refl Stays t)
-carries_between key old bytes left rest a b c d before now ps ps1 h1 answer f (inr k) o is given shut t =
-    carries_deaf key old (record { hall = h1; posts = ps1 }) bytes left rest a c k.deaf
-    (carries_moves key old bytes left a b c (hall_of_ends d before) h1 ps ps1 k.moves (given ∙ k.nothing ps) (shut k.deaf) t)
+    closed
+    (carries_moves key old bytes left a b b (core_of_ends d before) m.mid ps ps m.first refl Stays (subst (λ (o : Option End). IsClosedAsEnd o b) (sym same) t.closed) t)
+carries_between key old bytes left rest a b c d before now ps ps1 h1 answer f (inr k) o is given shut closed t =
+    carries_deaf key old (record { core = h1; queues = ps1 }) bytes left rest a c k.deaf
+    (carries_moves key old bytes left a b c (core_of_ends d before) h1 ps ps1 k.moves (given ∙ k.nothing ps) (shut k.deaf) closed t)
 
-pub carries_fed : (key : ℕ) (old : House) (bytes left rest : List ℕ) (a b c : Body) (d : Desk) (before now : Ends) (ps ps1 : Posts) (h1 : Hall) (answer : Said) → FedOn key answer d now h1 → (f : IsFed key before now left answer)
-    → Obeys answer (take f.count left) b c → rest ≡ drop f.count left → ps1 ≡ given_by key answer ps → (IsDeaf (end_at h1.ends key) → Starts b c) → Carries key old bytes left a b (house_with d before ps)
-    → Carries key old bytes rest a c (record { hall = h1; posts = ps1 })
-carries_fed key old bytes left rest a b c d before now ps ps1 h1 answer on f o is given shut t =
-    carries_between key old bytes left rest a b c d before now ps ps1 h1 answer f (on before left f) o is given shut t
+pub carries_fed : (key : ℕ) (old : Machine) (bytes left rest : List ℕ) (a b c : Body) (d : Pool) (before now : Ends) (ps ps1 : Queues) (h1 : Core) (answer : Said) → FedOn key answer d now h1 → (f : IsFed key before now left answer)
+    → Obeys answer (take f.count left) b c → rest ≡ drop f.count left → ps1 ≡ given_by key answer ps → (IsDeaf (end_at h1.ends key) → Starts b c) → IsClosedAsEnd (end_at h1.ends key) c → Carries key old bytes left a b (machine_with d before ps)
+    → Carries key old bytes rest a c (record { core = h1; queues = ps1 })
+carries_fed key old bytes left rest a b c d before now ps ps1 h1 answer on f o is given shut closed t =
+    carries_between key old bytes left rest a b c d before now ps ps1 h1 answer f (on before left f) o is given shut closed t
 
 -- where a call answers
-pub carries_ok : {A E : Type 0} (r : Result A E) (key : ℕ) (old : House) (bytes left : List ℕ) (a b c : Body) (h h1 : Hall) (ps ps1 : Posts) → Carries key old bytes left a b (record { hall = h; posts = ps })
-    → OnOk r (MovedOn h h1) → OnOk r (ps1 ≡ ps) → OnOk r (Starts b c) → OnOk r (Carries key old bytes left a c (record { hall = h1; posts = ps1 }))
-carries_ok (Ok x) key old bytes left a b c h h1 ps ps1 t m kept s = carries_moved key old bytes left a b c h h1 ps ps1 (m (Application key)) kept s t
-carries_ok (Err e) key old bytes left a b c h h1 ps ps1 t m kept s = tt
+pub carries_ok : {A E : Type 0} (r : Result A E) (key : ℕ) (old : Machine) (bytes left : List ℕ) (a b c : Body) (h h1 : Core) (ps ps1 : Queues) → Carries key old bytes left a b (record { core = h; queues = ps })
+    → OnOk r (MovedOn h h1) → OnOk r (ps1 ≡ ps) → OnOk r (Starts b c) → IsClosedAsEnd (end_at h1.ends key) c → OnOk r (Carries key old bytes left a c (record { core = h1; queues = ps1 }))
+carries_ok (Ok x) key old bytes left a b c h h1 ps ps1 t m kept s closed = carries_moved key old bytes left a b c h h1 ps ps1 (m (Application key)) kept s closed t
+carries_ok (Err e) key old bytes left a b c h h1 ps ps1 t m kept s closed = tt

@@ -6,10 +6,10 @@ use Rattle.tds_relay.specs.declared.application.Application.{Application}
 use Rattle.tds_packet.specs.Reading as packets
 use Rattle.tds_relay.specs.Closings.{ClosesOnly, KeptBeside, Register}
 use Rattle.tds_relay.specs.Faults.{IsHeaderOf, IsRefusedOn, why_of}
-use Rattle.tds_relay.specs.declared.desk.coming.Heard.{Heard}
+use Rattle.tds_relay.specs.declared.pool.coming.Heard.{Heard}
 use Rattle.tds_relay.specs.declared.fault.Refused.{Refused}
 use Rattle.tds_relay.specs.Fronts.{end_of, ends_in}
-use Rattle.tds_relay.specs.Hall.{end_at}
+use Rattle.tds_relay.specs.Core.{end_at}
 use Rattle.tds_relay.proofs.steps.Fed.{end_there}
 use Rattle.tds_relay.proofs.steps.Fronts.{end_is}
 

@@ -12,15 +12,15 @@ use Rattle.tds_front.specs.declared.front.Said.TheVariants as said
 use Rattle.tds_front.specs.Bytes.{fed}
 use Rattle.tds_front.specs.Rules as rules
 use Rattle.tds_relay.specs.declared.application.Application.{Application}
-use Rattle.tds_relay.specs.Desk as desk
-use Rattle.tds_relay.specs.Desk.{Desk, Event, desk_after, turn}
-use Rattle.tds_relay.specs.Fronts.{IsFed, end_of, ends_in, given_by, hall_of_ends, withdraws}
-use Rattle.tds_relay.specs.Hall.{End, Ends, Feeds, IsThere, Open, Over, acknowledged, asks_by, change_end, closes, closes_for, end_at, end_behind, event_if, feeds, hands_on, hears, moved, stops_by, stops_of, takes_back}
-use Rattle.tds_relay.specs.House.{owed, owed_by, put_some}
-use Rattle.tds_relay.specs.Posts.{Posts, change}
+use Rattle.tds_relay.specs.Pool as pool
+use Rattle.tds_relay.specs.Pool.{Pool, Event, pool_after, turn}
+use Rattle.tds_relay.specs.Fronts.{IsFed, end_of, ends_in, given_by, core_of_ends, withdraws}
+use Rattle.tds_relay.specs.Core.{End, Ends, Feeds, IsThere, Open, Over, acknowledged, asks_by, change_end, closes, closes_for, end_at, end_behind, event_if, feeds, hands_on, hears, moved, stops_by, stops_of, takes_back}
+use Rattle.tds_relay.specs.Machine.{owed, owed_by, put_some}
+use Rattle.tds_relay.specs.Queues.{Queues, change}
 use Rattle.tds_relay.specs.Ties.{Turns}
 use Rattle.tds_relay.specs.Taking.{count_by, left_by}
-use Rattle.tds_relay.proofs.steps.Fronts.{changed_both, end_is, same_hall}
+use Rattle.tds_relay.proofs.steps.Fronts.{changed_both, end_is, same_core}
 use Rattle.tds_relay.proofs.steps.Handed.{nothing_put}
 
 -- ---- The move
@@ -36,54 +36,54 @@ stops_fed : (bytes : List ℕ) (front : Front) (withdrawn : Bool) (asks : Option
 stops_fed bytes front withdrawn asks o count answer was says = ap (stops_of bytes) was ∙ ap stops_by says
 
 -- what it is given by them
-given_is : (key count : ℕ) (answer : Said) (posts : Posts) → change key (put_some (owed_by (Ok (record { count = count; said = answer })))) posts ≡ given_by key answer posts
-given_is key count said.Nothing posts = nothing_put posts key
-given_is key count (said.Begin kind reset) posts = nothing_put posts key
-given_is key count (said.Body more) posts = nothing_put posts key
-given_is key count (said.End more) posts = nothing_put posts key
-given_is key count (said.Forget gone) posts = nothing_put posts key
-given_is key count said.Acknowledge posts = refl
-given_is key count said.HandOn posts = nothing_put posts key
+given_is : (key count : ℕ) (answer : Said) (queues : Queues) → change key (put_some (owed_by (Ok (record { count = count; said = answer })))) queues ≡ given_by key answer queues
+given_is key count said.Nothing queues = nothing_put queues key
+given_is key count (said.Begin kind reset) queues = nothing_put queues key
+given_is key count (said.Body more) queues = nothing_put queues key
+given_is key count (said.End more) queues = nothing_put queues key
+given_is key count (said.Forget gone) queues = nothing_put queues key
+given_is key count said.Acknowledge queues = refl
+given_is key count said.HandOn queues = nothing_put queues key
 
-given_fed : (key : ℕ) (bytes : List ℕ) (front : Front) (withdrawn : Bool) (asks : Option Reset) (o : Option End) (count : ℕ) (answer : Said) (posts : Posts) → o ≡ Some (Open front withdrawn asks)
-    → (fed front bytes).brings ≡ Ok (record { count = count; said = answer }) → change key (put_some (owed bytes o)) posts ≡ given_by key answer posts
-given_fed key bytes front withdrawn asks o count answer posts was says =
-    ap (λ (x : Option End). change key (put_some (owed bytes x)) posts) was
-    ∙ ap (λ (r : Result Fed FrontFault). change key (put_some (owed_by r)) posts) says ∙ given_is key count answer posts
+given_fed : (key : ℕ) (bytes : List ℕ) (front : Front) (withdrawn : Bool) (asks : Option Reset) (o : Option End) (count : ℕ) (answer : Said) (queues : Queues) → o ≡ Some (Open front withdrawn asks)
+    → (fed front bytes).brings ≡ Ok (record { count = count; said = answer }) → change key (put_some (owed bytes o)) queues ≡ given_by key answer queues
+given_fed key bytes front withdrawn asks o count answer queues was says =
+    ap (λ (x : Option End). change key (put_some (owed bytes x)) queues) was
+    ∙ ap (λ (r : Result Fed FrontFault). change key (put_some (owed_by r)) queues) says ∙ given_is key count answer queues
 
 -- what waits for it then
-pub waits_fed : (key : ℕ) (before now : Ends) (bytes : List ℕ) (answer : Said) (posts : Posts) → IsFed key before now bytes answer → change key (put_some (owed bytes (end_at before key))) posts ≡ given_by key answer posts
-waits_fed key before now bytes answer posts f = given_fed key bytes f.front f.withdrawn f.asks (end_at before key) f.count answer posts f.was f.says
+pub waits_fed : (key : ℕ) (before now : Ends) (bytes : List ℕ) (answer : Said) (queues : Queues) → IsFed key before now bytes answer → change key (put_some (owed bytes (end_at before key))) queues ≡ given_by key answer queues
+waits_fed key before now bytes answer queues f = given_fed key bytes f.front f.withdrawn f.asks (end_at before key) f.count answer queues f.was f.says
 
 -- what is left of them
 pub left_fed : (key : ℕ) (before now : Ends) (bytes : List ℕ) (answer : Said) → (f : IsFed key before now bytes answer) → left_by bytes (end_at before key) ≡ drop f.count bytes
 left_fed key before now bytes answer f = ap (left_by bytes) f.was ∙ ap (λ (r : Result Fed FrontFault). drop (count_by r bytes) bytes) f.says
 
--- bytes were taken: what is done at the desk by them, and the end that they lead to
-hall_fed : (key : ℕ) (d : Desk) (before now : Ends) (bytes : List ℕ) (answer : Said) (stops : Bool) → (takes_back answer || hands_on answer) ≡ stops → (f : IsFed key before now bytes answer)
-    → moved (hall_of_ends d before) (Feeds key bytes)
-    ≡ hall_of_ends (desk_after d (event_if stops (desk.Does key desk.Stops))) (slice_set before key (Some (Open (fed f.front bytes).front (takes_back answer || f.withdrawn) (asks_by answer f.asks))))
-hall_fed key d before now bytes answer stops same f =
-    same_hall (desk_after d (event_if (stops_of bytes (end_at before key)) (desk.Does key desk.Stops))) _ (change_end key (feeds bytes) before) _
-    (ap (λ (b : Bool). desk_after d (event_if b (desk.Does key desk.Stops))) (sym (stops_fed bytes f.front f.withdrawn f.asks (end_at before key) f.count answer f.was f.says ∙ same)))
+-- bytes were taken: what is done at the pool by them, and the end that they lead to
+core_fed : (key : ℕ) (d : Pool) (before now : Ends) (bytes : List ℕ) (answer : Said) (stops : Bool) → (takes_back answer || hands_on answer) ≡ stops → (f : IsFed key before now bytes answer)
+    → moved (core_of_ends d before) (Feeds key bytes)
+    ≡ core_of_ends (pool_after d (event_if stops (pool.Does key pool.Stops))) (slice_set before key (Some (Open (fed f.front bytes).front (takes_back answer || f.withdrawn) (asks_by answer f.asks))))
+core_fed key d before now bytes answer stops same f =
+    same_core (pool_after d (event_if (stops_of bytes (end_at before key)) (pool.Does key pool.Stops))) _ (change_end key (feeds bytes) before) _
+    (ap (λ (b : Bool). pool_after d (event_if b (pool.Does key pool.Stops))) (sym (stops_fed bytes f.front f.withdrawn f.asks (end_at before key) f.count answer f.was f.says ∙ same)))
     (ap (λ (o : Option End). slice_set before key o) (sym (end_fed bytes f.front f.withdrawn f.asks (end_at before key) f.count answer f.was f.says)))
 
 -- ---- As it is done
 
--- nothing is done at the desk by them
-pub fed_is : (key : ℕ) (d : Desk) (before now : Ends) (bytes : List ℕ) (answer : Said) → takes_back answer ≡ false → hands_on answer ≡ false → IsFed key before now bytes answer
-    → moved (hall_of_ends d before) (Feeds key bytes) ≡ hall_of_ends d now
+-- nothing is done at the pool by them
+pub fed_is : (key : ℕ) (d : Pool) (before now : Ends) (bytes : List ℕ) (answer : Said) → takes_back answer ≡ false → hands_on answer ≡ false → IsFed key before now bytes answer
+    → moved (core_of_ends d before) (Feeds key bytes) ≡ core_of_ends d now
 fed_is key d before now bytes answer keeps here f =
-    hall_fed key d before now bytes answer false (ap (λ (b : Bool). b || hands_on answer) keeps ∙ here) f
-    ∙ same_hall d d (slice_set before key (Some (Open (fed f.front bytes).front (takes_back answer || f.withdrawn) (asks_by answer f.asks)))) now refl
+    core_fed key d before now bytes answer false (ap (λ (b : Bool). b || hands_on answer) keeps ∙ here) f
+    ∙ same_core d d (slice_set before key (Some (Open (fed f.front bytes).front (takes_back answer || f.withdrawn) (asks_by answer f.asks)))) now refl
     (f.is ∙ ap (λ (b : Bool). slice_set before key (Some (Open (fed f.front bytes).front (b || f.withdrawn) (asks_by answer f.asks)))) (sym keeps))
 
 -- its attention is the server's
-pub handed_on_is : (key : ℕ) (d d1 : Desk) (before now : Ends) (bytes out out1 : List ℕ) → IsFed key before now bytes said.HandOn → Turns (desk.Does key desk.Stops) d d1 out out1
-    → moved (hall_of_ends d before) (Feeds key bytes) ≡ hall_of_ends d1 now
+pub handed_on_is : (key : ℕ) (d d1 : Pool) (before now : Ends) (bytes out out1 : List ℕ) → IsFed key before now bytes said.HandOn → Turns (pool.Does key pool.Stops) d d1 out out1
+    → moved (core_of_ends d before) (Feeds key bytes) ≡ core_of_ends d1 now
 handed_on_is key d d1 before now bytes out out1 f t =
-    hall_fed key d before now bytes said.HandOn true refl f
-    ∙ same_hall (turn d (desk.Does key desk.Stops)).desk d1 (slice_set before key (Some (Open (fed f.front bytes).front f.withdrawn f.asks))) now t.desk_is f.is
+    core_fed key d before now bytes said.HandOn true refl f
+    ∙ same_core (turn d (pool.Does key pool.Stops)).pool d1 (slice_set before key (Some (Open (fed f.front bytes).front f.withdrawn f.asks))) now t.pool_is f.is
 
 -- it stays what it is written twice
 set_twice : (before now : Ends) (key : ℕ) (end was : End) (by : End → End) → end_at before key ≡ Some was → now ≡ slice_set before key (Some end) → change_end key by now ≡ slice_set before key (Some (by end))
@@ -93,28 +93,28 @@ set_twice before now key end was by there is =
     ∙ ap (λ (o : Option End). slice_set before key (option_map (λ (e : End). by end) o)) there
 
 -- what had gone on of its request is taken back
-pub taken_back_at : (key : ℕ) (d : Desk) (before now behind : Ends) (bytes : List ℕ) → IsFed key before now bytes (said.Forget true) → behind ≡ change_end key withdraws now
-    → moved (hall_of_ends d before) (Feeds key bytes) ≡ hall_of_ends (turn d (desk.Does key desk.Stops)).desk behind
+pub taken_back_at : (key : ℕ) (d : Pool) (before now behind : Ends) (bytes : List ℕ) → IsFed key before now bytes (said.Forget true) → behind ≡ change_end key withdraws now
+    → moved (core_of_ends d before) (Feeds key bytes) ≡ core_of_ends (turn d (pool.Does key pool.Stops)).pool behind
 taken_back_at key d before now behind bytes f is =
-    hall_fed key d before now bytes (said.Forget true) true refl f
-    ∙ same_hall (turn d (desk.Does key desk.Stops)).desk (turn d (desk.Does key desk.Stops)).desk (slice_set before key (Some (Open (fed f.front bytes).front true None))) behind refl
+    core_fed key d before now bytes (said.Forget true) true refl f
+    ∙ same_core (turn d (pool.Does key pool.Stops)).pool (turn d (pool.Does key pool.Stops)).pool (slice_set before key (Some (Open (fed f.front bytes).front true None))) behind refl
     (is ∙ set_twice before now key (Open (fed f.front bytes).front f.withdrawn None) (Open f.front f.withdrawn f.asks) withdraws f.was f.is)
 
 -- they are none of a client's, and it is closed by them
-pub refused_is : (key : ℕ) (d : Desk) (es : Ends) (bytes : List ℕ) (front : Front) (withdrawn : Bool) (asks : Option Reset) (fault : FrontFault) → end_at es key ≡ Some (Open front withdrawn asks) → (fed front bytes).brings ≡ Err fault
-    → moved (hall_of_ends d es) (Feeds key bytes) ≡ hall_of_ends d (change_end key (closes_for (Some fault)) es)
+pub refused_is : (key : ℕ) (d : Pool) (es : Ends) (bytes : List ℕ) (front : Front) (withdrawn : Bool) (asks : Option Reset) (fault : FrontFault) → end_at es key ≡ Some (Open front withdrawn asks) → (fed front bytes).brings ≡ Err fault
+    → moved (core_of_ends d es) (Feeds key bytes) ≡ core_of_ends d (change_end key (closes_for (Some fault)) es)
 refused_is key d es bytes front withdrawn asks fault was says =
-    same_hall (desk_after d (event_if (stops_of bytes (end_at es key)) (desk.Does key desk.Stops))) d (change_end key (feeds bytes) es) (change_end key (closes_for (Some fault)) es)
-    (ap (λ (b : Bool). desk_after d (event_if b (desk.Does key desk.Stops))) (sym (ap (stops_of bytes) was ∙ ap stops_by says)))
+    same_core (pool_after d (event_if (stops_of bytes (end_at es key)) (pool.Does key pool.Stops))) d (change_end key (feeds bytes) es) (change_end key (closes_for (Some fault)) es)
+    (ap (λ (b : Bool). pool_after d (event_if b (pool.Does key pool.Stops))) (sym (ap (stops_of bytes) was ∙ ap stops_by says)))
     (ap (λ (o : Option End). slice_set es key o)
     (ap (option_map (closes_for (Some fault))) was
     ∙ sym (ap (option_map (feeds bytes)) was ∙ ap (λ (r : Result Fed FrontFault). Some (end_behind (fed front bytes).front withdrawn asks r)) says)))
 
-pub waits_refused : (key : ℕ) (es : Ends) (bytes : List ℕ) (front : Front) (withdrawn : Bool) (asks : Option Reset) (fault : FrontFault) (posts : Posts) → end_at es key ≡ Some (Open front withdrawn asks) → (fed front bytes).brings ≡ Err fault
-    → change key (put_some (owed bytes (end_at es key))) posts ≡ posts
-waits_refused key es bytes front withdrawn asks fault posts was says =
-    ap (λ (x : Option End). change key (put_some (owed bytes x)) posts) was
-    ∙ ap (λ (r : Result Fed FrontFault). change key (put_some (owed_by r)) posts) says ∙ nothing_put posts key
+pub waits_refused : (key : ℕ) (es : Ends) (bytes : List ℕ) (front : Front) (withdrawn : Bool) (asks : Option Reset) (fault : FrontFault) (queues : Queues) → end_at es key ≡ Some (Open front withdrawn asks) → (fed front bytes).brings ≡ Err fault
+    → change key (put_some (owed bytes (end_at es key))) queues ≡ queues
+waits_refused key es bytes front withdrawn asks fault queues was says =
+    ap (λ (x : Option End). change key (put_some (owed bytes x)) queues) was
+    ∙ ap (λ (r : Result Fed FrontFault). change key (put_some (owed_by r)) queues) says ∙ nothing_put queues key
 
 -- whatever was said, it is closed
 pub closed_fed : (by : End → End) (before now : Ends) (key : ℕ) (end was : End) → by was ≡ by end → end_at before key ≡ Some was → now ≡ slice_set before key (Some end) → change_end key by before ≡ change_end key by now

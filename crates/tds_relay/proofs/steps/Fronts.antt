@@ -15,14 +15,14 @@ use Rattle.tds_service.specs.Line.{Answer}
 use Rattle.tds_service.specs.Service.{seat_numbered}
 use Rattle.tds_service.specs.Table.{answers_in}
 use Rattle.tds_relay.specs.declared.application.Application.{Application}
-use Rattle.tds_relay.specs.declared.desk.coming.Heard.{Heard}
-use Rattle.tds_relay.specs.declared.desk.coming.What.{What}
+use Rattle.tds_relay.specs.declared.pool.coming.Heard.{Heard}
+use Rattle.tds_relay.specs.declared.pool.coming.What.{What}
 use Rattle.tds_relay.specs.Anew.{Resets, ResetsFor}
-use Rattle.tds_relay.specs.declared.desk.Hold.{Hold}
-use Rattle.tds_relay.specs.Desk as desk
-use Rattle.tds_relay.specs.Desk.{Desk, Event, Way, find_key, turn}
-use Rattle.tds_relay.specs.Fronts.{IsWhat, LetsGoFirst, Moved, MovedOn, end_of, ends_in, hall_of_ends, told_by}
-use Rattle.tds_relay.specs.Hall.{CausesMove, Closes, Does, End, Ends, Hall, HasEntered, Over, AsksFor, IfAsked, IfOpen, IfWhose, IsHere, IsQuiet, IsReset, LetsGo, MayPart, Loses, MayDoAlone, MayMove, MayMoveAll, Move, Moves, Open, Replaces, change_end, change_whose, closes, closes_for, end_at, holder, lets_go, may_park, moved, moved_all, told, what_in, what_of}
+use Rattle.tds_relay.specs.declared.pool.Hold.{Hold}
+use Rattle.tds_relay.specs.Pool as pool
+use Rattle.tds_relay.specs.Pool.{Pool, Event, Way, find_key, turn}
+use Rattle.tds_relay.specs.Fronts.{IsWhat, LetsGoFirst, Moved, MovedOn, end_of, ends_in, core_of_ends, told_by}
+use Rattle.tds_relay.specs.Core.{CausesMove, Closes, Does, End, Ends, Core, HasEntered, Over, AsksFor, IfAsked, IfOpen, IfWhose, IsHere, IsQuiet, IsReset, LetsGo, MayPart, Loses, MayDoAlone, MayMove, MayMoveAll, Move, Moves, Open, Replaces, change_end, change_whose, closes, closes_for, end_at, holder, lets_go, may_park, moved, moved_all, told, what_in, what_of}
 use Rattle.tds_relay.specs.Promises.{Each}
 use Rattle.tds_relay.specs.Ties as causes
 use Rattle.tds_relay.specs.Ties.{Cause, Causes, Turns}
@@ -115,7 +115,7 @@ asks_over reset why (Some (Open front withdrawn asks)) = tt
 asks_over reset why (Some (Over was)) = tt
 
 -- who is to be closed may be parted
-pub closed_parts : (why : Option FrontFault) (d : Desk) (es : Ends) (key : ℕ) → MayPart (hall_of_ends d (change_end key (closes_for why) es)) key
+pub closed_parts : (why : Option FrontFault) (d : Pool) (es : Ends) (key : ℕ) → MayPart (core_of_ends d (change_end key (closes_for why) es)) key
 closed_parts why d es key =
     let at = sym (changed_at es key (closes_for why)) in
     (subst (IfOpen IsHere) at (open_over IsHere why (end_at es key)), inl (subst (AsksFor Full) at (asks_over Full why (end_at es key))))
@@ -127,23 +127,23 @@ asks_begun asked (x ∷ xs) zero front withdrawn = refl
 asks_begun asked (x ∷ xs) (suc key) front withdrawn = asks_begun asked xs key front withdrawn
 
 -- one that asks for none
-pub none_reset : (d : Desk) (key : ℕ) (o : Option End) → IfAsked None o → IsReset d key o
+pub none_reset : (d : Pool) (key : ℕ) (o : Option End) → IfAsked None o → IsReset d key o
 none_reset d key None e = tt
 none_reset d key (Some (Open front withdrawn asks)) e = subst (λ (r : Option Reset). ResetsFor r (find_key key d.holds) d) (sym e) tt
 none_reset d key (Some (Over why)) e = tt
 
-unheld_for : (d : Desk) (asks : Option Reset) → ResetsFor asks None d
+unheld_for : (d : Pool) (asks : Option Reset) → ResetsFor asks None d
 unheld_for d None = tt
 unheld_for d (Some reset) = tt
 
 -- or holds nothing
-pub unheld_reset : (d : Desk) (key : ℕ) (o : Option End) → find_key key d.holds ≡ None → IsReset d key o
+pub unheld_reset : (d : Pool) (key : ℕ) (o : Option End) → find_key key d.holds ≡ None → IsReset d key o
 unheld_reset d key None e = tt
 unheld_reset d key (Some (Open front withdrawn asks)) e = subst (λ (h : Option Hold). ResetsFor asks h d) (sym e) (unheld_for d asks)
 unheld_reset d key (Some (Over why)) e = tt
 
 -- or what it asks for is done
-pub reset_there : (d : Desk) (key number : ℕ) (asks : Option Reset) (hold : Hold) (o : Option End) → find_key key d.holds ≡ Some hold → hold.number ≡ number → IfAsked asks o
+pub reset_there : (d : Pool) (key number : ℕ) (asks : Option Reset) (hold : Hold) (o : Option End) → find_key key d.holds ≡ Some hold → hold.number ≡ number → IfAsked asks o
     → ((reset : Reset) → asks ≡ Some reset → Resets reset (seat_numbered number d.service.seats)) → IsReset d key o
 reset_there d key number asks hold None its is asked resets = tt
 reset_there d key number None hold (Some (Open front withdrawn was)) its is asked resets = none_reset d key (Some (Open front withdrawn was)) asked
@@ -162,11 +162,11 @@ asked_there s key a is = subst (IfAsked a.reset) (sym (end_is s key ∙ ap (opti
 
 -- ---- Moves, one behind the other
 
-moved_both : (h : Hall) (xs ys : List Move) → moved_all h (xs ++ ys) ≡ moved_all (moved_all h xs) ys
+moved_both : (h : Core) (xs ys : List Move) → moved_all h (xs ++ ys) ≡ moved_all (moved_all h xs) ys
 moved_both h [] ys = refl
 moved_both h (x ∷ xs) ys = moved_both (moved h x) xs ys
 
-may_both : (h : Hall) (xs ys : List Move) → MayMoveAll h xs → MayMoveAll (moved_all h xs) ys → MayMoveAll h (xs ++ ys)
+may_both : (h : Core) (xs ys : List Move) → MayMoveAll h xs → MayMoveAll (moved_all h xs) ys → MayMoveAll h (xs ++ ys)
 may_both h [] ys m n = n
 may_both h (x ∷ xs) ys m n = (m.0, may_both (moved h x) xs ys m.1 n)
 
@@ -174,88 +174,88 @@ pub each_both : {X : Type 0} (P : X → Type 0) (xs ys : List X) → Each P xs �
 each_both P [] ys h k = k
 each_both P (x ∷ xs) ys h k = (h.0, each_both P xs ys h.1 k)
 
-pub moves_both : (by : Cause) (a b c : Hall) → Moves by a b → Moves by b c → Moves by a c
+pub moves_both : (by : Cause) (a b c : Core) → Moves by a b → Moves by b c → Moves by a c
 moves_both by a b c m n = record {
   moves = m.moves ++ n.moves;
-  are = moved_both a m.moves n.moves ∙ ap (λ (h : Hall). moved_all h n.moves) m.are ∙ n.are;
-  may = may_both a m.moves n.moves m.may (subst (λ (h : Hall). MayMoveAll h n.moves) (sym m.are) n.may);
+  are = moved_both a m.moves n.moves ∙ ap (λ (h : Core). moved_all h n.moves) m.are ∙ n.are;
+  may = may_both a m.moves n.moves m.may (subst (λ (h : Core). MayMoveAll h n.moves) (sym m.are) n.may);
   caused = each_both (CausesMove by) m.moves n.moves m.caused n.caused;
   quiet = each_both IsQuiet m.moves n.moves m.quiet n.quiet;
 }
 
-pub no_moves : (by : Cause) (h : Hall) → Moves by h h
+pub no_moves : (by : Cause) (h : Core) → Moves by h h
 no_moves by h = record { moves = []; are = refl; may = tt; caused = tt; quiet = tt }
 
-pub moves_one : (by : Cause) (from old : Hall) (move : Move) → MayMove old move → CausesMove by move → IsQuiet move → Moves by from old → Moves by from (moved old move)
+pub moves_one : (by : Cause) (from old : Core) (move : Move) → MayMove old move → CausesMove by move → IsQuiet move → Moves by from old → Moves by from (moved old move)
 moves_one by from old move may caused quiet m =
     moves_both by from old (moved old move) m (record { moves = move ∷ []; are = refl; may = (may, tt); caused = (caused, tt); quiet = (quiet, tt) })
 
-pub same_hall : (d d1 : Desk) (es es1 : Ends) → d1 ≡ d → es1 ≡ es → hall_of_ends d es ≡ hall_of_ends d1 es1
-same_hall d d1 es es1 same ends = ap (λ (x : Desk). hall_of_ends x es) (sym same) ∙ ap (λ (x : Ends). hall_of_ends d1 x) (sym ends)
+pub same_core : (d d1 : Pool) (es es1 : Ends) → d1 ≡ d → es1 ≡ es → core_of_ends d es ≡ core_of_ends d1 es1
+same_core d d1 es es1 same ends = ap (λ (x : Pool). core_of_ends x es) (sym same) ∙ ap (λ (x : Ends). core_of_ends d1 x) (sym ends)
 
--- to the same hall
-pub moves_same : (by : Cause) (from : Hall) (d d1 : Desk) (es es1 : Ends) → d1 ≡ d → es1 ≡ es → Moves by from (hall_of_ends d es) → Moves by from (hall_of_ends d1 es1)
-moves_same by from d d1 es es1 same ends m = subst (Moves by from) (same_hall d d1 es es1 same ends) m
+-- to the same core
+pub moves_same : (by : Cause) (from : Core) (d d1 : Pool) (es es1 : Ends) → d1 ≡ d → es1 ≡ es → Moves by from (core_of_ends d es) → Moves by from (core_of_ends d1 es1)
+moves_same by from d d1 es es1 same ends m = subst (Moves by from) (same_core d d1 es es1 same ends) m
 
 -- and on from it
-pub moved_same : (by : Cause) (d d1 : Desk) (es es1 : Ends) (new : Hall) → d1 ≡ d → es1 ≡ es → Moved by (hall_of_ends d1 es1) new → Moved by (hall_of_ends d es) new
+pub moved_same : (by : Cause) (d d1 : Pool) (es es1 : Ends) (new : Core) → d1 ≡ d → es1 ≡ es → Moved by (core_of_ends d1 es1) new → Moved by (core_of_ends d es) new
 moved_same by d d1 es es1 new same ends m = λ from h. m from (moves_same by from d d1 es es1 same ends h)
 
 -- where a call answers
-pub moves_ok : {A E : Type 0} (r : Result A E) (by : Cause) (old new : Hall) → OnOk r (Moved by old new) → OnOk r (Moves by old new)
+pub moves_ok : {A E : Type 0} (r : Result A E) (by : Cause) (old new : Core) → OnOk r (Moved by old new) → OnOk r (Moves by old new)
 moves_ok (Ok x) by old new m = m old (no_moves by old)
 moves_ok (Err e) by old new m = tt
 
 -- ---- Each as the code does it
 
-pub moves_does : (by : Cause) (from : Hall) (d d1 : Desk) (es es1 : Ends) (event : Event) (before after : List ℕ)
-    → Turns event d d1 before after → MayDoAlone (hall_of_ends d es) event → Causes by event → es1 ≡ es → Moves by from (hall_of_ends d es) → Moves by from (hall_of_ends d1 es1)
+pub moves_does : (by : Cause) (from : Core) (d d1 : Pool) (es es1 : Ends) (event : Event) (before after : List ℕ)
+    → Turns event d d1 before after → MayDoAlone (core_of_ends d es) event → Causes by event → es1 ≡ es → Moves by from (core_of_ends d es) → Moves by from (core_of_ends d1 es1)
 moves_does by from d d1 es es1 event before after t may cause ends m =
-    subst (Moves by from) (same_hall (turn d event).desk d1 es es1 t.desk_is ends) (moves_one by from (hall_of_ends d es) (Does event) may cause tt m)
+    subst (Moves by from) (same_core (turn d event).pool d1 es es1 t.pool_is ends) (moves_one by from (core_of_ends d es) (Does event) may cause tt m)
 
-pub moves_closes : (by : Cause) (from : Hall) (d d1 : Desk) (es es1 : Ends) (key : ℕ) → d1 ≡ d → es1 ≡ change_end key closes es → Moves by from (hall_of_ends d es) → Moves by from (hall_of_ends d1 es1)
+pub moves_closes : (by : Cause) (from : Core) (d d1 : Pool) (es es1 : Ends) (key : ℕ) → d1 ≡ d → es1 ≡ change_end key closes es → Moves by from (core_of_ends d es) → Moves by from (core_of_ends d1 es1)
 moves_closes by from d d1 es es1 key same ends m =
-    subst (Moves by from) (same_hall d d1 (change_end key closes es) es1 same ends) (moves_one by from (hall_of_ends d es) (Closes key) tt tt tt m)
+    subst (Moves by from) (same_core d d1 (change_end key closes es) es1 same ends) (moves_one by from (core_of_ends d es) (Closes key) tt tt tt m)
 
-pub moves_loses : (by : Cause) (from : Hall) (d d1 : Desk) (es es1 : Ends) (number : ℕ) (key : Option ℕ) (before after : List ℕ)
-    → Turns (desk.Loses number) d d1 before after → key ≡ holder d number → es1 ≡ change_whose key closes es → Moves by from (hall_of_ends d es) → Moves by from (hall_of_ends d1 es1)
+pub moves_loses : (by : Cause) (from : Core) (d d1 : Pool) (es es1 : Ends) (number : ℕ) (key : Option ℕ) (before after : List ℕ)
+    → Turns (pool.Loses number) d d1 before after → key ≡ holder d number → es1 ≡ change_whose key closes es → Moves by from (core_of_ends d es) → Moves by from (core_of_ends d1 es1)
 moves_loses by from d d1 es es1 number key before after t its ends m =
     subst (Moves by from)
-    (same_hall (turn d (desk.Loses number)).desk d1 (change_whose (holder d number) closes es) es1 t.desk_is (ends ∙ ap (λ (o : Option ℕ). change_whose o closes es) its))
-    (moves_one by from (hall_of_ends d es) (Loses number) tt tt tt m)
+    (same_core (turn d (pool.Loses number)).pool d1 (change_whose (holder d number) closes es) es1 t.pool_is (ends ∙ ap (λ (o : Option ℕ). change_whose o closes es) its))
+    (moves_one by from (core_of_ends d es) (Loses number) tt tt tt m)
 
-pub lets_go_first : (key : ℕ) (d d1 : Desk) (es es1 : Ends) (new : Hall) (gives : Bool) (way : Way) (before after : List ℕ)
-    → Turns (desk.Leaves key gives way) d d1 before after → es1 ≡ change_end key lets_go es → MovedOn (hall_of_ends d1 es1) new → LetsGoFirst key (hall_of_ends d es) new
+pub lets_go_first : (key : ℕ) (d d1 : Pool) (es es1 : Ends) (new : Core) (gives : Bool) (way : Way) (before after : List ℕ)
+    → Turns (pool.Leaves key gives way) d d1 before after → es1 ≡ change_end key lets_go es → MovedOn (core_of_ends d1 es1) new → LetsGoFirst key (core_of_ends d es) new
 lets_go_first key d d1 es es1 new gives way before after t ends on = (
   gives,
   way,
-  λ by. moved_same by (turn d (desk.Leaves key gives way)).desk d1 (change_end key lets_go es) es1 new t.desk_is ends (on by),
+  λ by. moved_same by (turn d (pool.Leaves key gives way)).pool d1 (change_end key lets_go es) es1 new t.pool_is ends (on by),
 )
 
-pub moves_lets_go : (key : ℕ) (from : Hall) (d : Desk) (es : Ends) (new : Hall) → MayPart (hall_of_ends d es) key → LetsGoFirst key (hall_of_ends d es) new
-    → Moves (causes.Application key) from (hall_of_ends d es) → Moves (causes.Application key) from new
+pub moves_lets_go : (key : ℕ) (from : Core) (d : Pool) (es : Ends) (new : Core) → MayPart (core_of_ends d es) key → LetsGoFirst key (core_of_ends d es) new
+    → Moves (causes.Application key) from (core_of_ends d es) → Moves (causes.Application key) from new
 moves_lets_go key from d es new here l m =
-    l.2 (causes.Application key) from (moves_one (causes.Application key) from (hall_of_ends d es) (LetsGo key false l.0 l.1) here refl tt m)
+    l.2 (causes.Application key) from (moves_one (causes.Application key) from (core_of_ends d es) (LetsGo key false l.0 l.1) here refl tt m)
 
-pub moves_parks : (key : ℕ) (from : Hall) (d : Desk) (es : Ends) (new : Hall) → may_park (hall_of_ends d es) key ≡ true → LetsGoFirst key (hall_of_ends d es) new
-    → Moves (causes.Parking key) from (hall_of_ends d es) → Moves (causes.Parking key) from new
+pub moves_parks : (key : ℕ) (from : Core) (d : Pool) (es : Ends) (new : Core) → may_park (core_of_ends d es) key ≡ true → LetsGoFirst key (core_of_ends d es) new
+    → Moves (causes.Parking key) from (core_of_ends d es) → Moves (causes.Parking key) from new
 moves_parks key from d es new rests l m =
-    l.2 (causes.Parking key) from (moves_one (causes.Parking key) from (hall_of_ends d es) (LetsGo key true l.0 l.1) rests refl tt m)
+    l.2 (causes.Parking key) from (moves_one (causes.Parking key) from (core_of_ends d es) (LetsGo key true l.0 l.1) rests refl tt m)
 
-pub moves_replaces : (number key : ℕ) (from : Hall) (d d1 : Desk) (es es1 : Ends) (before after : List ℕ)
-    → Turns (desk.Loses number) d d1 before after → Some key ≡ holder d number → IfWhose (MayPart (hall_of_ends d es)) (holder d number) → es1 ≡ change_end key lets_go es
-    → Moves (causes.Connection number) from (hall_of_ends d es) → Moves (causes.Connection number) from (hall_of_ends d1 es1)
+pub moves_replaces : (number key : ℕ) (from : Core) (d d1 : Pool) (es es1 : Ends) (before after : List ℕ)
+    → Turns (pool.Loses number) d d1 before after → Some key ≡ holder d number → IfWhose (MayPart (core_of_ends d es)) (holder d number) → es1 ≡ change_end key lets_go es
+    → Moves (causes.Connection number) from (core_of_ends d es) → Moves (causes.Connection number) from (core_of_ends d1 es1)
 moves_replaces number key from d d1 es es1 before after t its here ends m =
     subst (Moves (causes.Connection number) from)
-    (same_hall (turn d (desk.Loses number)).desk d1 (change_whose (holder d number) lets_go es) es1 t.desk_is (ends ∙ ap (λ (o : Option ℕ). change_whose o lets_go es) its))
-    (moves_one (causes.Connection number) from (hall_of_ends d es) (Replaces number) here refl tt m)
+    (same_core (turn d (pool.Loses number)).pool d1 (change_whose (holder d number) lets_go es) es1 t.pool_is (ends ∙ ap (λ (o : Option ℕ). change_whose o lets_go es) its))
+    (moves_one (causes.Connection number) from (core_of_ends d es) (Replaces number) here refl tt m)
 
 pub gone_stays : (es : Ends) (key : ℕ) (by : End → End) → change_end key by (slice_set es key None) ≡ slice_set es key None
 gone_stays [] key by = refl
 gone_stays (e ∷ es) zero by = refl
 gone_stays (e ∷ es) (suc key) by = ap (λ (xs : Ends). e ∷ xs) (gone_stays es key by)
 
--- ---- As the desk answers it
+-- ---- As the pool answers it
 
 pub what_answers : (a : Answer) (dones : List (Done Token)) → answers_in dones ≡ a ∷ [] → what_of a ≡ what_in dones
 what_answers a [] e = absurd (let u : ⊥ = cc in u)

@@ -10,30 +10,30 @@ use Rattle.tds_relay.specs.Reads.{waits_on}
 use Rattle.tds_relay.specs.declared.application.Application.{Application}
 use Rattle.tds_relay.specs.declared.application.Asking.{Asking}
 use Rattle.tds_relay.specs.declared.application.Asking.TheVariants as asking
-use Rattle.tds_relay.specs.declared.desk.Desk as desks
-use Rattle.tds_relay.specs.declared.desk.Hold.{Hold}
+use Rattle.tds_relay.specs.declared.pool.Pool as pools
+use Rattle.tds_relay.specs.declared.pool.Hold.{Hold}
 use Rattle.tds_relay.specs.declared.link.Link.{Link}
 use Rattle.tds_relay.specs.Asking.{waits_in, waits_of}
 use Rattle.tds_relay.specs.Bodies.{ArePut, Asks, Begins, Body, ClientPuts, Closed, Closes, Drifts, Going, Goes, Grows, Keeps, Kept, Refuses, Sends, Shuts, Spared, Starts, body_by, body_in, going, going_by, held_of}
-use Rattle.tds_relay.specs.Desk as desk
-use Rattle.tds_relay.specs.Desk.{Desk, Deed, does, find_key}
+use Rattle.tds_relay.specs.Pool as pool
+use Rattle.tds_relay.specs.Pool.{Pool, Action, does, find_key}
 use Rattle.tds_relay.specs.Sparing as sparing
 use Rattle.tds_relay.specs.Sparing.{StartsBehind}
 use Rattle.tds_relay.specs.Ties.{Turns}
 use Rattle.tds_relay.proofs.steps.Bodied.{spared_starts}
 
--- ---- At the desk
+-- ---- At the pool
 
-holds_does : (d : Desk) (deed : Deed) (o : Option Hold) → (does d deed o).desk.holds ≡ d.holds
-holds_does d deed None = refl
-holds_does d deed (Some hold) = refl
+holds_does : (d : Pool) (action : Action) (o : Option Hold) → (does d action o).pool.holds ≡ d.holds
+holds_does d action None = refl
+holds_does d action (Some hold) = refl
 
 -- nobody's hold changes by what an application does with its connection
-pub holds_stay : (key : ℕ) (deed : Deed) (old new : Desk) (before after : List ℕ) → Turns (desk.Does key deed) old new before after → new.holds ≡ old.holds
-holds_stay key deed old new before after t = ap (λ (d : Desk). d.holds) t.desk_is ∙ holds_does old deed (find_key key old.holds)
+pub holds_stay : (key : ℕ) (action : Action) (old new : Pool) (before after : List ℕ) → Turns (pool.Does key action) old new before after → new.holds ≡ old.holds
+holds_stay key action old new before after t = ap (λ (d : Pool). d.holds) t.pool_is ∙ holds_does old action (find_key key old.holds)
 
 -- a part of a message
-pub puts_part : (more : List ℕ) (key : ℕ) (old new : desks.Desk) (before after : List ℕ) (hold : Hold) → find_key key old.holds.items ≡ Some hold → new.holds.items ≡ old.holds.items
+pub puts_part : (more : List ℕ) (key : ℕ) (old new : pools.Pool) (before after : List ℕ) (hold : Hold) → find_key key old.holds.items ≡ Some hold → new.holds.items ≡ old.holds.items
     → DoesAt (λ (s : ClientSession). put s more) hold.lease old.service new.service before after → ClientPuts false more key old new before after
 puts_part more key old new before after hold its same d = record {
   hold = hold;
@@ -48,7 +48,7 @@ puts_part more key old new before after hold its same d = record {
 }
 
 -- and its end
-pub puts_last : (more : List ℕ) (key : ℕ) (old mid new : desks.Desk) (before between after : List ℕ) (next : Hold) → (p : ClientPuts false more key old mid before between) → find_key key mid.holds.items ≡ Some next
+pub puts_last : (more : List ℕ) (key : ℕ) (old mid new : pools.Pool) (before between after : List ℕ) (next : Hold) → (p : ClientPuts false more key old mid before between) → find_key key mid.holds.items ≡ Some next
     → new.holds.items ≡ mid.holds.items → DoesAt finished next.lease mid.service new.service between after → ClientPuts true more key old new before after
 puts_last more key old mid new before between after next p its same d =
     let one : next ≡ p.hold = (let u : Some next ≡ Some p.hold = sym its ∙ ap (find_key key) p.same ∙ p.its in cc) in
@@ -73,7 +73,7 @@ grows_by : (whole : Bool) (more : List ℕ) (number : ℕ) (from to : ClientSess
 grows_by whole more number from to out None put = Drifts
 grows_by whole more number from to out (Some waits) put = Sends waits out from put
 
-pub grows_on : (whole : Bool) (more : List ℕ) (key : ℕ) (old new : desks.Desk) (after : List ℕ) (ls ms : List Link) (hold : Hold) → find_key key old.holds.items ≡ Some hold → ClientPuts whole more key old new [] after
+pub grows_on : (whole : Bool) (more : List ℕ) (key : ℕ) (old new : pools.Pool) (after : List ℕ) (ls ms : List Link) (hold : Hold) → find_key key old.holds.items ≡ Some hold → ClientPuts whole more key old new [] after
     → waits_on hold.number ms ≡ option_map (λ (waits : List ℕ). waits ++ after) (waits_on hold.number ls) → Grows whole more (going old.service ls (find_key key old.holds.items)) (going new.service ms (find_key key new.holds.items))
 grows_on whole more key old new after ls ms hold its p waits =
     let one : hold ≡ p.hold = (let u : Some hold ≡ Some p.hold = sym its ∙ p.its in cc) in
@@ -180,7 +180,7 @@ starts_by : (whole : Bool) (held : List ℕ) (kind : MessageKind) (number : ℕ)
     → Grows whole held (going_by number (Some (opened from kind)) had) b → Starts (Kept kind held whole) b
 starts_by whole held kind number from had waits b there g = starts_as whole held kind number from waits b (subst (λ (o : Option (List ℕ)). Grows whole held (going_by number (Some (opened from kind)) o) b) there g)
 
-pub starts_on : (whole : Bool) (held : List ℕ) (kind : MessageKind) (key : ℕ) (old new : desks.Desk) (ls : List Link) (hold : Hold) (waits : List ℕ) (b : Body) → find_key key old.holds.items ≡ Some hold → new.holds.items ≡ old.holds.items
+pub starts_on : (whole : Bool) (held : List ℕ) (kind : MessageKind) (key : ℕ) (old new : pools.Pool) (ls : List Link) (hold : Hold) (waits : List ℕ) (b : Body) → find_key key old.holds.items ≡ Some hold → new.holds.items ≡ old.holds.items
     → Opens kind hold.lease old.service new.service → waits_on hold.number ls ≡ Some waits → Grows whole held (going new.service ls (find_key key new.holds.items)) b → Starts (Kept kind held whole) b
 starts_on whole held kind key old new ls hold waits b its same o there g =
     let is : going new.service ls (find_key key new.holds.items) ≡ going_by hold.number (Some (opened o.0 kind)) (waits_on hold.number ls) =
@@ -199,7 +199,7 @@ some_of : (o : Option (List ℕ)) → IsSome o → (waits : List ℕ) × (o ≡ 
 some_of None is = absurd (let u : ⊥ = cc in u)
 some_of (Some waits) is = (waits, refl)
 
-pub starts_there : (whole : Bool) (held : List ℕ) (kind : MessageKind) (key : ℕ) (old new : desks.Desk) (ls : List Link) (hold its : Hold) (b : Body) → find_key key old.holds.items ≡ Some hold → find_key key old.holds.items ≡ Some its
+pub starts_there : (whole : Bool) (held : List ℕ) (kind : MessageKind) (key : ℕ) (old new : pools.Pool) (ls : List Link) (hold its : Hold) (b : Body) → find_key key old.holds.items ≡ Some hold → find_key key old.holds.items ≡ Some its
     → new.holds.items ≡ old.holds.items → Opens kind hold.lease old.service new.service → IsSome (waits_on its.number ls) → Grows whole held (going new.service ls (find_key key new.holds.items)) b → Starts (Kept kind held whole) b
 starts_there whole held kind key old new ls hold its b one two same o there g =
     let alike : its ≡ hold = (let u : Some its ≡ Some hold = sym two ∙ one in cc) in
@@ -217,7 +217,7 @@ behind_by : (whole : Bool) (held : List ℕ) (kind : MessageKind) (number : ℕ)
     → Grows whole held (going_by number (Some (opened from kind)) had) b → StartsBehind had (Kept kind held whole) b
 behind_by whole held kind number from had waits b there g = behind_as had whole held kind number from waits b there (subst (λ (o : Option (List ℕ)). Grows whole held (going_by number (Some (opened from kind)) o) b) there g)
 
-pub behind_there : (whole : Bool) (held : List ℕ) (kind : MessageKind) (key : ℕ) (old new : desks.Desk) (ls : List Link) (hold its own : Hold) (b : Body) → find_key key old.holds.items ≡ Some hold → find_key key old.holds.items ≡ Some its
+pub behind_there : (whole : Bool) (held : List ℕ) (kind : MessageKind) (key : ℕ) (old new : pools.Pool) (ls : List Link) (hold its own : Hold) (b : Body) → find_key key old.holds.items ≡ Some hold → find_key key old.holds.items ≡ Some its
     → find_key key old.holds.items ≡ Some own → new.holds.items ≡ old.holds.items → Opens kind hold.lease old.service new.service → IsSome (waits_on its.number ls)
     → Grows whole held (going new.service ls (find_key key new.holds.items)) b → StartsBehind (waits_on own.number ls) (Kept kind held whole) b
 behind_there whole held kind key old new ls hold its own b one two three same o there g =

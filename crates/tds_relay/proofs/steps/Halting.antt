@@ -18,19 +18,20 @@ use Rattle.tds_service.specs.Ties.{cancel_out}
 use Rattle.tds_relay.specs.declared.application.Application.{Application}
 use Rattle.tds_relay.specs.declared.application.Asking.{Asking}
 use Rattle.tds_relay.specs.declared.application.Asking.TheVariants as asking
-use Rattle.tds_relay.specs.declared.desk.Desk as desks
-use Rattle.tds_relay.specs.declared.desk.Hold.{Hold}
+use Rattle.tds_relay.specs.declared.pool.Pool as pools
+use Rattle.tds_relay.specs.declared.pool.Hold.{Hold}
 use Rattle.tds_relay.specs.declared.link.Link.{Link}
 use Rattle.tds_relay.specs.declared.relay.Relay as code
-use Rattle.tds_relay.specs.Bodies.{AskAsBefore, Before, Body, ByClient, ByClosing, ClientStops, Closed, Going, Halts, IsStoppedOnce, IsHalting, IsUnsent, Kept, Nowhere, Astray, OfAstray, Spared, BodyAndWaits, StopsOn, AskOn, body_by, body_in, body_of, going, going_by, going_of, standing_in}
-use Rattle.tds_relay.specs.Desk.{find_key}
+use Rattle.tds_relay.specs.Bodies.{AskAsBefore, Before, Body, ByClient, ByClosing, ClientStops, Closed, Going, Halts, IsStoppedOnce, IsHalting, IsUnsent, Kept, Nowhere, Astray, OfAstray, BodyAndWaits, StopsOn, AskOn, body_by, body_in, body_of, going, going_by, going_of, standing_in}
+use Rattle.tds_relay.specs.Pool.{find_key}
 use Rattle.tds_relay.specs.Fronts.{ends_in}
-use Rattle.tds_relay.specs.Hall.{end_at}
+use Rattle.tds_relay.specs.Core.{end_at}
 use Rattle.tds_relay.specs.Reads.{waits_on}
 use Rattle.tds_relay.specs.Taking.{IsDeaf}
 use Rattle.tds_relay.proofs.steps.Bodied.{shut}
 use Rattle.tds_relay.proofs.steps.Going.{waits_behind}
 use Rattle.tds_relay.proofs.steps.Sent.{found_changed}
+use Rattle.tds_relay.proofs.steps.Tied.{spared_closed, stays_closed}
 
 -- ---- The client is there behind a cancel
 
@@ -53,7 +54,7 @@ client_there : (test : Seat → Bool) (cs : List seats.Seat) → IsSome (find_by
 client_there test [] is = absurd (let u : ⊥ = cc in u)
 client_there test (x ∷ xs) is = client_either (test (seat_in x)) x test xs is (client_there test xs)
 
-pub client_stops : (key : ℕ) (hold : Hold) (old new : desks.Desk) (before after : List ℕ) → find_key key old.holds.items ≡ Some hold → new.holds.items ≡ old.holds.items
+pub client_stops : (key : ℕ) (hold : Hold) (old new : pools.Pool) (before after : List ℕ) → find_key key old.holds.items ≡ Some hold → new.holds.items ≡ old.holds.items
     → service_in new.service ≡ (step {T = Token} (service_in old.service) (calls.Cancel hold.lease)).service → (step {T = Token} (service_in old.service) (calls.Cancel hold.lease)).reply ≡ Did
     → CancelsOut hold.lease old.service before after → ClientStops key old new before after
 client_stops key hold old new before after its same is did out =
@@ -75,7 +76,7 @@ halts_by : (number : ℕ) (from to : ClientSession) (had : Option (List ℕ)) �
 halts_by number from to None = OfAstray
 halts_by number from to (Some waits) = ByClient waits from
 
-halts_on : (key : ℕ) (old new : desks.Desk) (after : List ℕ) (ls ms : List Link) (hold : Hold) → find_key key old.holds.items ≡ Some hold → ClientStops key old new [] after
+halts_on : (key : ℕ) (old new : pools.Pool) (after : List ℕ) (ls ms : List Link) (hold : Hold) → find_key key old.holds.items ≡ Some hold → ClientStops key old new [] after
     → waits_on hold.number ms ≡ option_map (λ (waits : List ℕ). waits ++ after) (waits_on hold.number ls) → Halts (going old.service ls (find_key key old.holds.items)) (going new.service ms (find_key key new.holds.items))
 halts_on key old new after ls ms hold its p waits =
     let one : hold ≡ p.hold = (let u : Some hold ≡ Some p.hold = sym its ∙ p.its in cc) in
@@ -112,8 +113,8 @@ halted key number old mid new stopped links asks (inr (at, asked, waits)) =
     subst (λ (n : ℕ). waits_on n new.links.items ≡ option_map (λ (xs : List ℕ). xs ++ mid.outbox.items) (waits_on n old.links.items)) stopped.number_is
     (waits_behind number new.links.items mid.links.items old.links.items mid.outbox.items mid.outbox.items waits links refl) in
     let goes : Halts (going_of key old) (going_of key new) =
-    subst (λ (d : desks.Desk). Halts (going_of key old) (going d.service new.links.items (find_key key d.holds.items))) (sym at)
-    (halts_on key old.desk mid.desk mid.outbox.items old.links.items new.links.items hold stopped.its stopped.stops behind) in
+    subst (λ (d : pools.Pool). Halts (going_of key old) (going d.service new.links.items (find_key key d.holds.items))) (sym at)
+    (halts_on key old.pool mid.pool mid.outbox.items old.links.items new.links.items hold stopped.its stopped.stops behind) in
     let same : body_of key new ≡ body_in (get old.applications key) (going_of key new) = asked key (going_of key new) ∙ asks key (going_of key new) in
     subst (Halts (body_of key old)) (sym same) (halts_in (get old.applications key) (going_of key old) (going_of key new) goes)
 
@@ -124,35 +125,36 @@ cancelled_by number from None new e = tt
 cancelled_by number from (Some waits) new e = inl e
 
 pub cancelled_shut : (b : Body) (new : BodyAndWaits) → new.0 ≡ Closed → IsStoppedOnce b new
-cancelled_shut Closed new e = tt
+cancelled_shut Closed new e = e
 cancelled_shut Nowhere new e = tt
 cancelled_shut (Kept kind bytes whole) new e = tt
 cancelled_shut Astray new e = tt
 cancelled_shut (Going number client waits) new e = inr e
 
-pub cancelled_unsent : (b : Body) (new : BodyAndWaits) → IsUnsent b → IsStoppedOnce b new
-cancelled_unsent Closed new e = tt
-cancelled_unsent Nowhere new e = tt
-cancelled_unsent (Kept kind bytes whole) new e = tt
-cancelled_unsent Astray new e = tt
-cancelled_unsent (Going number client waits) new e = absurd e
+pub cancelled_unsent : (b : Body) (new : BodyAndWaits) → (b ≡ Closed → new.0 ≡ Closed) → IsUnsent b → IsStoppedOnce b new
+cancelled_unsent Closed new shut e = shut refl
+cancelled_unsent Nowhere new shut e = tt
+cancelled_unsent (Kept kind bytes whole) new shut e = tt
+cancelled_unsent Astray new shut e = tt
+cancelled_unsent (Going number client waits) new shut e = absurd e
 
-cancelled_asked : (over : Bool) (a : Asking) (held : List ℕ) (g : Body) (new : BodyAndWaits) → IsStoppedOnce g new → IsStoppedOnce (if over then Closed else body_by a held g) new
-cancelled_asked true a held g new s = tt
-cancelled_asked false asking.Nothing held g new s = tt
-cancelled_asked false (asking.Waits kind whole) held g new s = tt
-cancelled_asked false asking.Goes held g new s = s
+cancelled_asked : (over : Bool) (a : Asking) (held : List ℕ) (g : Body) (new : BodyAndWaits) → ((if over then Closed else body_by a held g) ≡ Closed → new.0 ≡ Closed) → IsStoppedOnce g new
+    → IsStoppedOnce (if over then Closed else body_by a held g) new
+cancelled_asked true a held g new shut s = shut refl
+cancelled_asked false asking.Nothing held g new shut s = tt
+cancelled_asked false (asking.Waits kind whole) held g new shut s = tt
+cancelled_asked false asking.Goes held g new shut s = s
 
-pub cancelled_in : (o : Option Application) (g : Body) (new : BodyAndWaits) → IsStoppedOnce g new → IsStoppedOnce (body_in o g) new
-cancelled_in None g new s = tt
-cancelled_in (Some a) g new s = cancelled_asked a.is_over a.asking a.held.items g new s
+pub cancelled_in : (o : Option Application) (g : Body) (new : BodyAndWaits) → (body_in o g ≡ Closed → new.0 ≡ Closed) → IsStoppedOnce g new → IsStoppedOnce (body_in o g) new
+cancelled_in None g new shut s = shut refl
+cancelled_in (Some a) g new shut s = cancelled_asked a.is_over a.asking a.held.items g new shut s
 
-going_same : (key : ℕ) (d e : desks.Desk) (ls ms : List Link) → e.holds ≡ d.holds → e.service ≡ d.service → ms ≡ ls → going e.service ms (find_key key e.holds.items) ≡ going d.service ls (find_key key d.holds.items)
+going_same : (key : ℕ) (d e : pools.Pool) (ls ms : List Link) → e.holds ≡ d.holds → e.service ≡ d.service → ms ≡ ls → going e.service ms (find_key key e.holds.items) ≡ going d.service ls (find_key key d.holds.items)
 going_same key d e ls ms holds service links =
     ap (λ (s : services.Service). going s ms (find_key key e.holds.items)) service ∙ ap (λ (xs : List Link). going d.service xs (find_key key e.holds.items)) links
     ∙ ap (λ (hs : List Hold). going d.service ls (find_key key hs)) (let u : e.holds.items ≡ d.holds.items = cc in u)
 
-going_stopped : (key : ℕ) (old mid : desks.Desk) (after : List ℕ) (ls : List Link) (hold : Hold) (new : BodyAndWaits) → find_key key old.holds.items ≡ Some hold → ClientStops key old mid [] after
+going_stopped : (key : ℕ) (old mid : pools.Pool) (after : List ℕ) (ls : List Link) (hold : Hold) (new : BodyAndWaits) → find_key key old.holds.items ≡ Some hold → ClientStops key old mid [] after
     → new.1 hold.number ≡ option_map (λ (waits : List ℕ). waits ++ after) (waits_on hold.number ls) → IsStoppedOnce (going old.service ls (find_key key old.holds.items)) new
 going_stopped key old mid after ls hold new its p waits =
     let one : hold ≡ p.hold = (let u : Some hold ≡ Some p.hold = sym its ∙ p.its in cc) in
@@ -165,7 +167,7 @@ going_stopped key old mid after ls hold new its p waits =
     subst (λ (b : Body). IsStoppedOnce b new) (sym was) (cancelled_by p.hold.number p.from (waits_on p.hold.number ls) new waits_is)
 
 -- what was put waits, or it is to be closed
-pub cancelled_going : {A B : Type 0} (key number : ℕ) (old mid : desks.Desk) (after : List ℕ) (ls : List Link) (hold : Hold) (new : code.Relay) → find_key key old.holds.items ≡ Some hold → number ≡ hold.number → ClientStops key old mid [] after
+pub cancelled_going : {A B : Type 0} (key number : ℕ) (old mid : pools.Pool) (after : List ℕ) (ls : List Link) (hold : Hold) (new : code.Relay) → find_key key old.holds.items ≡ Some hold → number ≡ hold.number → ClientStops key old mid [] after
     → IsDeaf (end_at (ends_in new.applications) key) ⊎ (A × B × (waits_on number new.links.items ≡ option_map (λ (waits : List ℕ). waits ++ after) (waits_on number ls)))
     → IsStoppedOnce (going old.service ls (find_key key old.holds.items)) (standing_in key new)
 cancelled_going key number old mid after ls hold new its same p (inl deaf) = cancelled_shut (going old.service ls (find_key key old.holds.items)) (standing_in key new) (shut new.applications key (going_of key new) deaf)
@@ -173,38 +175,38 @@ cancelled_going key number old mid after ls hold new its same p (inr (a, b, wait
     going_stopped key old mid after ls hold (standing_in key new) its p (subst (λ (n : ℕ). waits_on n new.links.items ≡ option_map (λ (xs : List ℕ). xs ++ after) (waits_on n ls)) same waits)
 
 -- of which something had gone on
-pub taken_back : (key number : ℕ) (old mid stopped out new : code.Relay) → mid.desk.holds ≡ old.desk.holds → mid.desk.service ≡ old.desk.service → out.links.items ≡ old.links.items → out.outbox.items ≡ stopped.outbox.items
-    → IsHalting number key mid stopped → StopsOn number key out new → IsStoppedOnce (body_of key old) (standing_in key new)
-taken_back key number old mid stopped out new holds service links outbox h (inl deaf) = cancelled_shut (body_of key old) (standing_in key new) (shut new.applications key (going_of key new) deaf)
-taken_back key number old mid stopped out new holds service links outbox h (inr (at, asked, waits)) =
+pub taken_back : (key number : ℕ) (old mid stopped out new : code.Relay) → mid.pool.holds ≡ old.pool.holds → mid.pool.service ≡ old.pool.service → out.links.items ≡ old.links.items → out.outbox.items ≡ stopped.outbox.items
+    → (body_of key old ≡ Closed → (goes : Body) → body_in (get out.applications key) goes ≡ Closed) → IsHalting number key mid stopped → StopsOn number key out new → IsStoppedOnce (body_of key old) (standing_in key new)
+taken_back key number old mid stopped out new holds service links outbox over h (inl deaf) = cancelled_shut (body_of key old) (standing_in key new) (shut new.applications key (going_of key new) deaf)
+taken_back key number old mid stopped out new holds service links outbox over h (inr (at, asked, waits)) =
     let behind = waits_behind number new.links.items out.links.items old.links.items out.outbox.items stopped.outbox.items waits links outbox in
-    cancelled_in (get old.applications key) (going_of key old) (standing_in key new)
-    (subst (λ (b : Body). IsStoppedOnce b (standing_in key new)) (going_same key old.desk mid.desk old.links.items old.links.items holds service refl)
-    (cancelled_going {A = Unit} {B = Unit} key number mid.desk stopped.desk stopped.outbox.items old.links.items h.hold new h.its h.number_is h.stops (inr (tt, tt, behind))))
+    cancelled_in (get old.applications key) (going_of key old) (standing_in key new) (λ e. asked key (going_of key new) ∙ over e (going_of key new))
+    (subst (λ (b : Body). IsStoppedOnce b (standing_in key new)) (going_same key old.pool mid.pool old.links.items old.links.items holds service refl)
+    (cancelled_going {A = Unit} {B = Unit} key number mid.pool stopped.pool stopped.outbox.items old.links.items h.hold new h.its h.number_is h.stops (inr (tt, tt, behind))))
 
 -- of which nothing had
-pub forgot_cancelled : {A E : Type 0} (r : Result A E) (key : ℕ) (old mid new : code.Relay) → mid.desk.holds ≡ old.desk.holds → mid.desk.service ≡ old.desk.service → mid.links.items ≡ old.links.items
-    → OnOk r (IsStoppedOnce (going_of key mid) (standing_in key new)) → OnOk r (IsStoppedOnce (body_of key old) (standing_in key new))
-forgot_cancelled (Ok x) key old mid new holds service links s =
-    cancelled_in (get old.applications key) (going_of key old) (standing_in key new) (subst (λ (b : Body). IsStoppedOnce b (standing_in key new)) (going_same key old.desk mid.desk old.links.items mid.links.items holds service links) s)
-forgot_cancelled (Err e) key old mid new holds service links s = tt
+pub forgot_cancelled : {A E : Type 0} (r : Result A E) (key : ℕ) (old mid new : code.Relay) → mid.pool.holds ≡ old.pool.holds → mid.pool.service ≡ old.pool.service → mid.links.items ≡ old.links.items
+    → ends_in mid.applications ≡ ends_in old.applications → OnOk r (AskOn mid.applications new.applications) → OnOk r (IsStoppedOnce (going_of key mid) (standing_in key new))
+    → OnOk r (IsStoppedOnce (body_of key old) (standing_in key new))
+forgot_cancelled (Ok x) key old mid new holds service links ends asks s =
+    cancelled_in (get old.applications key) (going_of key old) (standing_in key new) (stays_closed key old mid new ends asks) (subst (λ (b : Body). IsStoppedOnce b (standing_in key new)) (going_same key old.pool mid.pool old.links.items mid.links.items holds service links) s)
+forgot_cancelled (Err e) key old mid new holds service links ends asks s = tt
 
-closed_then : (a b : Body) → Spared a b → a ≡ Closed → b ≡ Closed
-closed_then a b (inl same) e = same ∙ e
-closed_then a b (inr shut) e = shut
+closed_still : (key : ℕ) (old new : code.Relay) → new.pool ≡ old.pool → new.links.items ≡ old.links.items → AskOn old.applications new.applications → body_of key old ≡ Closed → body_of key new ≡ Closed
+closed_still key old new pool links asks e =
+    let goes : going_of key new ≡ going_of key old = going_same key old.pool new.pool old.links.items new.links.items (let u : new.pool.holds ≡ old.pool.holds = cc in u) (let u : new.pool.service ≡ old.pool.service = cc in u) links in
+    spared_closed (body_in (get old.applications key) (going_of key new)) (body_of key new) (asks key (going_of key new)) (ap (body_in (get old.applications key)) goes ∙ e)
 
-cancelled_on : (key : ℕ) (b : Body) (old new : code.Relay) → new.desk ≡ old.desk → new.links.items ≡ old.links.items → AskOn old.applications new.applications → IsStoppedOnce b (standing_in key old) → IsStoppedOnce b (standing_in key new)
-cancelled_on key Closed old new desk links asks s = tt
-cancelled_on key Nowhere old new desk links asks s = tt
-cancelled_on key (Kept kind bytes whole) old new desk links asks s = tt
-cancelled_on key Astray old new desk links asks s = tt
-cancelled_on key (Going number client waits) old new desk links asks (inl e) = inl (ap (waits_on number) links ∙ e)
-cancelled_on key (Going number client waits) old new desk links asks (inr e) =
-    let goes : going_of key new ≡ going_of key old = going_same key old.desk new.desk old.links.items new.links.items (let u : new.desk.holds ≡ old.desk.holds = cc in u) (let u : new.desk.service ≡ old.desk.service = cc in u) links in
-    inr (closed_then (body_in (get old.applications key) (going_of key new)) (body_of key new) (asks key (going_of key new)) (ap (body_in (get old.applications key)) goes ∙ e))
+cancelled_on : (key : ℕ) (b : Body) (old new : code.Relay) → new.pool ≡ old.pool → new.links.items ≡ old.links.items → AskOn old.applications new.applications → IsStoppedOnce b (standing_in key old) → IsStoppedOnce b (standing_in key new)
+cancelled_on key Closed old new pool links asks e = closed_still key old new pool links asks e
+cancelled_on key Nowhere old new pool links asks s = tt
+cancelled_on key (Kept kind bytes whole) old new pool links asks s = tt
+cancelled_on key Astray old new pool links asks s = tt
+cancelled_on key (Going number client waits) old new pool links asks (inl e) = inl (ap (waits_on number) links ∙ e)
+cancelled_on key (Going number client waits) old new pool links asks (inr e) = inr (closed_still key old new pool links asks e)
 
 -- and then it is told so
-pub cancelled_told : {A E : Type 0} (r : Result A E) (key : ℕ) (b : Body) (old new : code.Relay) → IsStoppedOnce b (standing_in key old) → new.desk ≡ old.desk → OnOk r (new.links.items ≡ old.links.items)
+pub cancelled_told : {A E : Type 0} (r : Result A E) (key : ℕ) (b : Body) (old new : code.Relay) → IsStoppedOnce b (standing_in key old) → new.pool ≡ old.pool → OnOk r (new.links.items ≡ old.links.items)
     → OnOk r (AskOn old.applications new.applications) → OnOk r (IsStoppedOnce b (standing_in key new))
-cancelled_told (Ok x) key b old new s desk links asks = cancelled_on key b old new desk links asks s
-cancelled_told (Err e) key b old new s desk links asks = tt
+cancelled_told (Ok x) key b old new s pool links asks = cancelled_on key b old new pool links asks s
+cancelled_told (Err e) key b old new s pool links asks = tt

@@ -15,25 +15,25 @@ use Rattle.tds_service.specs.Service.{Seat, find_by, has_number, lease_at, seat_
 use Rattle.tds_service.specs.Table.{reading_by, seat_in, seats_in}
 use Rattle.tds_service.specs.declared.seat.Seat as seats
 use Rattle.tds_relay.specs.declared.application.Application.{Application}
-use Rattle.tds_relay.specs.declared.desk.coming.Heard.{Heard}
-use Rattle.tds_relay.specs.declared.desk.coming.What.{What}
-use Rattle.tds_relay.specs.declared.desk.coming.What.TheVariants as whats
+use Rattle.tds_relay.specs.declared.pool.coming.Heard.{Heard}
+use Rattle.tds_relay.specs.declared.pool.coming.What.{What}
+use Rattle.tds_relay.specs.declared.pool.coming.What.TheVariants as whats
 use Rattle.tds_relay.specs.declared.link.Answer.{Answer}
 use Rattle.tds_relay.specs.declared.link.Link.{Link}
 use Rattle.tds_relay.specs.declared.link.News.{News}
 use Rattle.tds_relay.specs.Cutting.{ends_in, awaited}
-use Rattle.tds_relay.specs.Desk.{owes_reset, Desk, Comes, Way, turn, whose}
-use Rattle.tds_relay.specs.Fronts.{IsWhat, end_of, ends_in as ends_of, house_with, told_by}
-use Rattle.tds_relay.specs.Hall as hall
-use Rattle.tds_relay.specs.Hall.{End, Ends, Open, Over, done_by, end_at, told, what_in}
+use Rattle.tds_relay.specs.Pool.{owes_reset, Pool, Comes, Way, turn, whose}
+use Rattle.tds_relay.specs.Fronts.{IsWhat, end_of, ends_in as ends_of, machine_with, told_by}
+use Rattle.tds_relay.specs.Core as core
+use Rattle.tds_relay.specs.Core.{End, Ends, Open, Over, done_by, end_at, told, what_in}
 use Rattle.tds_relay.specs.Handing.{Brings, Hears, IsBy, PassesAs, IsDone, IsFor, IsKnown, IsKnownBy, IsOf, KnowsOn, Passing, fed, news_for}
 use Rattle.tds_relay.specs.News.{holds_back}
-use Rattle.tds_relay.specs.House.{House, IsHanded, IsRight, IsTold, Manner, MayHand, Withheld, behind_news, change_whose, closes, end_whose, handed, hears_of_reset, is_said, news_in, put_all, put_some}
+use Rattle.tds_relay.specs.Machine.{Machine, IsHanded, IsRight, IsTold, Manner, MayHand, Withheld, behind_news, change_whose, closes, end_whose, handed, hears_of_reset, is_said, news_in, put_all, put_some}
 use Rattle.tds_relay.specs.Promises.{one_if}
-use Rattle.tds_relay.specs.Posts.{Post, Posts, change, post_at, post_of, posts_in, put, put_news}
+use Rattle.tds_relay.specs.Queues.{Queue, Queues, change, queue_at, queue_of, queues_in, put, put_news}
 use Rattle.tds_relay.specs.Ties.{Turns, part_on}
 use Rattle.tds_relay.proofs.steps.Fronts.{end_is, told_whose}
-use Rattle.tds_relay.proofs.steps.Posting.{posts_changed}
+use Rattle.tds_relay.proofs.steps.Queueing.{queues_changed}
 
 -- ---- As it may be
 
@@ -70,50 +70,50 @@ told_alike : (who : Option ℕ) (what : What) (dones : List (Rattle.tds_service.
 told_alike None what dones es is = refl
 told_alike (Some key) what dones es is = ap (λ (w : What). hears_of_reset w (end_at es key)) (sym is)
 
-pub may_hand : (number : ℕ) (walker : Option Reading) (a b : Answer) (r : packets.Reading) (heard : Heard) (old new : House) → (p : Passing number walker a b r heard old new)
-    → MayHand old number p.header p.content (part_on walker p.content (ends_in p.header)) p.manner
-may_hand number walker a b r heard old new p =
-    let part = part_on walker p.content (ends_in p.header) in
-    let dones = done_by old.hall.desk number part in
-    let who = whose old.hall.desk number in
-    let same : is_said (what_in dones) (end_whose who old.hall.ends) ≡ is_said heard.what (end_whose heard.key old.hall.ends) =
-    ap (λ (o : Option ℕ). is_said (what_in dones) (end_whose o old.hall.ends)) (sym p.whose_is) ∙ said_alike heard.key heard.what dones old.hall.ends p.what_is in
-    let alike : hears_of_reset (what_in dones) (end_whose who old.hall.ends) ≡ hears_of_reset heard.what (end_whose heard.key old.hall.ends) =
-    ap (λ (o : Option ℕ). hears_of_reset (what_in dones) (end_whose o old.hall.ends)) (sym p.whose_is) ∙ told_alike heard.key heard.what dones old.hall.ends p.what_is in
+pub may_hand : (number : ℕ) (parser : Option Reading) (a b : Answer) (r : packets.Reading) (heard : Heard) (old new : Machine) → (p : Passing number parser a b r heard old new)
+    → MayHand old number p.header p.content (part_on parser p.content (ends_in p.header)) p.manner
+may_hand number parser a b r heard old new p =
+    let part = part_on parser p.content (ends_in p.header) in
+    let dones = done_by old.core.pool number part in
+    let who = whose old.core.pool number in
+    let same : is_said (what_in dones) (end_whose who old.core.ends) ≡ is_said heard.what (end_whose heard.key old.core.ends) =
+    ap (λ (o : Option ℕ). is_said (what_in dones) (end_whose o old.core.ends)) (sym p.whose_is) ∙ said_alike heard.key heard.what dones old.core.ends p.what_is in
+    let alike : hears_of_reset (what_in dones) (end_whose who old.core.ends) ≡ hears_of_reset heard.what (end_whose heard.key old.core.ends) =
+    ap (λ (o : Option ℕ). hears_of_reset (what_in dones) (end_whose o old.core.ends)) (sym p.whose_is) ∙ told_alike heard.key heard.what dones old.core.ends p.what_is in
     record {
       counted = p.packet.laid_out.counted;
-      walker = walker;
+      parser = parser;
       part_is = refl;
-      has_walker = p.has_walker;
-      right = right_for (is_said heard.what (end_whose heard.key old.hall.ends)) p.goes a p.header p.content p.manner p.by;
-      handed_on = subst (λ (b : Bool). IsHanded b p.manner) (sym same) (on_for (is_said heard.what (end_whose heard.key old.hall.ends)) p.goes a p.header p.content p.manner p.by);
-      told = subst (λ (b : Bool). IsTold (owes_reset number old.hall.desk) b p.manner part) (sym alike) p.told;
+      has_parser = p.has_parser;
+      right = right_for (is_said heard.what (end_whose heard.key old.core.ends)) p.goes a p.header p.content p.manner p.by;
+      handed_on = subst (λ (b : Bool). IsHanded b p.manner) (sym same) (on_for (is_said heard.what (end_whose heard.key old.core.ends)) p.goes a p.header p.content p.manner p.by);
+      told = subst (λ (b : Bool). IsTold (owes_reset number old.core.pool) b p.manner part) (sym alike) p.told;
     }
 
 -- ---- What waits by it
 
 -- the news first, where it is told
-pub news_first : (tells : Bool) (bytes : List ℕ) (p : Post) → put bytes (put_news tells p) ≡ put_all (behind_news tells bytes) p
+pub news_first : (tells : Bool) (bytes : List ℕ) (p : Queue) → put bytes (put_news tells p) ≡ put_all (behind_news tells bytes) p
 news_first true bytes p = refl
 news_first false bytes p = refl
 
-same_post : (o : Option Post) → option_map (put_some None) o ≡ o
-same_post None = refl
-same_post (Some p) = refl
+same_queue : (o : Option Queue) → option_map (put_some None) o ≡ o
+same_queue None = refl
+same_queue (Some p) = refl
 
-pub nothing_put : (posts : Posts) (key : ℕ) → change key (put_some None) posts ≡ posts
-nothing_put posts key = ap (λ (o : Option Post). slice_set posts key o) (same_post (post_at posts key)) ∙ set-get_or posts key None
+pub nothing_put : (queues : Queues) (key : ℕ) → change key (put_some None) queues ≡ queues
+nothing_put queues key = ap (λ (o : Option Queue). slice_set queues key o) (same_queue (queue_at queues key)) ∙ set-get_or queues key None
 
 -- nothing of it is
-pub withheld_is : (who : Option ℕ) (h : Header) (content : List ℕ) (posts : Posts) → posts ≡ change_whose who (put_some (handed Withheld h content)) posts
-withheld_is None h content posts = refl
-withheld_is (Some key) h content posts = sym (nothing_put posts key)
+pub withheld_is : (who : Option ℕ) (h : Header) (content : List ℕ) (queues : Queues) → queues ≡ change_whose who (put_some (handed Withheld h content)) queues
+withheld_is None h content queues = refl
+withheld_is (Some key) h content queues = sym (nothing_put queues key)
 
 -- its application has it
-pub handed_is : (who : Option ℕ) (key : ℕ) (h : Header) (content : List ℕ) (manner : Manner) (s : Slab Application) (a b : Application) → Some key ≡ who → Some a ≡ get s key → post_of b ≡ put_some (handed manner h content) (post_of a)
-    → posts_in (with_value s key b) ≡ change_whose who (put_some (handed manner h content)) (posts_in s)
+pub handed_is : (who : Option ℕ) (key : ℕ) (h : Header) (content : List ℕ) (manner : Manner) (s : Slab Application) (a b : Application) → Some key ≡ who → Some a ≡ get s key → queue_of b ≡ put_some (handed manner h content) (queue_of a)
+    → queues_in (with_value s key b) ≡ change_whose who (put_some (handed manner h content)) (queues_in s)
 handed_is who key h content manner s a b its is passes =
-    posts_changed s key a b (put_some (handed manner h content)) is passes ∙ ap (λ (o : Option ℕ). change_whose o (put_some (handed manner h content)) (posts_in s)) its
+    queues_changed s key a b (put_some (handed manner h content)) is passes ∙ ap (λ (o : Option ℕ). change_whose o (put_some (handed manner h content)) (queues_in s)) its
 
 -- ---- Why
 
@@ -164,41 +164,41 @@ pub to_one : (what : What) (s : Slab Application) (who : Option ℕ) (key : ℕ)
     → is_said what (end_whose who (ends_of s)) ≡ true
 to_one what s who key a on its is h = ap (is_said what) (end_whose_is s who key a its is) ∙ heard_by what (end_of a) on h
 
--- ---- The walker
+-- ---- The parser
 
-walker_if : (b : Bool) (test : Seat → Bool) (x : seats.Seat) (xs : List seats.Seat) (c : Seat) → (if b then Some (seat_in x) else find_by test (seats_in xs)) ≡ Some c
-    → (find_by test (seats_in xs) ≡ Some c → IsSome (reading_by test xs)) → IsSome (if b then Some x.connection.walker else reading_by test xs)
-walker_if true test x xs c e later = refl
-walker_if false test x xs c e later = later e
+parser_if : (b : Bool) (test : Seat → Bool) (x : seats.Seat) (xs : List seats.Seat) (c : Seat) → (if b then Some (seat_in x) else find_by test (seats_in xs)) ≡ Some c
+    → (find_by test (seats_in xs) ≡ Some c → IsSome (reading_by test xs)) → IsSome (if b then Some x.connection.parser else reading_by test xs)
+parser_if true test x xs c e later = refl
+parser_if false test x xs c e later = later e
 
-pub walker_by : (test : Seat → Bool) (cs : List seats.Seat) (c : Seat) → find_by test (seats_in cs) ≡ Some c → IsSome (reading_by test cs)
-walker_by test [] c e = absurd (let u : ⊥ = cc in u)
-walker_by test (x ∷ xs) c e = walker_if (test (seat_in x)) test x xs c e (walker_by test xs c)
+pub parser_by : (test : Seat → Bool) (cs : List seats.Seat) (c : Seat) → find_by test (seats_in cs) ≡ Some c → IsSome (reading_by test cs)
+parser_by test [] c e = absurd (let u : ⊥ = cc in u)
+parser_by test (x ∷ xs) c e = parser_if (test (seat_in x)) test x xs c e (parser_by test xs c)
 
 -- a connection that is somebody's has one
-found_seat : (d : Desk) (number key : ℕ) (o : Option Seat) → seat_numbered number d.service.seats ≡ o → whose d number ≡ Some key → (c : Seat) × (o ≡ Some c)
+found_seat : (d : Pool) (number key : ℕ) (o : Option Seat) → seat_numbered number d.service.seats ≡ o → whose d number ≡ Some key → (c : Seat) × (o ≡ Some c)
 found_seat d number key (Some c) e h = (c, refl)
 found_seat d number key None e h =
-    absurd (let nobody : whose d number ≡ None = ap (λ (o : Option Seat). Rattle.tds_relay.specs.Desk.whose_by (lease_at o) d.holds) e in let u : Some key ≡ None = sym h ∙ nobody in let v : ⊥ = cc in v)
+    absurd (let nobody : whose d number ≡ None = ap (λ (o : Option Seat). Rattle.tds_relay.specs.Pool.whose_by (lease_at o) d.holds) e in let u : Some key ≡ None = sym h ∙ nobody in let v : ⊥ = cc in v)
 
-pub has_walker : (d : Desk) (number key : ℕ) (cs : List seats.Seat) → d.service.seats ≡ seats_in cs → whose d number ≡ Some key → IsSome (reading_by (has_number number) cs)
-has_walker d number key cs is h =
+pub has_parser : (d : Pool) (number key : ℕ) (cs : List seats.Seat) → d.service.seats ≡ seats_in cs → whose d number ≡ Some key → IsSome (reading_by (has_number number) cs)
+has_parser d number key cs is h =
     let c = found_seat d number key (seat_numbered number d.service.seats) refl h in
-    walker_by (has_number number) cs c.0 (ap (λ (xs : List Seat). seat_numbered number xs) (sym is) ∙ c.1)
+    parser_by (has_number number) cs c.0 (ap (λ (xs : List Seat). seat_numbered number xs) (sym is) ∙ c.1)
 
 -- ---- That it was
 
 -- a packet has come, and was handed on so
-pub passing : (number : ℕ) (walker : Option Reading) (goes : News) (a b : Answer) (r : packets.Reading) (heard : Heard) (d d1 : Desk) (es : Ends) (p p1 : Posts) (h : Header) (content : List ℕ) (ends : Bool) (way : Way) (manner : Manner) (before after : List ℕ)
-    → IsPacket r.direction r.size r.taken h content → ends ≡ ends_in h → Turns (Comes number (part_on walker content ends) way) d d1 before after
-    → heard.key ≡ whose d number → IsWhat heard.key heard.what (done_by d number (part_on walker content ends)) → ((key : ℕ) → whose d number ≡ Some key → IsSome walker)
-    → IsFor (is_said heard.what (end_whose heard.key es)) goes a h content manner → PassesAs (owes_reset number d) a h content (part_on walker content ends) manner b → IsTold (owes_reset number d) (hears_of_reset heard.what (end_whose heard.key es)) manner (part_on walker content ends) → p1 ≡ change_whose (whose d number) (put_some (handed manner h content)) p
-    → Brings number walker a b r heard (house_with d es p) (house_with d1 (told_by (Some heard) es) p1)
-passing number walker goes a b r heard d d1 es p p1 h content ends way manner before behind packet last turned its what there by cut tells is =
-    let turns = subst (λ (b : Bool). Turns (Comes number (part_on walker content b) way) d d1 before behind) last turned in
-    let hears = subst (λ (b : Bool). IsTold (owes_reset number d) (hears_of_reset heard.what (end_whose heard.key es)) manner (part_on walker content b)) last tells in
-    let said = subst (λ (b : Bool). IsWhat heard.key heard.what (done_by d number (part_on walker content b))) last what in
-    let dones = done_by d number (part_on walker content (ends_in h)) in
+pub passing : (number : ℕ) (parser : Option Reading) (goes : News) (a b : Answer) (r : packets.Reading) (heard : Heard) (d d1 : Pool) (es : Ends) (p p1 : Queues) (h : Header) (content : List ℕ) (ends : Bool) (way : Way) (manner : Manner) (before after : List ℕ)
+    → IsPacket r.direction r.size r.taken h content → ends ≡ ends_in h → Turns (Comes number (part_on parser content ends) way) d d1 before after
+    → heard.key ≡ whose d number → IsWhat heard.key heard.what (done_by d number (part_on parser content ends)) → ((key : ℕ) → whose d number ≡ Some key → IsSome parser)
+    → IsFor (is_said heard.what (end_whose heard.key es)) goes a h content manner → PassesAs (owes_reset number d) a h content (part_on parser content ends) manner b → IsTold (owes_reset number d) (hears_of_reset heard.what (end_whose heard.key es)) manner (part_on parser content ends) → p1 ≡ change_whose (whose d number) (put_some (handed manner h content)) p
+    → Brings number parser a b r heard (machine_with d es p) (machine_with d1 (told_by (Some heard) es) p1)
+passing number parser goes a b r heard d d1 es p p1 h content ends way manner before behind packet last turned its what there by cut tells is =
+    let turns = subst (λ (b : Bool). Turns (Comes number (part_on parser content b) way) d d1 before behind) last turned in
+    let hears = subst (λ (b : Bool). IsTold (owes_reset number d) (hears_of_reset heard.what (end_whose heard.key es)) manner (part_on parser content b)) last tells in
+    let said = subst (λ (b : Bool). IsWhat heard.key heard.what (done_by d number (part_on parser content b))) last what in
+    let dones = done_by d number (part_on parser content (ends_in h)) in
     inr (record {
       header = h;
       content = content;
@@ -207,49 +207,49 @@ passing number walker goes a b r heard d d1 es p p1 h content ends way manner be
       manner = manner;
       whose_is = its;
       what_is = said;
-      has_walker = there;
+      has_parser = there;
       goes = goes;
       by = by;
-      cut = subst (λ (x : Bool). PassesAs (owes_reset number d) a h content (part_on walker content x) manner b) last cut;
+      cut = subst (λ (x : Bool). PassesAs (owes_reset number d) a h content (part_on parser content x) manner b) last cut;
       told = hears;
       is =
-          ap (λ (e : Desk). house_with e (told_by (Some heard) es) p1) turns.desk_is
-          ∙ ap (λ (x : Ends). house_with (turn d (Comes number (part_on walker content (ends_in h)) way)).desk x p1)
-          (sym (ap (λ (o : Option ℕ). hall.change_whose o (told (what_in dones)) es) (sym its) ∙ told_whose heard.key heard.what dones es said))
-          ∙ ap (λ (q : Posts). house_with (turn d (Comes number (part_on walker content (ends_in h)) way)).desk (hall.change_whose (whose d number) (told (what_in dones)) es) q) is;
+          ap (λ (e : Pool). machine_with e (told_by (Some heard) es) p1) turns.pool_is
+          ∙ ap (λ (x : Ends). machine_with (turn d (Comes number (part_on parser content (ends_in h)) way)).pool x p1)
+          (sym (ap (λ (o : Option ℕ). core.change_whose o (told (what_in dones)) es) (sym its) ∙ told_whose heard.key heard.what dones es said))
+          ∙ ap (λ (q : Queues). machine_with (turn d (Comes number (part_on parser content (ends_in h)) way)).pool (core.change_whose (whose d number) (told (what_in dones)) es) q) is;
     })
 
 -- ---- Of which bytes
 
 left_less : ((r : packets.Reading) (bytes : List ℕ) → ¬ IsWhole (with_taken r (up_to_end r bytes)) → IsLess r (up_to_end r bytes)) → ((r : packets.Reading) → IsLess r [])
-    → (number : ℕ) (walker : Option Reading) (a b : Answer) (r next : packets.Reading) (bytes : List ℕ) (heard : Heard) (old new : House)
-    → Brings number walker a b (fed r bytes) heard old new → IsDone (fed r bytes) next → IsLess next next.taken
-left_less less nothing number walker a b r next bytes heard old new (inl none) done =
+    → (number : ℕ) (parser : Option Reading) (a b : Answer) (r next : packets.Reading) (bytes : List ℕ) (heard : Heard) (old new : Machine)
+    → Brings number parser a b (fed r bytes) heard old new → IsDone (fed r bytes) next → IsLess next next.taken
+left_less less nothing number parser a b r next bytes heard old new (inl none) done =
     subst (λ (x : packets.Reading). IsLess x x.taken) (sym (done.less none.0)) (less r (r.taken ++ bytes) none.0)
-left_less less nothing number walker a b r next bytes heard old new (inr p) done =
+left_less less nothing number parser a b r next bytes heard old new (inr p) done =
     subst (λ (x : packets.Reading). IsLess x x.taken) (sym (done.whole (p.header, p.content, p.packet))) (nothing r)
 
 pub hears_is : ((r : packets.Reading) (bytes : List ℕ) → ¬ IsWhole (with_taken r (up_to_end r bytes)) → IsLess r (up_to_end r bytes)) → ((r : packets.Reading) → IsLess r [])
-    → (number : ℕ) (walker : Option Reading) (link next : Link) (bytes : List ℕ) (count : ℕ) (heard : Heard) (old new : House) (r s : packets.Reading)
-    → r ≡ fed link.reader bytes → r.taken ≡ link.reader.taken ++ take count bytes → Brings number walker link.answer next.answer r heard old new
-    → s ≡ r → (IsWhole s → next.reader ≡ with_taken s []) → (¬ IsWhole s → next.reader ≡ s) → Hears number walker link next bytes count heard old new
-hears_is less nothing number walker link next bytes count heard old new r s is took brings same whole none =
-    let brought = subst (λ (x : packets.Reading). Brings number walker link.answer next.answer x heard old new) is brings in
+    → (number : ℕ) (parser : Option Reading) (link next : Link) (bytes : List ℕ) (count : ℕ) (heard : Heard) (old new : Machine) (r s : packets.Reading)
+    → r ≡ fed link.reader bytes → r.taken ≡ link.reader.taken ++ take count bytes → Brings number parser link.answer next.answer r heard old new
+    → s ≡ r → (IsWhole s → next.reader ≡ with_taken s []) → (¬ IsWhole s → next.reader ≡ s) → Hears number parser link next bytes count heard old new
+hears_is less nothing number parser link next bytes count heard old new r s is took brings same whole none =
+    let brought = subst (λ (x : packets.Reading). Brings number parser link.answer next.answer x heard old new) is brings in
     let done : IsDone (fed link.reader bytes) next.reader =
     subst (λ (x : packets.Reading). IsDone x next.reader) (same ∙ is) (record { whole = whole; less = none }) in
     record {
       taken = ap (λ (x : packets.Reading). x.taken) (sym is) ∙ took;
       brings = brought;
       done = done;
-      less = left_less less nothing number walker link.answer next.answer link.reader next.reader bytes heard old new brought done;
+      less = left_less less nothing number parser link.answer next.answer link.reader next.reader bytes heard old new brought done;
     }
 
 -- its reader goes the same way
-pub done_keeps : (number : ℕ) (walker : Option Reading) (a b : Answer) (r s next : packets.Reading) (heard : Heard) (old new : House) → Brings number walker a b r heard old new
+pub done_keeps : (number : ℕ) (parser : Option Reading) (a b : Answer) (r s next : packets.Reading) (heard : Heard) (old new : Machine) → Brings number parser a b r heard old new
     → s ≡ r → (IsWhole s → next ≡ with_taken s []) → (¬ IsWhole s → next ≡ s) → next.direction ≡ s.direction
-done_keeps number walker a b r s next heard old new (inl none) same whole less =
+done_keeps number parser a b r s next heard old new (inl none) same whole less =
     ap (λ (x : packets.Reading). x.direction) (less (subst (λ (x : packets.Reading). ¬ IsWhole x) (sym same) none.0))
-done_keeps number walker a b r s next heard old new (inr p) same whole less =
+done_keeps number parser a b r s next heard old new (inr p) same whole less =
     ap (λ (x : packets.Reading). x.direction) (whole (subst (λ (x : packets.Reading). IsWhole x) (sym same) (p.header, p.content, p.packet)))
 
 -- ---- As what is known has it

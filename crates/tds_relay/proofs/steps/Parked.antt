@@ -10,11 +10,11 @@ use Rattle.tds_front.specs.declared.stage.Stage.TheVariants as stages
 use Rattle.tds_service.specs.Service.{Seat, is_clean, is_open, seat_numbered}
 use Rattle.slab.specs.Slab.{Slab, get}
 use Rattle.tds_relay.specs.declared.application.Application.{Application}
-use Rattle.tds_relay.specs.declared.desk.Hold.{Hold}
-use Rattle.tds_relay.specs.declared.desk.Mode.{Mode}
-use Rattle.tds_relay.specs.declared.desk.Mode.TheVariants.{Sessions, Transactions}
-use Rattle.tds_relay.specs.Desk.{Desk, find_key, owes_of}
-use Rattle.tds_relay.specs.Hall.{End, Open, Over, Hall, IfOpen, IsHere, MayPart, end_at, is_at_end, may_park}
+use Rattle.tds_relay.specs.declared.pool.Hold.{Hold}
+use Rattle.tds_relay.specs.declared.pool.Mode.{Mode}
+use Rattle.tds_relay.specs.declared.pool.Mode.TheVariants.{Sessions, Transactions}
+use Rattle.tds_relay.specs.Pool.{Pool, find_key, owes_of}
+use Rattle.tds_relay.specs.Core.{End, Open, Over, Core, IfOpen, IsHere, MayPart, end_at, is_at_end, may_park}
 use Rattle.tds_relay.specs.Fronts.{end_of, ends_in}
 use Rattle.tds_relay.specs.Law.{Rested}
 use Rattle.tds_relay.specs.Parking.{has_no_request}
@@ -91,12 +91,12 @@ end_is (Some (Open front withdrawn asks)) e =
     }
 end_is (Some (Over why)) e = absurd (let u : ⊥ = cc in u)
 
-record HoldsClean (o : Option Hold) (d : Desk) : Type 0 where
+record HoldsClean (o : Option Hold) (d : Pool) : Type 0 where
   hold : Hold
   its : o ≡ Some hold
   clean : is_clean_on hold.number d ≡ true
 
-hold_is : (o : Option Hold) (d : Desk) → holds_clean o d ≡ true → HoldsClean o d
+hold_is : (o : Option Hold) (d : Pool) → holds_clean o d ≡ true → HoldsClean o d
 hold_is None d e = absurd (let u : ⊥ = cc in u)
 hold_is (Some hold) d e = record { hold = hold; its = refl; clean = e }
 
@@ -111,17 +111,17 @@ seat_says (Some c) e =
     let says = clean_says c.line.heard.mark c.line.heard.descriptor e in
     (ap (λ (b : Bool). Some b) says.0, says.1)
 
-pub rested : (h : Hall) (key : ℕ) → may_park h key ≡ true → Rested h key
+pub rested : (h : Core) (key : ℕ) → may_park h key ≡ true → Rested h key
 rested h key e =
-    let mode = is_by_transactions h.desk.mode in
+    let mode = is_by_transactions h.pool.mode in
     let ends = is_at_end (end_at h.ends key) in
-    let holds = holds_clean (find_key key h.desk.holds) h.desk in
+    let holds = holds_clean (find_key key h.pool.holds) h.pool in
     let both : (ends && holds) ≡ true = and_second mode (ends && holds) e in
     let end = end_is (end_at h.ends key) (and_first ends holds both) in
-    let held = hold_is (find_key key h.desk.holds) h.desk (and_second ends holds both) in
-    let seat = seat_says (seat_numbered held.hold.number h.desk.service.seats) held.clean in
+    let held = hold_is (find_key key h.pool.holds) h.pool (and_second ends holds both) in
+    let seat = seat_says (seat_numbered held.hold.number h.pool.service.seats) held.clean in
     record {
-      mode = mode_is h.desk.mode (and_first mode (ends && holds) e);
+      mode = mode_is h.pool.mode (and_first mode (ends && holds) e);
       front = end.front;
       end = end.end;
       quiet = end.quiet;
@@ -132,7 +132,7 @@ rested h key e =
     }
 
 -- nothing of a request of it has gone on
-pub lets_here : (h : Hall) (key : ℕ) → MayPart h key ⊎ (may_park h key ≡ true) → IfOpen IsHere (end_at h.ends key)
+pub lets_here : (h : Core) (key : ℕ) → MayPart h key ⊎ (may_park h key ≡ true) → IfOpen IsHere (end_at h.ends key)
 lets_here h key (inl parts) = parts.0
 lets_here h key (inr parks) =
     let r = rested h key parks in

@@ -4,8 +4,10 @@ use Rattle.std.specs.Prelude.{IfSome}
 use Rattle.std.proofs.lemmas.Bool.{eqb-false, eqb-true}
 use Rattle.tds_packet.specs.Reading.{Reading}
 use Rattle.tds_relay.specs.declared.link.Link.{Link}
+use Rattle.tds_relay.specs.Queues.{Queue, queue_in}
 use Rattle.tds_relay.specs.Reads.{FillsAt, Opens, OpensFirst, OpensOthers, StaysAt, Stays, answer_at, bytes_on, if_open, link_at, open_at, open_of, open_waits, opened_at, place_from, place_of, reader_at, reader_of, seen_at, seen_of}
 use Rattle.tds_relay.proofs.steps.Beginning.{other_answer, same_begins}
+use Rattle.tds_relay.proofs.steps.Fullness.{full_by, full_come}
 use Rattle.tds_relay.proofs.steps.Naming.{written_called}
 use Rattle.tds_relay.proofs.steps.Staying.{at_refl, fills_refl, shut, either_reader, opens_both, stays_opens, waits_of}
 
@@ -128,15 +130,16 @@ written_fills (x ∷ xs) (suc i) d m number is_open bytes n =
 
 -- bytes come on it
 pub others_written : (number : ℕ) (ls : List Link) (place : ℕ) (d m : Link) → place_of number ls ≡ Some place → m.number ≡ (slice_index_or ls place d).number
-    → m.is_open ≡ (slice_index_or ls place d).is_open → m.tag ≡ (slice_index_or ls place d).tag → bytes_on m ≡ bytes_on (slice_index_or ls place d) → OpensOthers number ls (slice_set ls place m)
-others_written number ls place d m is same is_open tag bytes = record {
+    → m.is_open ≡ (slice_index_or ls place d).is_open → m.tag ≡ (slice_index_or ls place d).tag → queue_in m.out ≡ queue_in (slice_index_or ls place d).out → OpensOthers number ls (slice_set ls place m)
+others_written number ls place d m is same is_open tag queue = record {
   opens = λ other differs.
       subst (λ (o : Option Reading). StaysAt (open_at other ls) o) (sym (other_open number other ls place d m (is_at number ls place is) same (λ e. differs (sym e)))) (at_refl (open_at other ls));
-  fills = λ other. written_fills ls place d m same is_open bytes other;
+  fills = λ other. written_fills ls place d m same is_open (ap (λ (p : Queue). p.bytes) queue) other;
   begins = λ other differs.
       same_begins (open_at other ls) (open_at other (slice_set ls place m)) (answer_at other ls) (answer_at other (slice_set ls place m))
       (other_open number other ls place d m (is_at number ls place is) same (λ e. differs (sym e)))
       (other_answer ls place d m other same (ap (λ (k : ℕ). k == other) ((is_at number ls place is).named d) ∙ differs_by (number == other) number other refl (λ e. differs (sym e))));
+  fullness = λ other. full_come ls place d m same is_open (ap full_by queue) other;
   called = λ other. written_called ls place d m same (is_open, tag) other;
 }
 

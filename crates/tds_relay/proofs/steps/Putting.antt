@@ -11,12 +11,12 @@ use Rattle.tds_client.specs.Packets.{packet_bytes}
 use Rattle.tds_service.specs.Line as line
 use Rattle.tds_service.specs.Line.{Packet}
 use Rattle.tds_service.specs.Ties.{Appends, IsBytes}
-use Rattle.tds_relay.specs.Desk as desk
-use Rattle.tds_relay.specs.Desk.{Deed, Desk, turn}
-use Rattle.tds_relay.specs.Fronts.{MayPut, PutsOn, goes_by, hall_of_ends, puts}
-use Rattle.tds_relay.specs.Hall.{End, Ends, Hall, IfOpen, IsBegun, IsPut, IsWhole, MayDo, Moves, Open, Over, Sends, change_end, end_at, goes_on, move_stage, sent_by}
+use Rattle.tds_relay.specs.Pool as pool
+use Rattle.tds_relay.specs.Pool.{Action, Pool, turn}
+use Rattle.tds_relay.specs.Fronts.{MayPut, PutsOn, goes_by, core_of_ends, puts}
+use Rattle.tds_relay.specs.Core.{End, Ends, Core, IfOpen, IsBegun, IsPut, IsWhole, MayDo, Moves, Open, Over, Sends, change_end, end_at, goes_on, move_stage, sent_by}
 use Rattle.tds_relay.specs.Ties.{Cause, Turns}
-use Rattle.tds_relay.proofs.steps.Fronts.{changed_alike, changed_at, changed_both, changed_not, moves_one, moves_same, same_hall}
+use Rattle.tds_relay.proofs.steps.Fronts.{changed_alike, changed_at, changed_both, changed_not, moves_one, moves_same, same_core}
 
 -- ---- Packets have bytes
 
@@ -99,14 +99,14 @@ whole_end (p ∷ ps) (Some (Over why)) h = tt
 
 -- ---- What was put
 
--- one deed, with what goes out
-moves_sends : (by : Cause) (from : Hall) (d d1 : Desk) (es : Ends) (key : ℕ) (deed : Deed) (before after : List ℕ)
-    → Turns (desk.Does key deed) d d1 before after → IsPut deed → MayDo deed (end_at es key) → Moves by from (hall_of_ends d es)
-    → Moves by from (hall_of_ends d1 (change_end key (goes_on (sent_by d (desk.Does key deed))) es))
-moves_sends by from d d1 es key deed before after t put may m =
+-- one action, with what goes out
+moves_sends : (by : Cause) (from : Core) (d d1 : Pool) (es : Ends) (key : ℕ) (action : Action) (before after : List ℕ)
+    → Turns (pool.Does key action) d d1 before after → IsPut action → MayDo action (end_at es key) → Moves by from (core_of_ends d es)
+    → Moves by from (core_of_ends d1 (change_end key (goes_on (sent_by d (pool.Does key action))) es))
+moves_sends by from d d1 es key action before after t put may m =
     subst (Moves by from)
-    (same_hall (turn d (desk.Does key deed)).desk d1 (change_end key (goes_on (sent_by d (desk.Does key deed))) es) _ t.desk_is refl)
-    (moves_one by from (hall_of_ends d es) (Sends key deed) (put, may) tt tt m)
+    (same_core (turn d (pool.Does key action)).pool d1 (change_end key (goes_on (sent_by d (pool.Does key action))) es) _ t.pool_is refl)
+    (moves_one by from (core_of_ends d es) (Sends key action) (put, may) tt tt m)
 
 -- from nothing that waited
 gone_once : (packets : List Packet) (after : List ℕ) (es : Ends) (key : ℕ) → Appends packets [] after → change_end key (goes_on packets) es ≡ change_end key (goes_by after) es
@@ -119,26 +119,26 @@ gone_then packets others between after es key a b =
     ∙ changed_alike es key (λ e. goes_on others (goes_on packets e)) (goes_by after)
     (λ e. ap (goes_on others) (goes_same packets [] between e a) ∙ goes_same others between after e b)
 
-moves_both_puts : (by : Cause) (from : Hall) (d d1 : Desk) (es : Ends) (key : ℕ) (whole : Bool) (after : List ℕ)
-    → PutsOn key d d1 [] after whole → IfOpen (puts whole) (end_at es key) → Moves by from (hall_of_ends d es) → Moves by from (hall_of_ends d1 (change_end key (goes_by after) es))
+moves_both_puts : (by : Cause) (from : Core) (d d1 : Pool) (es : Ends) (key : ℕ) (whole : Bool) (after : List ℕ)
+    → PutsOn key d d1 [] after whole → IfOpen (puts whole) (end_at es key) → Moves by from (core_of_ends d es) → Moves by from (core_of_ends d1 (change_end key (goes_by after) es))
 moves_both_puts by from d d1 es key whole after p may m =
-    let first : Deed = desk.Puts p.count in
-    let es1 : Ends = change_end key (goes_on (sent_by d (desk.Does key first))) es in
-    let put : Moves by from (hall_of_ends p.mid es1) = moves_sends by from d p.mid es key first [] p.between p.first tt (begun_end whole (end_at es key) may) m in
+    let first : Action = pool.Puts p.count in
+    let es1 : Ends = change_end key (goes_on (sent_by d (pool.Does key first))) es in
+    let put : Moves by from (core_of_ends p.mid es1) = moves_sends by from d p.mid es key first [] p.between p.first tt (begun_end whole (end_at es key) may) m in
     elim p.last [
       | inl same ↦ moves_same by from p.mid d1 es1 (change_end key (goes_by after) es) same.0
-          (ap (λ (xs : List ℕ). change_end key (goes_by xs) es) same.1 ∙ sym (gone_once (sent_by d (desk.Does key first)) p.between es key p.first.bytes)) put
+          (ap (λ (xs : List ℕ). change_end key (goes_by xs) es) same.1 ∙ sym (gone_once (sent_by d (pool.Does key first)) p.between es key p.first.bytes)) put
       | inr more ↦
-          let last : Deed = desk.Ends more.1 in
+          let last : Action = pool.Ends more.1 in
           let is_whole : IfOpen IsWhole (end_at es key) = subst (λ (b : Bool). IfOpen (puts b) (end_at es key)) more.0 may in
-          let still : IfOpen IsWhole (end_at es1 key) = subst (IfOpen IsWhole) (sym (changed_at es key (goes_on (sent_by d (desk.Does key first))))) (whole_end (sent_by d (desk.Does key first)) (end_at es key) is_whole) in
-          moves_same by from d1 d1 (change_end key (goes_on (sent_by p.mid (desk.Does key last))) es1) (change_end key (goes_by after) es) refl
-          (sym (gone_then (sent_by d (desk.Does key first)) (sent_by p.mid (desk.Does key last)) p.between after es key p.first.bytes more.2.bytes))
+          let still : IfOpen IsWhole (end_at es1 key) = subst (IfOpen IsWhole) (sym (changed_at es key (goes_on (sent_by d (pool.Does key first))))) (whole_end (sent_by d (pool.Does key first)) (end_at es key) is_whole) in
+          moves_same by from d1 d1 (change_end key (goes_on (sent_by p.mid (pool.Does key last))) es1) (change_end key (goes_by after) es) refl
+          (sym (gone_then (sent_by d (pool.Does key first)) (sent_by p.mid (pool.Does key last)) p.between after es key p.first.bytes more.2.bytes))
           (moves_sends by from p.mid d1 es1 key last p.between after more.2 tt still put)
     ]
 
-pub moves_puts : (by : Cause) (from : Hall) (d d1 : Desk) (es es1 : Ends) (key : ℕ) (whole : Bool) (after : List ℕ)
-    → MayPut key whole d d1 [] after → IfOpen (puts whole) (end_at es key) → es1 ≡ change_end key (goes_by after) es → Moves by from (hall_of_ends d es) → Moves by from (hall_of_ends d1 es1)
+pub moves_puts : (by : Cause) (from : Core) (d d1 : Pool) (es es1 : Ends) (key : ℕ) (whole : Bool) (after : List ℕ)
+    → MayPut key whole d d1 [] after → IfOpen (puts whole) (end_at es key) → es1 ≡ change_end key (goes_by after) es → Moves by from (core_of_ends d es) → Moves by from (core_of_ends d1 es1)
 moves_puts by from d d1 es es1 key whole after (inl none) may is m =
     moves_same by from d d1 es es1 none.0 (is ∙ ap (λ (xs : List ℕ). change_end key (goes_by xs) es) none.1 ∙ sym (changed_not es key (goes_by []) (λ e. refl))) m
 moves_puts by from d d1 es es1 key whole after (inr p) may is m =

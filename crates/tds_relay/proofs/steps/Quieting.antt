@@ -6,8 +6,8 @@ use Rattle.tds_front.specs.declared.fault.FrontFault.{FrontFault}
 use Rattle.tds_front.specs.declared.front.Front.{Front}
 use Rattle.tds_front.specs.declared.front.Said.{Said}
 use Rattle.tds_front.specs.declared.front.Said.TheVariants as said
-use Rattle.tds_front.specs.declared.stage.Deed.{Deed}
-use Rattle.tds_front.specs.declared.stage.Deed.TheVariants as deeds
+use Rattle.tds_front.specs.declared.stage.Action.{Action}
+use Rattle.tds_front.specs.declared.stage.Action.TheVariants as actions
 use Rattle.tds_front.specs.declared.stage.Head.{Head}
 use Rattle.tds_front.specs.declared.stage.Stage.{Stage}
 use Rattle.tds_front.specs.declared.stage.Stage.TheVariants as stages
@@ -15,14 +15,14 @@ use Rattle.tds_front.specs.Bytes.{fed}
 use Rattle.tds_front.specs.Passing.{IsData, IsSaid, SaysOf, judged, stage_fed}
 use Rattle.tds_front.specs.Rules.{taken}
 use Rattle.tds_relay.specs.Anew.{AsksNothing}
-use Rattle.tds_relay.specs.declared.desk.Hold.{Hold}
-use Rattle.tds_relay.specs.Desk as desk
-use Rattle.tds_relay.specs.Desk.{Desk, does, find_key, turn}
-use Rattle.tds_relay.specs.Fronts.{IsFed, hall_of_ends, withdraws}
-use Rattle.tds_relay.specs.Hall.{Does, End, Ends, Hall, IfOpen, IfWhose, IsBegun, Moves, Open, Over, asks_by, change_end, end_at, lets_go}
+use Rattle.tds_relay.specs.declared.pool.Hold.{Hold}
+use Rattle.tds_relay.specs.Pool as pool
+use Rattle.tds_relay.specs.Pool.{Pool, does, find_key, turn}
+use Rattle.tds_relay.specs.Fronts.{IsFed, core_of_ends, withdraws}
+use Rattle.tds_relay.specs.Core.{Does, End, Ends, Core, IfOpen, IfWhose, IsBegun, Moves, Open, Over, asks_by, change_end, end_at, lets_go}
 use Rattle.tds_relay.specs.Ties.{Application, Turns}
 use Rattle.tds_relay.proofs.ends.Leading.{fits}
-use Rattle.tds_relay.proofs.steps.Fronts.{changed_at, moves_one, same_hall}
+use Rattle.tds_relay.proofs.steps.Fronts.{changed_at, moves_one, same_core}
 
 -- what came of its request is forgotten by what is said
 abbrev pub Drops : Said → Type 0
@@ -36,7 +36,7 @@ Drops said.HandOn = ⊥
 
 -- ---- Behind a packet by which it is
 
-go_drops : (answer : Said) → IsSaid (Ok deeds.Go) answer → Drops answer → ⊥
+go_drops : (answer : Said) → IsSaid (Ok actions.Go) answer → Drops answer → ⊥
 go_drops said.Nothing s d = d
 go_drops (said.Begin kind reset) s d = s
 go_drops (said.Body count) s d = s
@@ -45,12 +45,12 @@ go_drops (said.Forget gone) s d = s
 go_drops said.Acknowledge s d = s
 go_drops said.HandOn s d = s
 
-drops_quiet : (stage : Stage) (head : Head) (does : Result Deed FrontFault) (answer : Said) → (taken stage head).does ≡ does → IsSaid does answer → Drops answer → (taken stage head).stage ≡ stages.Quiet
-drops_quiet stage head (Ok (deeds.Begin kind reset)) answer e s d = absurd (subst Drops s d)
-drops_quiet stage head (Ok deeds.Go) answer e s d = absurd (go_drops answer s d)
-drops_quiet stage head (Ok (deeds.Forget gone)) answer e s d = (fits stage head (deeds.Forget gone) e).0
-drops_quiet stage head (Ok deeds.Acknowledge) answer e s d = (fits stage head deeds.Acknowledge e).0
-drops_quiet stage head (Ok deeds.HandOn) answer e s d = absurd (subst Drops s d)
+drops_quiet : (stage : Stage) (head : Head) (does : Result Action FrontFault) (answer : Said) → (taken stage head).does ≡ does → IsSaid does answer → Drops answer → (taken stage head).stage ≡ stages.Quiet
+drops_quiet stage head (Ok (actions.Begin kind reset)) answer e s d = absurd (subst Drops s d)
+drops_quiet stage head (Ok actions.Go) answer e s d = absurd (go_drops answer s d)
+drops_quiet stage head (Ok (actions.Forget gone)) answer e s d = (fits stage head (actions.Forget gone) e).0
+drops_quiet stage head (Ok actions.Acknowledge) answer e s d = (fits stage head actions.Acknowledge e).0
+drops_quiet stage head (Ok actions.HandOn) answer e s d = absurd (subst Drops s d)
 drops_quiet stage head (Err fault) answer e s d = absurd s
 
 data_drops : (answer : Said) → IsData answer → Drops answer → ⊥
@@ -78,7 +78,7 @@ Opens (said.Forget gone) = ⊥
 Opens said.Acknowledge = ⊥
 Opens said.HandOn = ⊥
 
-go_opens : (answer : Said) → IsSaid (Ok deeds.Go) answer → Opens answer → ⊥
+go_opens : (answer : Said) → IsSaid (Ok actions.Go) answer → Opens answer → ⊥
 go_opens said.Nothing s d = d
 go_opens (said.Begin kind reset) s d = s
 go_opens (said.Body count) s d = s
@@ -87,12 +87,12 @@ go_opens (said.Forget gone) s d = s
 go_opens said.Acknowledge s d = s
 go_opens said.HandOn s d = s
 
-opens_begun : (stage : Stage) (head : Head) (does : Result Deed FrontFault) (answer : Said) → (taken stage head).does ≡ does → IsSaid does answer → Opens answer → IsBegun (taken stage head).stage
-opens_begun stage head (Ok (deeds.Begin kind reset)) answer e s d = (fits stage head (deeds.Begin kind reset) e).1.1
-opens_begun stage head (Ok deeds.Go) answer e s d = absurd (go_opens answer s d)
-opens_begun stage head (Ok (deeds.Forget gone)) answer e s d = absurd (subst Opens s d)
-opens_begun stage head (Ok deeds.Acknowledge) answer e s d = absurd (subst Opens s d)
-opens_begun stage head (Ok deeds.HandOn) answer e s d = absurd (subst Opens s d)
+opens_begun : (stage : Stage) (head : Head) (does : Result Action FrontFault) (answer : Said) → (taken stage head).does ≡ does → IsSaid does answer → Opens answer → IsBegun (taken stage head).stage
+opens_begun stage head (Ok (actions.Begin kind reset)) answer e s d = (fits stage head (actions.Begin kind reset) e).1.1
+opens_begun stage head (Ok actions.Go) answer e s d = absurd (go_opens answer s d)
+opens_begun stage head (Ok (actions.Forget gone)) answer e s d = absurd (subst Opens s d)
+opens_begun stage head (Ok actions.Acknowledge) answer e s d = absurd (subst Opens s d)
+opens_begun stage head (Ok actions.HandOn) answer e s d = absurd (subst Opens s d)
 opens_begun stage head (Err fault) answer e s d = absurd s
 
 data_opens : (answer : Said) → IsData answer → Opens answer → ⊥
@@ -159,19 +159,19 @@ quiet_withdrawn (Some (Over why)) q = tt
 
 -- ---- Its attention goes out, and it waits no more
 
-either_first : (d : Desk) (key : ℕ) (o : Option Hold) → (does (turn d (desk.Unwaits key)).desk desk.Stops o).desk ≡ (turn (does d desk.Stops o).desk (desk.Unwaits key)).desk
+either_first : (d : Pool) (key : ℕ) (o : Option Hold) → (does (turn d (pool.Unwaits key)).pool pool.Stops o).pool ≡ (turn (does d pool.Stops o).pool (pool.Unwaits key)).pool
 either_first d key None = refl
 either_first d key (Some h) = refl
 
-pub stops_unwaits : (key : ℕ) (d d1 d2 : Desk) (before after out out1 : List ℕ) → Turns (desk.Unwaits key) d d1 before after → Turns (desk.Does key desk.Stops) d1 d2 out out1
-    → (turn (turn d (desk.Does key desk.Stops)).desk (desk.Unwaits key)).desk ≡ d2
+pub stops_unwaits : (key : ℕ) (d d1 d2 : Pool) (before after out out1 : List ℕ) → Turns (pool.Unwaits key) d d1 before after → Turns (pool.Does key pool.Stops) d1 d2 out out1
+    → (turn (turn d (pool.Does key pool.Stops)).pool (pool.Unwaits key)).pool ≡ d2
 stops_unwaits key d d1 d2 before after out out1 t u =
-    sym (either_first d key (find_key key d.holds)) ∙ sym (u.desk_is ∙ ap (λ (x : Desk). (turn x (desk.Does key desk.Stops)).desk) t.desk_is)
+    sym (either_first d key (find_key key d.holds)) ∙ sym (u.pool_is ∙ ap (λ (x : Pool). (turn x (pool.Does key pool.Stops)).pool) t.pool_is)
 
-pub moves_unwaits : (key : ℕ) (from : Hall) (d d2 : Desk) (now behind : Ends) → (turn d (desk.Unwaits key)).desk ≡ d2 → behind ≡ change_end key withdraws now → IfOpen AsksNothing (end_at now key)
-    → Moves (Application key) from (hall_of_ends d behind) → Moves (Application key) from (hall_of_ends d2 behind)
+pub moves_unwaits : (key : ℕ) (from : Core) (d d2 : Pool) (now behind : Ends) → (turn d (pool.Unwaits key)).pool ≡ d2 → behind ≡ change_end key withdraws now → IfOpen AsksNothing (end_at now key)
+    → Moves (Application key) from (core_of_ends d behind) → Moves (Application key) from (core_of_ends d2 behind)
 moves_unwaits key from d d2 now behind is ends quiet m =
     let there : IfOpen AsksNothing (end_at behind key) =
     subst (λ (es : Ends). IfOpen AsksNothing (end_at es key)) (sym ends) (subst (IfOpen AsksNothing) (sym (changed_at now key withdraws)) (quiet_withdrawn (end_at now key) quiet)) in
-    subst (Moves (Application key) from) (same_hall (turn d (desk.Unwaits key)).desk d2 behind behind (sym is) refl)
-    (moves_one (Application key) from (hall_of_ends d behind) (Does (desk.Unwaits key)) there refl tt m)
+    subst (Moves (Application key) from) (same_core (turn d (pool.Unwaits key)).pool d2 behind behind (sym is) refl)
+    (moves_one (Application key) from (core_of_ends d behind) (Does (pool.Unwaits key)) there refl tt m)

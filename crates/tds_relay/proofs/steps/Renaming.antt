@@ -8,8 +8,8 @@ use Rattle.tds_front.specs.declared.front.Said.TheVariants as said
 use Rattle.tds_relay.specs.declared.application.Application.{Application}
 use Rattle.tds_relay.specs.declared.link.Link.{Link}
 use Rattle.tds_relay.specs.Fronts.{given_by}
-use Rattle.tds_relay.specs.House.{change_whose, put_all, put_some}
-use Rattle.tds_relay.specs.Posts.{Post, Posts, acknowledgement, tagged, change, fits, names_in, names_of, posts_in, put}
+use Rattle.tds_relay.specs.Machine.{change_whose, put_all, put_some}
+use Rattle.tds_relay.specs.Queues.{Queue, Queues, acknowledgement, tagged, change, fits, names_in, names_of, queues_in, put}
 use Rattle.tds_relay.specs.Reads.{IsCalled, Opens, Seen, Stays, link_at, place_of, seen_at, seen_of}
 use Rattle.tds_relay.proofs.steps.Naming.{is_called_on}
 use Rattle.tds_relay.proofs.steps.Placed.{IsAt, differs_by, is_at, none_there, other_seen}
@@ -55,62 +55,62 @@ first_called number tag l ls ms ks ns none pushed is_open is stays opens =
 
 -- ---- Of applications
 
-abbrev put_if : Bool → List ℕ → Post → Post
+abbrev put_if : Bool → List ℕ → Queue → Queue
 put_if b bytes p =
     if b then record { tag = p.tag; size = p.size; bytes = p.bytes ++ bytes; is_full = false }
     else record { tag = p.tag; size = p.size; bytes = p.bytes; is_full = true }
 
-if_called : (b : Bool) (tag : ℕ) (bytes : List ℕ) (p : Post) → put_if b bytes (tagged tag p) ≡ tagged tag (put_if b bytes p)
+if_called : (b : Bool) (tag : ℕ) (bytes : List ℕ) (p : Queue) → put_if b bytes (tagged tag p) ≡ tagged tag (put_if b bytes p)
 if_called true tag bytes p = refl
 if_called false tag bytes p = refl
 
-if_tag : (b : Bool) (bytes : List ℕ) (p : Post) → (put_if b bytes p).tag ≡ p.tag
+if_tag : (b : Bool) (bytes : List ℕ) (p : Queue) → (put_if b bytes p).tag ≡ p.tag
 if_tag true bytes p = refl
 if_tag false bytes p = refl
 
 -- whatever it is tagged, these bytes are put there so
-pub put_called : (tag : ℕ) (bytes : List ℕ) (p : Post) → put bytes (tagged tag p) ≡ tagged tag (put bytes p)
+pub put_called : (tag : ℕ) (bytes : List ℕ) (p : Queue) → put bytes (tagged tag p) ≡ tagged tag (put bytes p)
 unfolding put
 put_called tag bytes p = if_called (fits p bytes) tag bytes p
 
-put_tag : (bytes : List ℕ) (p : Post) → (put bytes p).tag ≡ p.tag
+put_tag : (bytes : List ℕ) (p : Queue) → (put bytes p).tag ≡ p.tag
 unfolding put
 put_tag bytes p = if_tag (fits p bytes) bytes p
 
-all_called : (tag : ℕ) (pieces : List (List ℕ)) (p : Post) → put_all pieces (tagged tag p) ≡ tagged tag (put_all pieces p)
+all_called : (tag : ℕ) (pieces : List (List ℕ)) (p : Queue) → put_all pieces (tagged tag p) ≡ tagged tag (put_all pieces p)
 all_called tag [] p = refl
 all_called tag (piece ∷ pieces) p = ap (put_all pieces) (put_called tag piece p) ∙ all_called tag pieces (put piece p)
 
-pub some_called : (tag : ℕ) (o : Option (List (List ℕ))) (p : Post) → put_some o (tagged tag p) ≡ tagged tag (put_some o p)
+pub some_called : (tag : ℕ) (o : Option (List (List ℕ))) (p : Queue) → put_some o (tagged tag p) ≡ tagged tag (put_some o p)
 some_called tag None p = refl
 some_called tag (Some pieces) p = all_called tag pieces p
 
 -- so does whoever has them in an application
-pub called_so : (tag : ℕ) (p q : Post) (o : Option (List (List ℕ))) → q ≡ put_some o p → tagged tag q ≡ put_some o (tagged tag p)
+pub called_so : (tag : ℕ) (p q : Queue) (o : Option (List (List ℕ))) → q ≡ put_some o p → tagged tag q ≡ put_some o (tagged tag p)
 called_so tag p q o is = ap (tagged tag) is ∙ sym (some_called tag o p)
 
-all_tag : (pieces : List (List ℕ)) (p : Post) → (put_all pieces p).tag ≡ p.tag
+all_tag : (pieces : List (List ℕ)) (p : Queue) → (put_all pieces p).tag ≡ p.tag
 all_tag [] p = refl
 all_tag (piece ∷ pieces) p = all_tag pieces (put piece p) ∙ put_tag piece p
 
-some_tag : (o : Option (List (List ℕ))) (p : Post) → (put_some o p).tag ≡ p.tag
+some_tag : (o : Option (List (List ℕ))) (p : Queue) → (put_some o p).tag ≡ p.tag
 some_tag None p = refl
 some_tag (Some pieces) p = all_tag pieces p
 
-abbrev name : Option Post → Option (Option ℕ)
-name o = option_map (λ (p : Post). p.tag) o
+abbrev name : Option Queue → Option (Option ℕ)
+name o = option_map (λ (p : Queue). p.tag) o
 
-one_name : (by : Post → Post) → ((p : Post) → (by p).tag ≡ p.tag) → (o : Option Post) → name (option_map by o) ≡ name o
+one_name : (by : Queue → Queue) → ((p : Queue) → (by p).tag ≡ p.tag) → (o : Option Queue) → name (option_map by o) ≡ name o
 one_name by same None = refl
 one_name by same (Some p) = ap Some (same p)
 
 -- what waits for one changes, and nothing of what it is called
-pub names_changed : (by : Post → Post) → ((p : Post) → (by p).tag ≡ p.tag) → (key : ℕ) (ps : Posts) → names_of (change key by ps) ≡ names_of ps
+pub names_changed : (by : Queue → Queue) → ((p : Queue) → (by p).tag ≡ p.tag) → (key : ℕ) (ps : Queues) → names_of (change key by ps) ≡ names_of ps
 names_changed by same key [] = refl
 names_changed by same zero (p ∷ ps) = ap (λ (n : Option (Option ℕ)). n ∷ names_of ps) (one_name by same p)
 names_changed by same (suc key) (p ∷ ps) = ap (λ (ns : List (Option (Option ℕ))). name p ∷ ns) (names_changed by same key ps)
 
-pub names_given : (key : ℕ) (answer : Said) (ps : Posts) → names_of (given_by key answer ps) ≡ names_of ps
+pub names_given : (key : ℕ) (answer : Said) (ps : Queues) → names_of (given_by key answer ps) ≡ names_of ps
 names_given key said.Nothing ps = refl
 names_given key (said.Begin kind reset) ps = refl
 names_given key (said.Body count) ps = refl
@@ -119,17 +119,17 @@ names_given key (said.Forget gone) ps = refl
 names_given key said.Acknowledge ps = names_changed (put acknowledgement) (put_tag acknowledgement) key ps
 names_given key said.HandOn ps = refl
 
-pub names_handed : (who : Option ℕ) (o : Option (List (List ℕ))) (ps : Posts) → names_of (change_whose who (put_some o) ps) ≡ names_of ps
+pub names_handed : (who : Option ℕ) (o : Option (List (List ℕ))) (ps : Queues) → names_of (change_whose who (put_some o) ps) ≡ names_of ps
 names_handed None o ps = refl
 names_handed (Some key) o ps = names_changed (put_some o) (some_tag o) key ps
 
 -- where a call answers
-pub names_on : {A E : Type 0} (r : Result A E) (ns : List (Option (Option ℕ))) (t u : Slab Application) → names_in t ≡ ns → OnOk r (posts_in u ≡ posts_in t) → OnOk r (names_in u ≡ ns)
+pub names_on : {A E : Type 0} (r : Result A E) (ns : List (Option (Option ℕ))) (t u : Slab Application) → names_in t ≡ ns → OnOk r (queues_in u ≡ queues_in t) → OnOk r (names_in u ≡ ns)
 names_on (Ok x) ns t u h k = ap names_of k ∙ h
 names_on (Err e) ns t u h k = tt
 
 -- one has left
-pub names_left : (key : ℕ) (ps : Posts) → names_of (slice_set ps key None) ≡ slice_set (names_of ps) key None
+pub names_left : (key : ℕ) (ps : Queues) → names_of (slice_set ps key None) ≡ slice_set (names_of ps) key None
 names_left key [] = refl
 names_left zero (p ∷ ps) = refl
 names_left (suc key) (p ∷ ps) = ap (λ (ns : List (Option (Option ℕ))). name p ∷ ns) (names_left key ps)

@@ -23,17 +23,17 @@ use Rattle.tds_service.specs.Parts as parts
 use Rattle.tds_service.specs.Parts.{Close, Item, Part, close_by, close_part, hear_items, hear_part, heard_until, is_end, unless_owed}
 use Rattle.tds_service.specs.Service as calls
 use Rattle.tds_service.specs.Service.{Place, Seat, Service, change_by, drained, find_by, has_number, lease_at, placed, seat_numbered, step}
-use Rattle.tds_relay.specs.declared.desk.Hold.{Hold}
-use Rattle.tds_relay.specs.declared.desk.coming.Heard as code
+use Rattle.tds_relay.specs.declared.pool.Hold.{Hold}
+use Rattle.tds_relay.specs.declared.pool.coming.Heard as code
 use Rattle.tds_relay.specs.declared.link.Answer.{Answer}
-use Rattle.tds_relay.specs.Desk as desk
-use Rattle.tds_relay.specs.Desk.{Desk, Hearing, Way, find_lease, hearing_of, key_of, owes_of, owes_reset, whose, whose_by}
-use Rattle.tds_relay.specs.Hall.{done_by, what_in, what_of}
+use Rattle.tds_relay.specs.Pool as pool
+use Rattle.tds_relay.specs.Pool.{Pool, Hearing, Way, find_lease, hearing_of, key_of, owes_of, owes_reset, whose, whose_by}
+use Rattle.tds_relay.specs.Core.{done_by, what_in, what_of}
 use Rattle.tds_relay.specs.Fronts.{IsWhat}
 use Rattle.tds_relay.specs.Ties.{Turns}
 use Rattle.tds_relay.specs.Cutting.{awaited}
 use Rattle.tds_relay.specs.Handing.{IsBy, IsOf, news_for}
-use Rattle.tds_relay.specs.House.{IsTold, Manner, Whole, Without, closes, news_in, news_of, owed_behind}
+use Rattle.tds_relay.specs.Machine.{IsTold, Manner, Whole, Without, closes, news_in, news_of, owed_behind}
 use Rattle.tds_relay.specs.Promises.{one_if}
 
 -- ---- Of signs
@@ -191,7 +191,7 @@ abbrev Owes : Option Seat → ℕ
 Owes o = one_if (owes_of o)
 
 -- the service, behind what came there
-abbrev Behind : Desk → ℕ → Part Token → Service
+abbrev Behind : Pool → ℕ → Part Token → Service
 Behind d number part = (step d.service (calls.Came number part)).service
 
 came_counts : (s : Service) (number : ℕ) (part : Part Token) (c : Seat) → seat_numbered number s.seats ≡ Some c → closes (what_in (step s (calls.Came number part)).dones) ≡ false
@@ -207,65 +207,65 @@ came_counts s number part c there right =
     ap (λ (o : Option Seat). news_in (owes_of (seat_numbered number s.seats)) part.items + Owes o) now
     ∙ ap (λ (b : Bool). news_in b part.items + Owed t.line.heard) (ap owes_of there) ∙ comes_count l part l.stage one ∙ sym (ap Owes there)
 
--- ---- Of a desk
+-- ---- Of a pool
 
 -- where it is somebody's, nothing more is done
-held_none : (d : Desk) (s : Service) (number key : ℕ) (way : Way) (lease : ℕ) (o : Option Hold) → key_of o ≡ Some key → find_lease lease d.holds ≡ o → desk.settles d.holds s number way (Some lease) ≡ []
+held_none : (d : Pool) (s : Service) (number key : ℕ) (way : Way) (lease : ℕ) (o : Option Hold) → key_of o ≡ Some key → find_lease lease d.holds ≡ o → pool.settles d.holds s number way (Some lease) ≡ []
 held_none d s number key way lease None its is = absurd (let u : ⊥ = cc in u)
-held_none d s number key way lease (Some h) its is = ap (λ (o : Option Hold). desk.settles_of s number lease way o) is
+held_none d s number key way lease (Some h) its is = ap (λ (o : Option Hold). pool.settles_of s number lease way o) is
 
-settles_none : (d : Desk) (s : Service) (number key : ℕ) (way : Way) (lease : Option ℕ) → whose_by lease d.holds ≡ Some key → desk.settles d.holds s number way lease ≡ []
+settles_none : (d : Pool) (s : Service) (number key : ℕ) (way : Way) (lease : Option ℕ) → whose_by lease d.holds ≡ Some key → pool.settles d.holds s number way lease ≡ []
 settles_none d s number key way None its = absurd (let u : ⊥ = cc in u)
 settles_none d s number key way (Some lease) its = held_none d s number key way lease (find_lease lease d.holds) its refl
 
-service_by : (d : Desk) (number key : ℕ) (part : Part Token) (way : Way) (lease : Option ℕ) (hearing : Hearing) → whose_by lease d.holds ≡ Some key → (hearing ≡ desk.Wrong → ⊥)
-    → (desk.comes_by d (calls.Came number part) (Behind d number part) number way lease hearing).desk.service ≡ Behind d number part
-service_by d number key part way lease desk.Goes its right = refl
-service_by d number key part way lease desk.Settled its right =
+service_by : (d : Pool) (number key : ℕ) (part : Part Token) (way : Way) (lease : Option ℕ) (hearing : Hearing) → whose_by lease d.holds ≡ Some key → (hearing ≡ pool.Wrong → ⊥)
+    → (pool.comes_by d (calls.Came number part) (Behind d number part) number way lease hearing).pool.service ≡ Behind d number part
+service_by d number key part way lease pool.Goes its right = refl
+service_by d number key part way lease pool.Settled its right =
     ap (λ (more : List (calls.Call Token)). calls.service_after d.service (calls.Came number part ∷ more)) (settles_none d (Behind d number part) number key way lease its)
-service_by d number key part way lease desk.Wrong its right = absurd (right refl)
+service_by d number key part way lease pool.Wrong its right = absurd (right refl)
 
 -- a packet that comes is no loss
 not_lost : (l : Line) (part : Part Token) (ends : Bool) (until : Heard) (all : Result Heard ListenFault) → closes (what_of (line.reads l part ends until all).answer) ≡ false
-    → hearing_of (line.reads l part ends until all).answer ≡ desk.Wrong → ⊥
+    → hearing_of (line.reads l part ends until all).answer ≡ pool.Wrong → ⊥
 not_lost l part ends until (Err fault) right wrong = let u : ⊥ = cc in u
 not_lost l part false until (Ok heard) right wrong = let u : ⊥ = cc in u
 not_lost l part true until (Ok heard) right wrong = let u : ⊥ = cc in u
 
-end_not_lost : (l : Line) (heard : Heard) (done : FinalDone) → hearing_of (line.skips_to_end {T = Token} l heard done).answer ≡ desk.Wrong → ⊥
+end_not_lost : (l : Line) (heard : Heard) (done : FinalDone) → hearing_of (line.skips_to_end {T = Token} l heard done).answer ≡ pool.Wrong → ⊥
 end_not_lost l heard finals.Awaited wrong = let u : ⊥ = cc in u
 end_not_lost l heard finals.Answered wrong = let u : ⊥ = cc in u
 end_not_lost l heard finals.Acknowledged wrong = let u : ⊥ = cc in u
 
 skip_not_lost : (l : Line) (ends : Bool) (until : Heard) (all : Result Heard ListenFault) → closes (what_of (line.skips {T = Token} l ends until all).answer) ≡ false
-    → hearing_of (line.skips {T = Token} l ends until all).answer ≡ desk.Wrong → ⊥
+    → hearing_of (line.skips {T = Token} l ends until all).answer ≡ pool.Wrong → ⊥
 skip_not_lost l ends until (Err fault) right wrong = let u : ⊥ = cc in u
 skip_not_lost l false until (Ok heard) right wrong = let u : ⊥ = cc in u
 skip_not_lost l true until (Ok heard) right wrong = end_not_lost l heard heard.done wrong
 
-right_of : (l : Line) (part : Part Token) (stage : Stage) → closes (what_of (line.comes l part stage).answer) ≡ false → hearing_of (line.comes l part stage).answer ≡ desk.Wrong → ⊥
+right_of : (l : Line) (part : Part Token) (stage : Stage) → closes (what_of (line.comes l part stage).answer) ≡ false → hearing_of (line.comes l part stage).answer ≡ pool.Wrong → ⊥
 right_of l part line.Idle right wrong = let u : ⊥ = cc in u
 right_of l part (line.Sending begun) right wrong = let u : ⊥ = cc in u
 right_of l part line.Reading right wrong = not_lost l part (is_end part.close) (heard_until false l.heard part.items) (hear_part false l.heard part) right wrong
 right_of l part line.Cancelling right wrong = skip_not_lost l (is_end part.close) (heard_until true l.heard part.items) (hear_part true l.heard part) right wrong
 right_of l part (line.Broken fault) right wrong = let u : ⊥ = cc in u
 
-seat_of : (d : Desk) (number key : ℕ) (o : Option Seat) → seat_numbered number d.service.seats ≡ o → whose d number ≡ Some key → (c : Seat) × (seat_numbered number d.service.seats ≡ Some c)
+seat_of : (d : Pool) (number key : ℕ) (o : Option Seat) → seat_numbered number d.service.seats ≡ o → whose d number ≡ Some key → (c : Seat) × (seat_numbered number d.service.seats ≡ Some c)
 seat_of d number key (Some c) e h = (c, e)
 seat_of d number key None e h =
     absurd (let nobody : whose d number ≡ None = ap (λ (o : Option Seat). whose_by (lease_at o) d.holds) e in let u : Some key ≡ None = sym h ∙ nobody in let v : ⊥ = cc in v)
 
 -- So often a packet tells it that somebody hears: as often as it was owed, and isn't behind it.
-pub news_counted : (d : Desk) (number key : ℕ) (part : Part Token) (way : Way) → whose d number ≡ Some key → closes (what_in (done_by d number part)) ≡ false
-    → news_in (owes_reset number d) part.items + one_if (owes_reset number (desk.turn d (desk.Comes number part way)).desk) ≡ one_if (owes_reset number d)
+pub news_counted : (d : Pool) (number key : ℕ) (part : Part Token) (way : Way) → whose d number ≡ Some key → closes (what_in (done_by d number part)) ≡ false
+    → news_in (owes_reset number d) part.items + one_if (owes_reset number (pool.turn d (pool.Comes number part way)).pool) ≡ one_if (owes_reset number d)
 news_counted d number key part way its right =
     let c = seat_of d number key (seat_numbered number d.service.seats) refl its in
     let did = ap (λ (o : Option Seat). calls.hears d.service (has_number number) part o) c.1 in
     let heard = step {T = Token} d.service (calls.Came number part) in
     let one : closes (what_of (turn c.0.line (line.Come part)).answer) ≡ false = subst (λ (x : calls.Step Token). closes (what_in x.dones) ≡ false) did right in
-    let no : desk.hearing heard.dones ≡ desk.Wrong → ⊥ = λ wrong. right_of c.0.line part c.0.line.stage one (sym (ap (λ (x : calls.Step Token). desk.hearing x.dones) did) ∙ wrong) in
-    let same : (desk.turn d (desk.Comes number part way)).desk.service ≡ Behind d number part =
-    service_by d number key part way (lease_at (seat_numbered number d.service.seats)) (desk.hearing heard.dones) its no in
+    let no : pool.hearing heard.dones ≡ pool.Wrong → ⊥ = λ wrong. right_of c.0.line part c.0.line.stage one (sym (ap (λ (x : calls.Step Token). pool.hearing x.dones) did) ∙ wrong) in
+    let same : (pool.turn d (pool.Comes number part way)).pool.service ≡ Behind d number part =
+    service_by d number key part way (lease_at (seat_numbered number d.service.seats)) (pool.hearing heard.dones) its no in
     ap (λ (s : Service). news_in (owes_reset number d) part.items + Owes (seat_numbered number s.seats)) same ∙ came_counts d.service number part c.0 c.1 right
 
 -- ---- How it is told
@@ -308,7 +308,7 @@ unowed true owes holds e = absurd (let u : ⊥ = cc in u)
 unowed false owes holds e = refl
 
 -- As it is heard: how often a packet has the news, by what its connection owed before it and owes behind it.
-pub heard_so : (d : Desk) (number key : ℕ) (part : Part Token) (heard : code.Heard) (way : Way) (d1 : Desk) (before behind : List ℕ) → Turns (desk.Comes number part way) d d1 before behind
+pub heard_so : (d : Pool) (number key : ℕ) (part : Part Token) (heard : code.Heard) (way : Way) (d1 : Pool) (before behind : List ℕ) → Turns (pool.Comes number part way) d d1 before behind
     → whose d number ≡ Some key → heard.key ≡ Some key → IsWhat heard.key heard.what (done_by d number part) → closes heard.what ≡ false
     → (owed owes : Bool) → owed ≡ owes_reset number d → owes ≡ owes_reset number d1 → news_in (owes_reset number d) part.items ≡ one_if (owed && not owes)
 heard_so d number key part heard way d1 before behind turned mine its what right owed owes was is =
@@ -316,5 +316,5 @@ heard_so d number key part heard way d1 before behind turned mine its what right
     let one : closes (what_in (done_by d number part)) ≡ false = ap closes (sym same) ∙ right in
     let count = news_counted d number key part way mine one in
     let now : news_in (owes_reset number d) part.items + one_if owes ≡ one_if owed =
-    ap (λ (b : Bool). news_in (owes_reset number d) part.items + one_if b) (is ∙ ap (λ (x : Desk). owes_reset number x) turned.desk_is) ∙ count ∙ ap one_if (sym was) in
+    ap (λ (b : Bool). news_in (owes_reset number d) part.items + one_if b) (is ∙ ap (λ (x : Pool). owes_reset number x) turned.pool_is) ∙ count ∙ ap one_if (sym was) in
     in_packet (news_in (owes_reset number d) part.items) owed owes now

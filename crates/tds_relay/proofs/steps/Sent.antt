@@ -9,9 +9,9 @@ use Rattle.tds_service.specs.History.{line_after}
 use Rattle.tds_service.specs.Refusing.{packets, refusal_in}
 use Rattle.tds_service.specs.Service as calls
 use Rattle.tds_service.specs.Service.{Call, Did, Place, Reply, Seat, Service, acts, acts_unless, change_by, find_by, has_lease, step}
-use Rattle.tds_relay.specs.declared.desk.Hold.{Hold}
+use Rattle.tds_relay.specs.declared.pool.Hold.{Hold}
 use Rattle.tds_relay.specs.Asking.{IsSent, SendsOn, stage_by}
-use Rattle.tds_relay.specs.Desk.{Desk, find_key}
+use Rattle.tds_relay.specs.Pool.{Pool, find_key}
 
 -- ---- On one line
 
@@ -94,30 +94,30 @@ put_sent s lease count did = acts_sent s lease (line.Send false) (packets count)
 ended_sent : (s : Service) (lease count : ℕ) → (step {T = Token} s (calls.Finish lease count)).reply ≡ Did → IsSent true (stage_by (step {T = Token} s (calls.Finish lease count)).service lease)
 ended_sent s lease count did = acts_sent s lease (line.Send true) (Ends count) true (find_by (has_lease lease) s.seats) refl did (λ l. ends_at l.asked l.stage l.heard count)
 
--- ---- At the desk
+-- ---- At the pool
 
-abbrev pub behind : Desk → Service → Desk
+abbrev pub behind : Pool → Service → Pool
 behind d s = record d { service = s }
 
-sends_on : (d : Desk) (s : Service) (key : ℕ) (h : Hold) (whole : Bool) → find_key key d.holds ≡ Some h → IsSent whole (stage_by s h.lease) → SendsOn whole (behind d s) key
+sends_on : (d : Pool) (s : Service) (key : ℕ) (h : Hold) (whole : Bool) → find_key key d.holds ≡ Some h → IsSent whole (stage_by s h.lease) → SendsOn whole (behind d s) key
 sends_on d s key h whole its sent = record { hold = h; its = its; sent = sent }
 
--- at a desk where the same is held, and the same is out
-pub sends_alike : (whole : Bool) (d e : Desk) (key : ℕ) → e.holds ≡ d.holds → e.service ≡ d.service → SendsOn whole d key → SendsOn whole e key
+-- at a pool where the same is held, and the same is out
+pub sends_alike : (whole : Bool) (d e : Pool) (key : ℕ) → e.holds ≡ d.holds → e.service ≡ d.service → SendsOn whole d key → SendsOn whole e key
 sends_alike whole d e key holds service h = record {
   hold = h.hold;
   its = ap (find_key key) holds ∙ h.its;
   sent = subst (λ (s : Service). IsSent whole (stage_by s h.hold.lease)) (sym service) h.sent;
 }
 
-pub asks_on : (d : Desk) (s : Service) (key : ℕ) (h : Hold) → find_key key d.holds ≡ Some h → s ≡ (step {T = Token} d.service (calls.Ask h.lease)).service
+pub asks_on : (d : Pool) (s : Service) (key : ℕ) (h : Hold) → find_key key d.holds ≡ Some h → s ≡ (step {T = Token} d.service (calls.Ask h.lease)).service
     → (step {T = Token} d.service (calls.Ask h.lease)).reply ≡ Did → SendsOn false (behind d s) key
 asks_on d s key h its is did = sends_on d s key h false its (subst (λ (x : Service). IsSent false (stage_by x h.lease)) (sym is) (asks_sent d.service h.lease did))
 
-pub puts_on : (d : Desk) (s : Service) (key count : ℕ) (h : Hold) → find_key key d.holds ≡ Some h → s ≡ (step {T = Token} d.service (calls.Put h.lease count)).service
+pub puts_on : (d : Pool) (s : Service) (key count : ℕ) (h : Hold) → find_key key d.holds ≡ Some h → s ≡ (step {T = Token} d.service (calls.Put h.lease count)).service
     → (step {T = Token} d.service (calls.Put h.lease count)).reply ≡ Did → SendsOn false (behind d s) key
 puts_on d s key count h its is did = sends_on d s key h false its (subst (λ (x : Service). IsSent false (stage_by x h.lease)) (sym is) (put_sent d.service h.lease count did))
 
-pub ends_on : (d : Desk) (s : Service) (key count : ℕ) (h : Hold) → find_key key d.holds ≡ Some h → s ≡ (step {T = Token} d.service (calls.Finish h.lease count)).service
+pub ends_on : (d : Pool) (s : Service) (key count : ℕ) (h : Hold) → find_key key d.holds ≡ Some h → s ≡ (step {T = Token} d.service (calls.Finish h.lease count)).service
     → (step {T = Token} d.service (calls.Finish h.lease count)).reply ≡ Did → SendsOn true (behind d s) key
 ends_on d s key count h its is did = sends_on d s key h true its (subst (λ (x : Service). IsSent true (stage_by x h.lease)) (sym is) (ended_sent d.service h.lease count did))

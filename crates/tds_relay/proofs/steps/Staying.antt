@@ -6,9 +6,10 @@ use Rattle.tds_packet.specs.Reading.{Reading}
 use Rattle.tds_relay.specs.declared.link.Answer.{Answer}
 use Rattle.tds_relay.specs.declared.link.Link.{Link}
 use Rattle.tds_relay.proofs.steps.Beginning.{answer_begins, answer_stays, begin_both, begin_refl, begins_choose, begins_written, open_begins, pushed_begins}
+use Rattle.tds_relay.proofs.steps.Fullness.{full_both, full_choose, full_open, full_pushed, full_refl, full_written}
 use Rattle.tds_relay.specs.Cutting.{at_its_beginning}
 use Rattle.tds_relay.proofs.steps.Naming.{called_both, called_refl, called_stays, pushed_called}
-use Rattle.tds_relay.specs.Reads.{CalledAt, FillsAt, FillsBy, Opens, OpensOne, OpensOthers, MayBegin, Seen, Sees, StaysAt, Stays, answer_at, answer_on, bytes_on, if_open, link_at, open_answer, open_at, open_of, open_waits, opened_at, opened_seen, reader_at, reader_of, seen_at, seen_of, waits_on, without_link}
+use Rattle.tds_relay.specs.Reads.{CalledAt, FillsAt, FillsBy, Opens, OpensOne, OpensOthers, MayBegin, Seen, Sees, StaysAt, Stays, Fullness, answer_at, answer_on, bytes_on, fullness_at, fullness_of, if_open, link_at, open_answer, open_at, open_fullness, open_of, open_waits, opened_at, opened_seen, reader_at, reader_of, seen_at, seen_of, waits_on, without_link}
 
 pub at_refl : {A : Type 0} (o : Option A) → StaysAt o o
 at_refl None = tt
@@ -35,7 +36,7 @@ few_both : (a b c : ℕ) → b ≤ a → c ≤ b → c ≤ a
 few_both a b c h k = omega (arith, h, k)
 
 pub stays_refl : (ls : List Link) → Stays ls ls
-stays_refl ls = record { few = few_refl ls; seen = λ number had h. h; fills = λ number. fills_refl (waits_on number ls); begins = λ number. begin_refl (answer_at number ls) }
+stays_refl ls = record { few = few_refl ls; seen = λ number had h. h; fills = λ number. fills_refl (waits_on number ls); begins = λ number. begin_refl (answer_at number ls); fullness = λ number. full_refl (fullness_at number ls) }
 
 pub stays_both : (ls ms ns : List Link) → Stays ls ms → Stays ms ns → Stays ls ns
 stays_both ls ms ns h k = record {
@@ -43,6 +44,7 @@ stays_both ls ms ns h k = record {
   seen = λ number had s. k.seen number had (h.seen number had s);
   fills = λ number. fills_both (waits_on number ls) (waits_on number ms) (waits_on number ns) (h.fills number) (k.fills number);
   begins = λ number. begin_both (answer_at number ls) (answer_at number ms) (answer_at number ns) (h.begins number) (k.begins number);
+  fullness = λ number. full_both (fullness_at number ls) (fullness_at number ms) (fullness_at number ns) (h.fullness number) (k.fullness number);
 }
 
 pub stays_then : (ls ms ns : List Link) → Stays ls ms → ns ≡ ms → Stays ls ns
@@ -120,15 +122,16 @@ few_written ls i m = let same : length (slice_set ls i m) ≡ length ls = length
 
 -- and what waited there, with more behind it or not
 pub stays_written : (ls : List Link) (i : ℕ) (d m : Link) → m.number ≡ (slice_index_or ls i d).number → seen_of m ≡ seen_of (slice_index_or ls i d)
-    → FillsAt (Some (bytes_on (slice_index_or ls i d))) (Some (bytes_on m)) → m.answer ≡ (slice_index_or ls i d).answer → Stays ls (slice_set ls i m)
-stays_written ls i d m number reader fills known =
-    record { few = few_written ls i m; seen = sees_written ls i d m number reader; fills = fills_written ls i d m number fills; begins = begins_written ls i d m number (answer_stays (slice_index_or ls i d).answer m.answer known) }
+    → FillsAt (Some (bytes_on (slice_index_or ls i d))) (Some (bytes_on m)) → m.answer ≡ (slice_index_or ls i d).answer → fullness_of m ≡ fullness_of (slice_index_or ls i d) → Stays ls (slice_set ls i m)
+stays_written ls i d m number reader fills known full =
+    record { few = few_written ls i m; seen = sees_written ls i d m number reader; fills = fills_written ls i d m number fills; begins = begins_written ls i d m number (answer_stays (slice_index_or ls i d).answer m.answer known); fullness = full_written ls i d m number full }
 
 -- and its next message begins
 pub stays_restarted : (ls : List Link) (i : ℕ) (d m : Link) → m.number ≡ (slice_index_or ls i d).number → seen_of m ≡ seen_of (slice_index_or ls i d)
-    → FillsAt (Some (bytes_on (slice_index_or ls i d))) (Some (bytes_on m)) → m.answer ≡ at_its_beginning (slice_index_or ls i d).answer → Stays ls (slice_set ls i m)
-stays_restarted ls i d m number reader fills begins =
-    record { few = few_written ls i m; seen = sees_written ls i d m number reader; fills = fills_written ls i d m number fills; begins = begins_written ls i d m number (answer_begins (slice_index_or ls i d).answer m.answer begins) }
+    → FillsAt (Some (bytes_on (slice_index_or ls i d))) (Some (bytes_on m)) → m.answer ≡ at_its_beginning (slice_index_or ls i d).answer → fullness_of m ≡ fullness_of (slice_index_or ls i d)
+    → Stays ls (slice_set ls i m)
+stays_restarted ls i d m number reader fills begins full =
+    record { few = few_written ls i m; seen = sees_written ls i d m number reader; fills = fills_written ls i d m number fills; begins = begins_written ls i d m number (answer_begins (slice_index_or ls i d).answer m.answer begins); fullness = full_written ls i d m number full }
 
 -- it has just what waited
 pub fills_same : (old new : List ℕ) → new ≡ old → FillsAt (Some old) (Some new)
@@ -188,6 +191,13 @@ without_begins number (x ∷ xs) n =
     (begins_choose (x.number == number) (x.number == n) x (link_at n xs) (link_at n (without_link number xs)) (without_begins number xs n)
     (λ e f. subst (λ (k : ℕ). seen_at k (without_link number xs) ≡ None) (sym (its_own n number x.number e f)) (not_seen number xs)))
 
+without_full : (number : ℕ) (ls : List Link) (n : ℕ) → StaysAt (fullness_at n ls) (fullness_at n (without_link number ls))
+without_full number [] n = tt
+without_full number (x ∷ xs) n =
+    subst (λ (o : Option Link). StaysAt (fullness_at n (x ∷ xs)) (option_map fullness_of o)) (sym (link_choose (not (x.number == number)) n x (without_link number xs)))
+    (full_choose (x.number == number) (x.number == n) x (link_at n xs) (link_at n (without_link number xs)) (without_full number xs n)
+    (λ e f. subst (λ (k : ℕ). seen_at k (without_link number xs) ≡ None) (sym (its_own n number x.number e f)) (not_seen number xs)))
+
 few_if : (b : Bool) (x : Link) (xs ys : List Link) → length xs ≤ length ys → length (if b then x ∷ xs else xs) ≤ length (x ∷ ys)
 few_if true x xs ys le = omega (arith, le)
 few_if false x xs ys le = omega (arith, le)
@@ -202,6 +212,7 @@ stays_without number ls = record {
   seen = λ n had h. at_both had (seen_at n ls) (seen_at n (without_link number ls)) h (without_at number ls n);
   fills = without_fills number ls;
   begins = without_begins number ls;
+  fullness = without_full number ls;
 }
 
 unread : (o : Option Link) → option_map seen_of o ≡ None → option_map reader_of o ≡ None
@@ -241,6 +252,7 @@ opens_refl ls = record {
   opens = λ number. at_refl (open_at number ls);
   fills = λ number. fills_refl (open_waits number ls);
   begins = λ number. begin_refl (open_answer number ls);
+  fullness = λ number. full_refl (open_fullness number ls);
   called = λ number. called_refl (seen_at number ls);
 }
 
@@ -249,6 +261,7 @@ opens_both ls ms ns h k = record {
   opens = λ number. at_both (open_at number ls) (open_at number ms) (open_at number ns) (h.opens number) (k.opens number);
   fills = λ number. fills_both (open_waits number ls) (open_waits number ms) (open_waits number ns) (h.fills number) (k.fills number);
   begins = λ number. begin_both (open_answer number ls) (open_answer number ms) (open_answer number ns) (h.begins number) (k.begins number);
+  fullness = λ number. full_both (open_fullness number ls) (open_fullness number ms) (open_fullness number ns) (h.fullness number) (k.fullness number);
   called = λ number. called_both (seen_at number ls) (seen_at number ms) (seen_at number ns) (h.called number) (k.called number);
 }
 
@@ -264,6 +277,7 @@ stays_opens ls ms stays =
       opens = same;
       fills = λ number. open_fills (open_at number ls) (open_at number ms) (waits_on number ls) (waits_on number ms) (same number) (stays.fills number);
       begins = λ number. open_begins (open_at number ls) (open_at number ms) (answer_at number ls) (answer_at number ms) (same number) (stays.begins number);
+      fullness = λ number. full_open (open_at number ls) (open_at number ms) (fullness_at number ls) (fullness_at number ms) (same number) (stays.fullness number);
       called = λ number. called_stays (seen_at number ls) (seen_at number ms) (stays.seen number (seen_at number ls) (at_refl (seen_at number ls)));
     }
 
@@ -288,7 +302,7 @@ pushed_fills [] l closed number = fills_one (l.number == number) l closed
 pushed_fills (x ∷ xs) l closed number = fills_behind (x.number == number) x (link_at number xs) (link_at number (xs ++ l ∷ [])) (pushed_fills xs l closed number)
 
 pub opens_pushed : (ls : List Link) (l : Link) → l.is_open ≡ false → l.tag ≡ None → Opens ls (ls ++ l ∷ [])
-opens_pushed ls l closed unnamed = record { opens = pushed_open ls l closed; fills = pushed_fills ls l closed; begins = pushed_begins ls l closed; called = pushed_called ls l closed unnamed }
+opens_pushed ls l closed unnamed = record { opens = pushed_open ls l closed; fills = pushed_fills ls l closed; begins = pushed_begins ls l closed; fullness = full_pushed ls l closed; called = pushed_called ls l closed unnamed }
 
 pub opens_by_push : (ls ms ns : List Link) (l : Link) → ms ≡ ls → ns ≡ ms ++ l ∷ [] → l.is_open ≡ false → l.tag ≡ None → Opens ls ns
 opens_by_push ls ms ns l same pushed closed unnamed =
@@ -305,9 +319,9 @@ opens_served (Err e) ls ms ns h k = tt
 
 -- one is opened
 pub opens_one_served : {A E : Type 0} (r : Result A E) (number : ℕ) (ls ks ms ns : List Link) → ((other : ℕ) → open_at other ks ≡ opened_at number other ls)
-    → ((other : ℕ) → waits_on other ks ≡ waits_on other ls) → ((other : ℕ) → answer_at other ks ≡ answer_at other ls) → ((other : ℕ) → seen_at other ks ≡ opened_seen number other ls) → Stays ks ms → OnOk r (Opens ms ns)
-    → OnOk r (OpensOne number ls ns)
-opens_one_served (Ok x) number ls ks ms ns opened waits answers seen h k =
+    → ((other : ℕ) → waits_on other ks ≡ waits_on other ls) → ((other : ℕ) → answer_at other ks ≡ answer_at other ls) → ((other : ℕ) → seen_at other ks ≡ opened_seen number other ls)
+    → ((other : ℕ) → fullness_at other ks ≡ fullness_at other ls) → Stays ks ms → OnOk r (Opens ms ns) → OnOk r (OpensOne number ls ns)
+opens_one_served (Ok x) number ls ks ms ns opened waits answers seen full h k =
     let both = opens_both ks ms ns (stays_opens ks ms h) k in
     record {
       opens = λ other. subst (λ (o : Option Reading). StaysAt o (open_at other ns)) (opened other) (both.opens other);
@@ -317,19 +331,28 @@ opens_one_served (Ok x) number ls ks ms ns opened waits answers seen h k =
       begins = λ other.
           subst (λ (o : Option Reading). MayBegin (if_open o (answer_at other ls)) (open_answer other ns)) (opened other)
           (subst (λ (a : Option Answer). MayBegin (if_open (open_at other ks) a) (open_answer other ns)) (answers other) (both.begins other));
+      fullness = λ other.
+          subst (λ (o : Option Reading). StaysAt (if_open o (fullness_at other ls)) (open_fullness other ns)) (opened other)
+          (subst (λ (f : Option Fullness). StaysAt (if_open (open_at other ks) f) (open_fullness other ns)) (full other) (both.fullness other));
       called = λ other. subst (λ (o : Option Seen). CalledAt o (seen_at other ns)) (seen other) (both.called other);
     }
-opens_one_served (Err e) number ls ks ms ns opened waits answers seen h k = tt
+opens_one_served (Err e) number ls ks ms ns opened waits answers seen full h k = tt
+
+-- by itself
+pub opens_alone : (number : ℕ) (ls ks ms : List Link) → ((other : ℕ) → open_at other ks ≡ opened_at number other ls) → ((other : ℕ) → waits_on other ks ≡ waits_on other ls)
+    → ((other : ℕ) → answer_at other ks ≡ answer_at other ls) → ((other : ℕ) → seen_at other ks ≡ opened_seen number other ls) → ((other : ℕ) → fullness_at other ks ≡ fullness_at other ls) → Stays ks ms → OpensOne number ls ms
+opens_alone number ls ks ms opened waits answers seen full h = opens_one_served {A = ℕ} {E = ℕ} (Ok 0) number ls ks ms ms opened waits answers seen full h (opens_refl ms)
 
 -- all but one
 pub others_open : (number : ℕ) (ls ms : List Link) → Opens ls ms → OpensOthers number ls ms
-others_open number ls ms opens = record { opens = λ other differs. opens.opens other; fills = opens.fills; begins = λ other differs. opens.begins other; called = opens.called }
+others_open number ls ms opens = record { opens = λ other differs. opens.opens other; fills = opens.fills; begins = λ other differs. opens.begins other; fullness = opens.fullness; called = opens.called }
 
 pub others_both : (number : ℕ) (ls ms ns : List Link) → OpensOthers number ls ms → OpensOthers number ms ns → OpensOthers number ls ns
 others_both number ls ms ns h k = record {
   opens = λ other differs. at_both (open_at other ls) (open_at other ms) (open_at other ns) (h.opens other differs) (k.opens other differs);
   fills = λ other. fills_both (open_waits other ls) (open_waits other ms) (open_waits other ns) (h.fills other) (k.fills other);
   begins = λ other differs. begin_both (open_answer other ls) (open_answer other ms) (open_answer other ns) (h.begins other differs) (k.begins other differs);
+  fullness = λ other. full_both (open_fullness other ls) (open_fullness other ms) (open_fullness other ns) (h.fullness other) (k.fullness other);
   called = λ other. called_both (seen_at other ls) (seen_at other ms) (seen_at other ns) (h.called other) (k.called other);
 }
 

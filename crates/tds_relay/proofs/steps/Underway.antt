@@ -7,13 +7,13 @@ use Rattle.slab.specs.Slab.{Slab, get, with_value}
 use Rattle.tds_client.specs.declared.message.MessageKind.{MessageKind}
 use Rattle.tds_relay.specs.declared.application.Application.{Application}
 use Rattle.tds_relay.specs.declared.application.Asking.TheVariants as asking
-use Rattle.tds_relay.specs.declared.desk.Hold.{Hold}
+use Rattle.tds_relay.specs.declared.pool.Hold.{Hold}
 use Rattle.tds_relay.specs.declared.link.Link.{Link}
 use Rattle.tds_relay.specs.Asking.{Closes, Drains, IsTakenBack, IsUnderway, Waits, waits_in, waits_of}
-use Rattle.tds_relay.specs.Desk as desk
-use Rattle.tds_relay.specs.Desk.{Desk, find_key, turn}
-use Rattle.tds_relay.specs.Fronts.{end_of, ends_in, hall_of_ends}
-use Rattle.tds_relay.specs.Hall.{End, Ends, Open, Over, change_end, closes, end_at, is_in}
+use Rattle.tds_relay.specs.Pool as pool
+use Rattle.tds_relay.specs.Pool.{Pool, find_key, turn}
+use Rattle.tds_relay.specs.Fronts.{end_of, ends_in, core_of_ends}
+use Rattle.tds_relay.specs.Core.{End, Ends, Open, Over, change_end, closes, end_at, is_in}
 use Rattle.tds_relay.specs.Taking.{IsDeaf}
 use Rattle.tds_relay.proofs.steps.Fed.{end_open, end_there}
 use Rattle.tds_relay.proofs.steps.Fronts.{end_is}
@@ -33,8 +33,8 @@ added_in : (key : ℕ) (line : List ℕ) → is_in key (line ++ key ∷ []) ≡ 
 added_in key [] = ap (λ (b : Bool). b || false) (eq-eqb key key refl)
 added_in key (k ∷ line) = ap (λ (b : Bool). (k == key) || b) (added_in key line) ∙ or_true (k == key)
 
-pub in_line : (whole : Bool) (links : List Link) (key : ℕ) (d d1 : Desk) (es : Ends) → d1 ≡ (turn d (desk.Waits key)).desk → IsUnderway whole links key (hall_of_ends d1 es)
-in_line whole links key d d1 es e = Waits (subst (λ (x : Desk). is_in key x.line ≡ true) (sym e) (added_in key d.line))
+pub in_line : (whole : Bool) (links : List Link) (key : ℕ) (d d1 : Pool) (es : Ends) → d1 ≡ (turn d (pool.Waits key)).pool → IsUnderway whole links key (core_of_ends d1 es)
+in_line whole links key d d1 es e = Waits (subst (λ (x : Pool). is_in key x.line ≡ true) (sym e) (added_in key d.line))
 
 -- ---- Its end
 
@@ -44,22 +44,22 @@ none_deaf key s none = subst IsDeaf (sym (end_is s key ∙ ap (option_map end_of
 pub over_deaf : (key : ℕ) (s : Slab Application) (a : Application) → Some a ≡ get s key → a.is_over ≡ true → IsDeaf (end_at (ends_in s) key)
 over_deaf key s a is over = subst IsDeaf (sym (end_there s key a is ∙ ap (λ (b : Bool). let o : Option End = Some (if b then Over a.fault else Open a.front a.is_withdrawn a.reset) in o) over)) tt
 
-pub of_none : (whole : Bool) (links : List Link) (key : ℕ) (d : Desk) (s : Slab Application) → get s key ≡ None → IsUnderway whole links key (hall_of_ends d (ends_in s))
+pub of_none : (whole : Bool) (links : List Link) (key : ℕ) (d : Pool) (s : Slab Application) → get s key ≡ None → IsUnderway whole links key (core_of_ends d (ends_in s))
 of_none whole links key d s none = Closes (none_deaf key s none)
 
-pub of_over : (whole : Bool) (links : List Link) (key : ℕ) (d : Desk) (s : Slab Application) (a : Application) → Some a ≡ get s key → a.is_over ≡ true → IsUnderway whole links key (hall_of_ends d (ends_in s))
+pub of_over : (whole : Bool) (links : List Link) (key : ℕ) (d : Pool) (s : Slab Application) (a : Application) → Some a ≡ get s key → a.is_over ≡ true → IsUnderway whole links key (core_of_ends d (ends_in s))
 of_over whole links key d s a is over = Closes (over_deaf key s a is over)
 
-drains_by : (whole : Bool) (links : List Link) (key : ℕ) (d : Desk) (s : Slab Application) (a : Application) (h : Hold) (b : Bool) → a.is_over ≡ b → Some a ≡ get s key → a.is_withdrawn ≡ true → find_key key d.holds ≡ Some h
-    → IsUnderway whole links key (hall_of_ends d (ends_in s))
+drains_by : (whole : Bool) (links : List Link) (key : ℕ) (d : Pool) (s : Slab Application) (a : Application) (h : Hold) (b : Bool) → a.is_over ≡ b → Some a ≡ get s key → a.is_withdrawn ≡ true → find_key key d.holds ≡ Some h
+    → IsUnderway whole links key (core_of_ends d (ends_in s))
 drains_by whole links key d s a h true over is back its = of_over whole links key d s a is over
 drains_by whole links key d s a h false over is back its = Drains h its (subst IsTakenBack (sym (end_there s key a is ∙ ap Some (end_open a over))) back)
 
-pub drains : (whole : Bool) (links : List Link) (key : ℕ) (d : Desk) (s : Slab Application) (a : Application) (h : Hold) → Some a ≡ get s key → a.is_withdrawn ≡ true → find_key key d.holds ≡ Some h
-    → IsUnderway whole links key (hall_of_ends d (ends_in s))
+pub drains : (whole : Bool) (links : List Link) (key : ℕ) (d : Pool) (s : Slab Application) (a : Application) (h : Hold) → Some a ≡ get s key → a.is_withdrawn ≡ true → find_key key d.holds ≡ Some h
+    → IsUnderway whole links key (core_of_ends d (ends_in s))
 drains whole links key d s a h is back its = drains_by whole links key d s a h a.is_over refl is back its
 
-pub of_closed : (whole : Bool) (links : List Link) (key : ℕ) (d : Desk) (es es1 : Ends) → es1 ≡ change_end key closes es → IsUnderway whole links key (hall_of_ends d es1)
+pub of_closed : (whole : Bool) (links : List Link) (key : ℕ) (d : Pool) (es es1 : Ends) → es1 ≡ change_end key closes es → IsUnderway whole links key (core_of_ends d es1)
 of_closed whole links key d es es1 e = Closes (subst (λ (x : Ends). IsDeaf (end_at x key)) (sym e) (deaf_closed key es))
 
 -- ---- What it asks

@@ -100,16 +100,16 @@ ends_at n line.Reading h items ends stop = read_ends n h items ends stop
 ends_at n line.Cancelling h items ends stop = skip_ends n h items ends stop
 ends_at n (line.Broken fault) h items ends stop = tt
 
--- ---- By the walker over the data
+-- ---- By the parser over the data
 
 abbrev Answers : Line → Bool → Part Token → Type 0
 Answers l ends part = EndsAs ends (is_end part.close) (turn l (line.Come part)).answer
 
-walked_ends : (l : Line) (walker : Option Reading) (content : List ℕ) (ends : Bool) → IsSome walker → Answers l ends (part_on walker content ends)
+walked_ends : (l : Line) (parser : Option Reading) (content : List ℕ) (ends : Bool) → IsSome parser → Answers l ends (part_on parser content ends)
 walked_ends l None content ends some = absurd (let u : ⊥ = cc in u)
 walked_ends l (Some r) content ends some =
     let all : Tokens = tokens_in r content in
     ends_at l.asked l.stage l.heard (items_from all.tokens) ends all.stop
 
-pub ends_heard : (l : Line) (walker : Option Reading) (content : List ℕ) (ends : Bool) (part : Part Token) → part ≡ part_on walker content ends → IsSome walker → Answers l ends part
-ends_heard l walker content ends part is some = subst (Answers l ends) (sym is) (walked_ends l walker content ends some)
+pub ends_heard : (l : Line) (parser : Option Reading) (content : List ℕ) (ends : Bool) (part : Part Token) → part ≡ part_on parser content ends → IsSome parser → Answers l ends part
+ends_heard l parser content ends part is some = subst (Answers l ends) (sym is) (walked_ends l parser content ends some)

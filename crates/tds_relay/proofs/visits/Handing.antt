@@ -15,11 +15,11 @@ use Rattle.tds_service.specs.Line.{Answer, Turn, turn}
 use Rattle.tds_service.specs.Parts.{Part, is_end}
 use Rattle.tds_relay.specs.Behind.{if_open, if_whose, passes, said_by, said_in, unless_withdrawn}
 use Rattle.tds_relay.specs.Cutting.{ends_in}
-use Rattle.tds_relay.specs.Desk.{Desk, Event, Sharing, Way, whose}
+use Rattle.tds_relay.specs.Pool.{Pool, Event, Sharing, Way, whose}
 use Rattle.tds_relay.specs.Giving.{AreSaid, Given, IsPacketOf, IsSaid, if_its}
-use Rattle.tds_relay.specs.Hall as hall
-use Rattle.tds_relay.specs.Hall.{End, Open, done_by, end_at, what_in, what_of}
-use Rattle.tds_relay.specs.House.{House, IsHanded, IsRight, Manner, MayHand, Whole, Without, Withheld, closes, end_whose, handed, is_said}
+use Rattle.tds_relay.specs.Core as core
+use Rattle.tds_relay.specs.Core.{End, Open, done_by, end_at, what_in, what_of}
+use Rattle.tds_relay.specs.Machine.{Machine, IsHanded, IsRight, Manner, MayHand, Whole, Without, Withheld, closes, end_whose, handed, is_said}
 use Rattle.tds_relay.proofs.ends.Folding.{outs_of, sound_at}
 use Rattle.tds_relay.proofs.held.Ours.{came_done}
 use Rattle.tds_relay.proofs.ends.Outs.{HeardAs, Breaks, ReadsOn, ReadsEnd, SkipsOn, SkipsEnd, heard_as}
@@ -102,10 +102,10 @@ module _ (header : Header) (content : List ℕ) (manner : Manner) (right : IsRig
 
 -- ---- By whose it is
 
-module _ (sharing : Sharing) (key : ℕ) (events : List Event) (h : House) (front : Front) (w : Bool) (stands : Stands sharing key events h.hall front w)
+module _ (sharing : Sharing) (key : ℕ) (events : List Event) (h : Machine) (front : Front) (w : Bool) (stands : Stands sharing key events h.core front w)
     (number : ℕ) (header : Header) (content : List ℕ) (part : Part Token) (manner : Manner) (may : MayHand h number header content part manner) where
-  abbrev d : Desk
-  d = h.hall.desk
+  abbrev d : Pool
+  d = h.core.pool
 
   abbrev Handed : List Given
   Handed = gives (handed manner header content)
@@ -121,23 +121,23 @@ module _ (sharing : Sharing) (key : ℕ) (events : List Event) (h : House) (fron
   -- the application holds that connection
   own_said : Holds (outs_of sharing events) d key front.stage w stands.place → whose d number ≡ Some key → SaidOf (done_by d number part)
   own_said k mine =
-      let sound = sound_at sharing events h.hall stands.is in
+      let sound = sound_at sharing events h.core stands.is in
       let number_is : k.hold.number ≡ number = whose_number d key number k.hold k.seat sound k.its mine in
-      let fits = ends_heard k.seat.line may.walker content (ends_in header) part may.part_is (may.has_walker key mine) in
+      let fits = ends_heard k.seat.line may.parser content (ends_in header) part may.part_is (may.has_parser key mine) in
       let here : SaidOf (done_by d k.hold.number part) = subst SaidOf (sym (came_done d key k.hold k.seat part k.its)) (came_said k fits) in
       subst (λ (n : ℕ). SaidOf (done_by d n part)) number_is here
 
   its_said : Standing (outs_of sharing events) d key front.stage w stands.place → whose d number ≡ Some key → SaidOf (done_by d number part)
   its_said (inl k) mine = own_said k mine
-  its_said (inr k) mine = absurd (absent_whose d key number (sound_at sharing events h.hall stands.is) k.absent.none mine)
+  its_said (inr k) mine = absurd (absent_whose d key number (sound_at sharing events h.core stands.is) k.absent.none mine)
 
   abbrev Heard : List Passed
-  Heard = if_open (end_at h.hall.ends key) (λ front withdrawn. unless_withdrawn withdrawn (said_in (done_by d number part)))
+  Heard = if_open (end_at h.core.ends key) (λ front withdrawn. unless_withdrawn withdrawn (said_in (done_by d number part)))
 
   mine_said : whose d number ≡ Some key → Said front.stage Heard Handed
   mine_said mine =
       let what = what_in (done_by d number part) in
-      let whose_is : IsHanded (is_said what (end_at h.hall.ends key)) manner = subst (λ (who : Option ℕ). IsHanded (is_said what (end_whose who h.hall.ends)) manner) mine may.handed_on in
+      let whose_is : IsHanded (is_said what (end_at h.core.ends key)) manner = subst (λ (who : Option ℕ). IsHanded (is_said what (end_whose who h.core.ends)) manner) mine may.handed_on in
       let on : IsHanded (is_said what (Some (Open front w stands.asks))) manner = subst (λ (o : Option End). IsHanded (is_said what o) manner) stands.end_is whose_is in
       subst (λ (o : Option End). Said front.stage (if_open o (λ front withdrawn. unless_withdrawn withdrawn (said_in (done_by d number part)))) Handed) (sym stands.end_is)
       (its_said stands.standing mine on)
@@ -151,5 +151,5 @@ module _ (sharing : Sharing) (key : ℕ) (events : List Event) (h : House) (fron
   hands_whose None mine begun = refl
   hands_whose (Some other) mine begun = hands_if other (other == key) mine refl begun
 
-  pub hands_said : (way : Way) → Said front.stage (passes key h.hall (hall.Comes number part way)) (if_its key (whose d number) (handed manner header content))
+  pub hands_said : (way : Way) → Said front.stage (passes key h.core (core.Comes number part way)) (if_its key (whose d number) (handed manner header content))
   hands_said way = hands_whose (whose d number) refl

@@ -14,21 +14,21 @@ use Rattle.tds_front.specs.declared.front.Front.{Front}
 use Rattle.tds_front.specs.declared.front.Part.{Part}
 use Rattle.tds_front.specs.declared.front.Said.{Said as Answer}
 use Rattle.tds_front.specs.declared.front.Said.TheVariants as said
-use Rattle.tds_front.specs.declared.stage.Deed.{Deed}
-use Rattle.tds_front.specs.declared.stage.Deed.TheVariants as deeds
+use Rattle.tds_front.specs.declared.stage.Action.{Action}
+use Rattle.tds_front.specs.declared.stage.Action.TheVariants as actions
 use Rattle.tds_front.specs.declared.stage.Head.{Head}
 use Rattle.tds_front.specs.declared.stage.Stage.{Stage}
 use Rattle.tds_front.specs.declared.stage.Stage.TheVariants as stages
-use Rattle.tds_front.specs.Bytes.{deed_done, fed, says, with_due}
+use Rattle.tds_front.specs.Bytes.{action_done, fed, says, with_due}
 use Rattle.tds_front.specs.Passing.{Event as Passed, Refuses, IsData, IsSaid, SaysOf, judged, towards, with_own}
 use Rattle.tds_front.specs.Rules as rules
 use Rattle.tds_front.specs.Rules.{taken}
 use Rattle.tds_front.specs.Serving.{Happening, begun_behind}
 use Rattle.tds_relay.specs.Behind.{brought, brought_by, if_open, passes, refused_by}
 use Rattle.tds_relay.specs.Giving.{AreSaid, Given, if_its}
-use Rattle.tds_relay.specs.Hall as hall
-use Rattle.tds_relay.specs.Hall.{End, Open, Ends, Hall, end_at}
-use Rattle.tds_relay.specs.House.{owed, owed_by}
+use Rattle.tds_relay.specs.Core as core
+use Rattle.tds_relay.specs.Core.{End, Open, Ends, Core, end_at}
+use Rattle.tds_relay.specs.Machine.{owed, owed_by}
 use Rattle.tds_relay.proofs.visits.Replies.{Said, gives, its, not_its}
 
 -- ---- Bytes that are taken
@@ -45,7 +45,7 @@ data_owes count (said.Forget gone) s = absurd s
 data_owes count said.Acknowledge s = absurd s
 data_owes count said.HandOn s = absurd s
 
-go_owes : (count : ℕ) (answer : Answer) → IsSaid (Ok deeds.Go) answer → owed_by (fed_so count answer) ≡ None
+go_owes : (count : ℕ) (answer : Answer) → IsSaid (Ok actions.Go) answer → owed_by (fed_so count answer) ≡ None
 go_owes count said.Nothing s = refl
 go_owes count (said.Begin kind reset) s = absurd s
 go_owes count (said.Body size) s = absurd s
@@ -58,13 +58,13 @@ go_owes count said.HandOn s = absurd s
 nothing_owed : (xs : List Happening) (owes : Option Given) → owes ≡ None → AreSaid xs [] → AreSaid xs (gives owes)
 nothing_owed xs owes e h = subst (λ (o : Option Given). AreSaid xs (gives o)) (sym e) h
 
-own_said : (does : Result Deed FrontFault) (count : ℕ) (answer : Answer) → IsSaid does answer → AreSaid (with_own does []) (gives (owed_by (fed_so count answer)))
-own_said (Ok (deeds.Begin kind reset)) count answer s = nothing_owed [] (owed_by (fed_so count answer)) (ap (λ (a : Answer). owed_by (fed_so count a)) s) refl
-own_said (Ok deeds.Go) count answer s = nothing_owed [] (owed_by (fed_so count answer)) (go_owes count answer s) refl
-own_said (Ok (deeds.Forget gone)) count answer s = nothing_owed [] (owed_by (fed_so count answer)) (ap (λ (a : Answer). owed_by (fed_so count a)) s) refl
-own_said (Ok deeds.Acknowledge) count answer s =
-    subst (λ (a : Answer). AreSaid (with_own (Ok deeds.Acknowledge) []) (gives (owed_by (fed_so count a)))) (sym s) (inr refl, refl)
-own_said (Ok deeds.HandOn) count answer s = nothing_owed [] (owed_by (fed_so count answer)) (ap (λ (a : Answer). owed_by (fed_so count a)) s) refl
+own_said : (does : Result Action FrontFault) (count : ℕ) (answer : Answer) → IsSaid does answer → AreSaid (with_own does []) (gives (owed_by (fed_so count answer)))
+own_said (Ok (actions.Begin kind reset)) count answer s = nothing_owed [] (owed_by (fed_so count answer)) (ap (λ (a : Answer). owed_by (fed_so count a)) s) refl
+own_said (Ok actions.Go) count answer s = nothing_owed [] (owed_by (fed_so count answer)) (go_owes count answer s) refl
+own_said (Ok (actions.Forget gone)) count answer s = nothing_owed [] (owed_by (fed_so count answer)) (ap (λ (a : Answer). owed_by (fed_so count a)) s) refl
+own_said (Ok actions.Acknowledge) count answer s =
+    subst (λ (a : Answer). AreSaid (with_own (Ok actions.Acknowledge) []) (gives (owed_by (fed_so count a)))) (sym s) (inr refl, refl)
+own_said (Ok actions.HandOn) count answer s = nothing_owed [] (owed_by (fed_so count answer)) (ap (λ (a : Answer). owed_by (fed_so count a)) s) refl
 own_said (Err fault) count answer s = absurd s
 
 -- ---- Bytes that are refused
@@ -76,20 +76,20 @@ refuse_said (stages.Underway gone) fault begun = refl
 refuse_said stages.Stopping fault begun = refl
 refuse_said (stages.Broken first) fault begun = refl
 
-refused_said : (does : Result Deed FrontFault) (fault : FrontFault) (begun : Option Kind) (next : Stage) → (does ≡ Ok deeds.Acknowledge → ⊥)
+refused_said : (does : Result Action FrontFault) (fault : FrontFault) (begun : Option Kind) (next : Stage) → (does ≡ Ok actions.Acknowledge → ⊥)
     → AreSaid (with_own does (towards begun next (refused_by does fault))) []
-refused_said (Ok (deeds.Begin kind reset)) fault begun next never = refuse_said next fault begun
-refused_said (Ok deeds.Go) fault begun next never = refuse_said next fault begun
-refused_said (Ok (deeds.Forget gone)) fault begun next never = refuse_said next fault begun
-refused_said (Ok deeds.Acknowledge) fault begun next never = absurd (never refl)
-refused_said (Ok deeds.HandOn) fault begun next never = refuse_said next fault begun
+refused_said (Ok (actions.Begin kind reset)) fault begun next never = refuse_said next fault begun
+refused_said (Ok actions.Go) fault begun next never = refuse_said next fault begun
+refused_said (Ok (actions.Forget gone)) fault begun next never = refuse_said next fault begun
+refused_said (Ok actions.Acknowledge) fault begun next never = absurd (never refl)
+refused_said (Ok actions.HandOn) fault begun next never = refuse_said next fault begun
 refused_said (Err first) fault begun next never = refl
 
 -- ---- Any bytes
 
 -- an attention that is acknowledged isn't refused
 abbrev NeverRefused : Stage → Option Head → Result Fed FrontFault → Type 0
-NeverRefused stage packet brings = (head : Head) (fault : FrontFault) → packet ≡ Some head → brings ≡ Err fault → (taken stage head).does ≡ Ok deeds.Acknowledge → ⊥
+NeverRefused stage packet brings = (head : Head) (fault : FrontFault) → packet ≡ Some head → brings ≡ Err fault → (taken stage head).does ≡ Ok actions.Acknowledge → ⊥
 
 brought_so : (stage : Stage) (packet : Option Head) (brings : Result Fed FrontFault) → SaysOf stage packet brings → NeverRefused stage packet brings
     → Said stage (brought_by stage packet brings) (gives (owed_by brings))
@@ -101,11 +101,11 @@ brought_so stage (Some head) (Err fault) s never begun =
 
 -- ---- An attention that is acknowledged
 
-attended_not : (b : Bool) (first fault : FrontFault) → (if b then rules.breaks first else rules.breaks fault).does ≡ Ok deeds.Acknowledge → ⊥
+attended_not : (b : Bool) (first fault : FrontFault) → (if b then rules.breaks first else rules.breaks fault).does ≡ Ok actions.Acknowledge → ⊥
 attended_not true first fault e = let u : ⊥ = cc in u
 attended_not false first fault e = let u : ⊥ = cc in u
 
-broken_not : (kind : Kind) (head : Head) (first : FrontFault) → (rules.taken_as kind (stages.Broken first) head).does ≡ Ok deeds.Acknowledge → ⊥
+broken_not : (kind : Kind) (head : Head) (first : FrontFault) → (rules.taken_as kind (stages.Broken first) head).does ≡ Ok actions.Acknowledge → ⊥
 broken_not kinds.Batch head first e = let u : ⊥ = cc in u
 broken_not kinds.Procedure head first e = let u : ⊥ = cc in u
 broken_not kinds.BulkLoad head first e = let u : ⊥ = cc in u
@@ -113,15 +113,15 @@ broken_not kinds.Transaction head first e = let u : ⊥ = cc in u
 broken_not kinds.Attention head first e = attended_not ((bits_of head.status == 1) && (head.count == 0)) first first e
 broken_not kinds.Answer head first e = let u : ⊥ = cc in u
 
-done_not : (f : Front) (stage : Stage) (count : ℕ) (does : Result Deed FrontFault) (fault : FrontFault) → (deed_done f stage count does).brings ≡ Err fault → does ≡ Ok deeds.Acknowledge → ⊥
+done_not : (f : Front) (stage : Stage) (count : ℕ) (does : Result Action FrontFault) (fault : FrontFault) → (action_done f stage count does).brings ≡ Err fault → does ≡ Ok actions.Acknowledge → ⊥
 done_not f stage count does fault fails is =
-    let e : (deed_done f stage count (Ok deeds.Acknowledge)).brings ≡ Err fault = subst (λ (r : Result Deed FrontFault). (deed_done f stage count r).brings ≡ Err fault) is fails in
+    let e : (action_done f stage count (Ok actions.Acknowledge)).brings ≡ Err fault = subst (λ (r : Result Action FrontFault). (action_done f stage count r).brings ≡ Err fault) is fails in
     let u : ⊥ = cc in
     u
 
 rest_not : (b : Bool) (f : Front) (first head : Head) (left : ℕ) (fault : FrontFault) → (if b then None else Some first) ≡ Some head
-    → (if b then says (with_due f (due.Rest first (left - 1))) 1 said.Nothing else deed_done f (taken f.stage first).stage first.count (taken f.stage first).does).brings ≡ Err fault
-    → (taken f.stage head).does ≡ Ok deeds.Acknowledge → ⊥
+    → (if b then says (with_due f (due.Rest first (left - 1))) 1 said.Nothing else action_done f (taken f.stage first).stage first.count (taken f.stage first).does).brings ≡ Err fault
+    → (taken f.stage head).does ≡ Ok actions.Acknowledge → ⊥
 rest_not true f first head left fault e fails is = let u : ⊥ = cc in u
 rest_not false f first head left fault e fails is =
     let same : head ≡ first = cc in
@@ -170,7 +170,7 @@ owes_if key ends other bytes front w asks true e is s =
 owes_if key ends other bytes front w asks false e is s =
     subst (λ (all : List Given). Said front.stage [] all) (sym (not_its key other (owed bytes (end_at ends other)) e)) (λ begun. refl)
 
-pub taken_said : (key : ℕ) (h : Hall) (other : ℕ) (bytes : List ℕ) (front : Front) (w : Bool) (asks : Option Reset) → end_at h.ends key ≡ Some (Open front w asks)
+pub taken_said : (key : ℕ) (h : Core) (other : ℕ) (bytes : List ℕ) (front : Front) (w : Bool) (asks : Option Reset) → end_at h.ends key ≡ Some (Open front w asks)
     → SaysOf front.stage (judged front.due bytes) (fed front bytes).brings
-    → Said front.stage (passes key h (hall.Feeds other bytes)) (if_its key (Some other) (owed bytes (end_at h.ends other)))
+    → Said front.stage (passes key h (core.Feeds other bytes)) (if_its key (Some other) (owed bytes (end_at h.ends other)))
 taken_said key h other bytes front w asks is s = owes_if key h.ends other bytes front w asks (other == key) refl is s

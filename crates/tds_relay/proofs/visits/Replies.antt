@@ -3,8 +3,8 @@ use Rattle.std.proofs.Common.{◌≡◌, ◌∙◌, ◌==◌, ℕ, Bool, true, f
 use Rattle.std.specs.Prelude.{Option, Some, None, Result, Ok, Err, if◌then◌else◌}
 use Rattle.tds_packet.specs.declared.kind.Kind.{Kind}
 use Rattle.tds_front.specs.declared.fault.FrontFault.{FrontFault}
-use Rattle.tds_front.specs.declared.stage.Deed.{Deed}
-use Rattle.tds_front.specs.declared.stage.Deed.TheVariants as deeds
+use Rattle.tds_front.specs.declared.stage.Action.{Action}
+use Rattle.tds_front.specs.declared.stage.Action.TheVariants as actions
 use Rattle.tds_front.specs.declared.stage.Stage.{Stage}
 use Rattle.tds_front.specs.declared.stage.Stage.TheVariants as stages
 use Rattle.tds_front.specs.Passing.{Event as Passed, Packet, Refuses, GoesOn, Says, stage_behind, towards, with_own, with_reply}
@@ -14,10 +14,10 @@ use Rattle.tds_front.specs.Serving as serving
 use Rattle.tds_front.specs.Serving.{Happening, Comes, Goes, Closes, Reply, begun_behind, brings}
 use Rattle.tds_service.specs.Line as line
 use Rattle.tds_relay.specs.Behind.{gone_on, if_open, passes}
-use Rattle.tds_relay.specs.Desk as desk
+use Rattle.tds_relay.specs.Pool as pool
 use Rattle.tds_relay.specs.Giving.{AreSaid, Given, if_its}
-use Rattle.tds_relay.specs.Hall as hall
-use Rattle.tds_relay.specs.Hall.{End, Open, Over, Hall, IsQuiet, Move, end_at, sent_by}
+use Rattle.tds_relay.specs.Core as core
+use Rattle.tds_relay.specs.Core.{End, Open, Over, Core, IsQuiet, Move, end_at, sent_by}
 use Rattle.tds_relay.proofs.ends.Leading.{stage_along}
 
 -- these are what it says of what passes it from this stage, whatever has begun
@@ -33,12 +33,12 @@ begun_along begun (Refuses fault ∷ es) = begun_along None es
 begun_along begun (GoesOn last ∷ es) = begun_along begun es
 begun_along begun (Says reply ∷ es) = begun_along begun es
 
-own_both : (does : Result Deed FrontFault) (xs ys : List Happening) → with_own does (xs ++ ys) ≡ with_own does xs ++ ys
-own_both (Ok (deeds.Begin kind reset)) xs ys = refl
-own_both (Ok deeds.Go) xs ys = refl
-own_both (Ok (deeds.Forget gone)) xs ys = refl
-own_both (Ok deeds.Acknowledge) xs ys = refl
-own_both (Ok deeds.HandOn) xs ys = refl
+own_both : (does : Result Action FrontFault) (xs ys : List Happening) → with_own does (xs ++ ys) ≡ with_own does xs ++ ys
+own_both (Ok (actions.Begin kind reset)) xs ys = refl
+own_both (Ok actions.Go) xs ys = refl
+own_both (Ok (actions.Forget gone)) xs ys = refl
+own_both (Ok actions.Acknowledge) xs ys = refl
+own_both (Ok actions.HandOn) xs ys = refl
 own_both (Err fault) xs ys = refl
 
 reply_both : (stage : Stage) (reply : Reply) (xs ys : List Happening) → with_reply stage reply (xs ++ ys) ≡ with_reply stage reply xs ++ ys
@@ -98,19 +98,19 @@ if_said : (b : Bool) (es : List Passed) (stage : Stage) → Said stage es [] →
 if_said true es stage s begun = s begun
 if_said false es stage s begun = refl
 
-pub made_said : (key : ℕ) (h : Hall) (move : Move) (stage : Stage) → IsQuiet move → Said stage (passes key h move) []
-made_said key h (hall.Does event) stage quiet begun = refl
-made_said key h (hall.Sends other deed) stage quiet begun =
-    let packets = sent_by h.desk (desk.Does other deed) in
+pub made_said : (key : ℕ) (h : Core) (move : Move) (stage : Stage) → IsQuiet move → Said stage (passes key h move) []
+made_said key h (core.Does event) stage quiet begun = refl
+made_said key h (core.Sends other action) stage quiet begun =
+    let packets = sent_by h.pool (pool.Does other action) in
     if_said (other == key) (if_open (end_at h.ends key) (λ front withdrawn. gone_on packets)) stage (open_said (end_at h.ends key) packets stage) begun
-made_said key h (hall.LetsGo other parks gives way) stage quiet begun = refl
-made_said key h (hall.Loses number) stage quiet begun = refl
-made_said key h (hall.Replaces number) stage quiet begun = refl
-made_said key h (hall.Comes number part way) stage quiet begun = absurd quiet
-made_said key h (hall.Feeds other bytes) stage quiet begun = absurd quiet
-made_said key h (hall.Closes other) stage quiet begun = refl
-made_said key h (hall.Enters other ends) stage quiet begun = absurd quiet
-made_said key h (hall.Quits other gives way) stage quiet begun = absurd quiet
+made_said key h (core.LetsGo other parks gives way) stage quiet begun = refl
+made_said key h (core.Loses number) stage quiet begun = refl
+made_said key h (core.Replaces number) stage quiet begun = refl
+made_said key h (core.Comes number part way) stage quiet begun = absurd quiet
+made_said key h (core.Feeds other bytes) stage quiet begun = absurd quiet
+made_said key h (core.Closes other) stage quiet begun = refl
+made_said key h (core.Enters other ends) stage quiet begun = absurd quiet
+made_said key h (core.Quits other gives way) stage quiet begun = absurd quiet
 
 -- ---- What may be given
 

@@ -7,14 +7,14 @@ use Rattle.tds_front.specs.Serving.{IsLawful, Ready}
 use Rattle.tds_relay.specs.Behind as behind
 use Rattle.tds_relay.specs.Behind.{Stay, Stays, StaysIn, events_along, passed, passed_in}
 use Rattle.tds_relay.specs.Fronting.{AnswersOnce, done_on}
-use Rattle.tds_relay.specs.Hall as hall
-use Rattle.tds_relay.specs.Hall.{Enters, Hall, IsQuiet, MayMoveAll, Move, moved_all, new_hall}
-use Rattle.tds_relay.specs.House.{House, Step, Makes, Hands, Takes, Writes, Admits, Removes, MayAll, MayStep, after, after_all, moves_of, new_house}
+use Rattle.tds_relay.specs.Core as core
+use Rattle.tds_relay.specs.Core.{Enters, Core, IsQuiet, MayMoveAll, Move, moved_all, new_core}
+use Rattle.tds_relay.specs.Machine.{Machine, Step, Makes, Hands, Takes, Writes, Admits, Removes, MayAll, MayStep, after, after_all, moves_of, new_machine}
 use Rattle.tds_relay.specs.Giving as visits
-use Rattle.tds_relay.specs.Giving.{StaysAll, StaysBy, Visit, happens_in, house_in, moves_in}
+use Rattle.tds_relay.specs.Giving.{StaysAll, StaysBy, Visit, happens_in, machine_in, moves_in}
 use Rattle.tds_relay.proofs.ends.Folding.{may_both, moved_both}
 use Rattle.tds_relay.proofs.steps.Stepping.{after_both}
-use Rattle.tds_relay.specs.Desk.{Sharing}
+use Rattle.tds_relay.specs.Pool.{Sharing}
 
 -- ---- One behind the other
 
@@ -26,53 +26,53 @@ stays_both : (key : ℕ) (xs ys : List Move) → Stays key xs → Stays key ys �
 stays_both key [] ys s t = t
 stays_both key (x ∷ xs) ys s t = (s.0, stays_both key xs ys s.1 t)
 
-may_behind : (h : House) (xs ys : List Step) → MayAll h (xs ++ ys) → MayAll (after_all h xs) ys
+may_behind : (h : Machine) (xs ys : List Step) → MayAll h (xs ++ ys) → MayAll (after_all h xs) ys
 may_behind h [] ys may = may
 may_behind h (x ∷ xs) ys may = may_behind (after h x) xs ys may.1
 
-may_before : (h : House) (xs ys : List Step) → MayAll h (xs ++ ys) → MayAll h xs
+may_before : (h : Machine) (xs ys : List Step) → MayAll h (xs ++ ys) → MayAll h xs
 may_before h [] ys may = tt
 may_before h (x ∷ xs) ys may = (may.0, may_before (after h x) xs ys may.1)
 
 -- ---- A step's moves
 
-pub hall_after : (h : House) (steps : List Step) → (after_all h steps).hall ≡ moved_all h.hall (moves_in steps)
-hall_after h [] = refl
-hall_after h (step ∷ steps) = hall_after (after h step) steps ∙ sym (moved_both h.hall (moves_of step) (moves_in steps))
+pub core_after : (h : Machine) (steps : List Step) → (after_all h steps).core ≡ moved_all h.core (moves_in steps)
+core_after h [] = refl
+core_after h (step ∷ steps) = core_after (after h step) steps ∙ sym (moved_both h.core (moves_of step) (moves_in steps))
 
-pub may_step : (h : House) (step : Step) → MayStep h step → MayMoveAll h.hall (moves_of step)
+pub may_step : (h : Machine) (step : Step) → MayStep h step → MayMoveAll h.core (moves_of step)
 may_step h (Makes move) may = (may.0, tt)
 may_step h (Hands number header content part way manner) may = (tt, tt)
 may_step h (Takes key bytes) may = (tt, tt)
 may_step h (Writes key count) may = tt
-may_step h (Admits key ends posts) may = (may.0, tt)
+may_step h (Admits key ends queues) may = (may.0, tt)
 may_step h (Removes key gives way) may = (tt, tt)
 
-pub may_moves : (h : House) (steps : List Step) → MayAll h steps → MayMoveAll h.hall (moves_in steps)
+pub may_moves : (h : Machine) (steps : List Step) → MayAll h steps → MayMoveAll h.core (moves_in steps)
 may_moves h [] may = tt
-may_moves h (step ∷ steps) may = may_both h.hall (moves_of step) (moves_in steps) (may_step h step may.0) (may_moves (after h step) steps may.1)
+may_moves h (step ∷ steps) may = may_both h.core (moves_of step) (moves_in steps) (may_step h step may.0) (may_moves (after h step) steps may.1)
 
 pub stays_move : (key : ℕ) (move : Move) → IsQuiet move → StaysIn key move
-stays_move key (hall.Does event) quiet = tt
-stays_move key (hall.Sends other deed) quiet = tt
-stays_move key (hall.LetsGo other parks gives way) quiet = tt
-stays_move key (hall.Loses number) quiet = tt
-stays_move key (hall.Replaces number) quiet = tt
-stays_move key (hall.Comes number part way) quiet = absurd quiet
-stays_move key (hall.Feeds other bytes) quiet = absurd quiet
-stays_move key (hall.Closes other) quiet = tt
-stays_move key (hall.Enters other ends) quiet = absurd quiet
-stays_move key (hall.Quits other gives way) quiet = absurd quiet
+stays_move key (core.Does event) quiet = tt
+stays_move key (core.Sends other action) quiet = tt
+stays_move key (core.LetsGo other parks gives way) quiet = tt
+stays_move key (core.Loses number) quiet = tt
+stays_move key (core.Replaces number) quiet = tt
+stays_move key (core.Comes number part way) quiet = absurd quiet
+stays_move key (core.Feeds other bytes) quiet = absurd quiet
+stays_move key (core.Closes other) quiet = tt
+stays_move key (core.Enters other ends) quiet = absurd quiet
+stays_move key (core.Quits other gives way) quiet = absurd quiet
 
-pub stays_step : (key : ℕ) (h : House) (step : Step) → MayStep h step → StaysBy key step → Stays key (moves_of step)
+pub stays_step : (key : ℕ) (h : Machine) (step : Step) → MayStep h step → StaysBy key step → Stays key (moves_of step)
 stays_step key h (Makes move) may stays = (stays_move key move may.1, tt)
 stays_step key h (Hands number header content part way manner) may stays = (tt, tt)
 stays_step key h (Takes other bytes) may stays = (tt, tt)
 stays_step key h (Writes other count) may stays = tt
-stays_step key h (Admits other ends posts) may stays = (stays, tt)
+stays_step key h (Admits other ends queues) may stays = (stays, tt)
 stays_step key h (Removes other gives way) may stays = (stays, tt)
 
-pub stays_moves : (key : ℕ) (h : House) (steps : List Step) → MayAll h steps → StaysAll key steps → Stays key (moves_in steps)
+pub stays_moves : (key : ℕ) (h : Machine) (steps : List Step) → MayAll h steps → StaysAll key steps → Stays key (moves_in steps)
 stays_moves key h [] may stays = tt
 stays_moves key h (step ∷ steps) may stays =
     stays_both key (moves_of step) (moves_in steps) (stays_step key h step may.0 stays.0) (stays_moves key (after h step) steps may.1 stays.1)
@@ -81,51 +81,51 @@ stays_moves key h (step ∷ steps) may stays =
 
 -- as it comes, and since
 pub record Came (sharing : Sharing) (key : ℕ) (v : Visit sharing key) : Type 0 where
-  pub may_before : MayAll (new_house sharing) v.before
-  pub may_come : MayStep (after_all (new_house sharing) v.before) (Admits key v.ends v.posts)
-  pub house_is : house_in v ≡ after (after_all (new_house sharing) v.before) (Admits key v.ends v.posts)
-  pub may_since : MayAll (house_in v) v.since
+  pub may_before : MayAll (new_machine sharing) v.before
+  pub may_come : MayStep (after_all (new_machine sharing) v.before) (Admits key v.ends v.queues)
+  pub machine_is : machine_in v ≡ after (after_all (new_machine sharing) v.before) (Admits key v.ends v.queues)
+  pub may_since : MayAll (machine_in v) v.since
 
 pub came : (sharing : Sharing) (key : ℕ) (v : Visit sharing key) → Came sharing key v
 came sharing key v =
-    let h = new_house sharing in
-    let rest = may_behind h v.before (Admits key v.ends v.posts ∷ v.since) v.may in
-    let is : house_in v ≡ after (after_all h v.before) (Admits key v.ends v.posts) = after_both h v.before (Admits key v.ends v.posts ∷ []) in
+    let h = new_machine sharing in
+    let rest = may_behind h v.before (Admits key v.ends v.queues ∷ v.since) v.may in
+    let is : machine_in v ≡ after (after_all h v.before) (Admits key v.ends v.queues) = after_both h v.before (Admits key v.ends v.queues ∷ []) in
     record {
-      may_before = may_before h v.before (Admits key v.ends v.posts ∷ v.since) v.may;
+      may_before = may_before h v.before (Admits key v.ends v.queues ∷ v.since) v.may;
       may_come = rest.0;
-      house_is = is;
-      may_since = subst (λ (x : House). MayAll x v.since) (sym is) rest.1;
+      machine_is = is;
+      may_since = subst (λ (x : Machine). MayAll x v.since) (sym is) rest.1;
     }
 
 pub stay_of : (sharing : Sharing) (key : ℕ) → Visit sharing key → Stay sharing key
 stay_of sharing key v =
-    let all = may_moves (new_house sharing) (v.before ++ Admits key v.ends v.posts ∷ v.since) v.may in
+    let all = may_moves (new_machine sharing) (v.before ++ Admits key v.ends v.queues ∷ v.since) v.may in
     let behind = came sharing key v in
     record {
       before = moves_in v.before;
       ends = v.ends;
       since = moves_in v.since;
-      may = subst (MayMoveAll (new_hall sharing)) (moves_both v.before (Admits key v.ends v.posts ∷ v.since)) all;
-      stays = stays_moves key (house_in v) v.since behind.may_since v.stays;
+      may = subst (MayMoveAll (new_core sharing)) (moves_both v.before (Admits key v.ends v.queues ∷ v.since)) all;
+      stays = stays_moves key (machine_in v) v.since behind.may_since v.stays;
     }
 
 -- what passes in it, and what is done
 happens_so : (sharing : Sharing) (key : ℕ) (v : Visit sharing key) → towards None stages.Quiet (passed_in (stay_of sharing key v)) ≡ happens_in v
 unfolding stay_of
 happens_so sharing key v =
-    let come : List Step = Admits key v.ends v.posts ∷ [] in
+    let come : List Step = Admits key v.ends v.queues ∷ [] in
     let moves : moves_in (v.before ++ come) ≡ moves_in v.before ++ Enters key v.ends ∷ [] = moves_both v.before come in
-    let is : moved_all (new_hall sharing) (moves_in v.before ++ Enters key v.ends ∷ []) ≡ (house_in v).hall =
-    ap (moved_all (new_hall sharing)) (sym moves) ∙ sym (hall_after (new_house sharing) (v.before ++ come)) in
-    ap (λ (h : Hall). towards None stages.Quiet (passed key h (moves_in v.since))) is
+    let is : moved_all (new_core sharing) (moves_in v.before ++ Enters key v.ends ∷ []) ≡ (machine_in v).core =
+    ap (moved_all (new_core sharing)) (sym moves) ∙ sym (core_after (new_machine sharing) (v.before ++ come)) in
+    ap (λ (h : Core). towards None stages.Quiet (passed key h (moves_in v.since))) is
 
 once_so : (sharing : Sharing) (key : ℕ) (v : Visit sharing key) → visits.ServersAnswerOnce v → behind.AllAnswerOnce (stay_of sharing key v)
 unfolding stay_of
 once_so sharing key v once number =
-    let moves : moves_in (v.before ++ Admits key v.ends v.posts ∷ v.since) ≡ moves_in v.before ++ Enters key v.ends ∷ moves_in v.since =
-    moves_both v.before (Admits key v.ends v.posts ∷ v.since) in
-    subst (λ (ms : List Move). AnswersOnce false (done_on sharing number (events_along (new_hall sharing) ms))) moves (once number)
+    let moves : moves_in (v.before ++ Admits key v.ends v.queues ∷ v.since) ≡ moves_in v.before ++ Enters key v.ends ∷ moves_in v.since =
+    moves_both v.before (Admits key v.ends v.queues ∷ v.since) in
+    subst (λ (ms : List Move). AnswersOnce false (done_on sharing number (events_along (new_core sharing) ms))) moves (once number)
 
 pub lawful_visit : (sharing : Sharing) (key : ℕ) (v : Visit sharing key) → ((s : Stay sharing key) → behind.AllAnswerOnce s → IsLawful Ready (towards None stages.Quiet (passed_in s)))
     → visits.ServersAnswerOnce v → IsLawful Ready (happens_in v)

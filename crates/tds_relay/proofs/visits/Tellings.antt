@@ -12,15 +12,15 @@ use Rattle.tds_front.specs.Bytes.{fed, new_front}
 use Rattle.tds_wire.specs.declared.told.Token.{Token}
 use Rattle.tds_service.specs.Line.{Packet}
 use Rattle.tds_service.specs.Parts.{Part}
-use Rattle.tds_relay.specs.declared.desk.coming.What.{What}
-use Rattle.tds_relay.specs.declared.desk.coming.What.TheVariants as whats
-use Rattle.tds_relay.specs.Desk as desk
-use Rattle.tds_relay.specs.Desk.{Sharing, owes_reset, whose}
-use Rattle.tds_relay.specs.Giving.{StaysAll, StaysBy, Visit, house_in}
-use Rattle.tds_relay.specs.Hall as hall
-use Rattle.tds_relay.specs.Hall.{End, Open, Over, Hall, HasEntered, IsQuiet, Move, asks_by, closes, done_by, end_at, end_behind, ends_behind, feeds, goes_on, holder, lets_go, moved, sent_by, told, what_in}
-use Rattle.tds_relay.specs.House as house
-use Rattle.tds_relay.specs.House.{House, IsHanded, IsTold, Manner, MayAll, MayHand, MayStep, Step, Makes, Hands, Takes, Writes, Admits, Removes, Whole, Without, Withheld, after, after_all, end_whose, hears_of_reset, is_said, new_house}
+use Rattle.tds_relay.specs.declared.pool.coming.What.{What}
+use Rattle.tds_relay.specs.declared.pool.coming.What.TheVariants as whats
+use Rattle.tds_relay.specs.Pool as pool
+use Rattle.tds_relay.specs.Pool.{Sharing, owes_reset, whose}
+use Rattle.tds_relay.specs.Giving.{StaysAll, StaysBy, Visit, machine_in}
+use Rattle.tds_relay.specs.Core as core
+use Rattle.tds_relay.specs.Core.{End, Open, Over, Core, HasEntered, IsQuiet, Move, asks_by, closes, done_by, end_at, end_behind, ends_behind, feeds, goes_on, holder, lets_go, moved, sent_by, told, what_in}
+use Rattle.tds_relay.specs.Machine as machine
+use Rattle.tds_relay.specs.Machine.{Machine, IsHanded, IsTold, Manner, MayAll, MayHand, MayStep, Step, Makes, Hands, Takes, Writes, Admits, Removes, Whole, Without, Withheld, after, after_all, end_whose, hears_of_reset, is_said, new_machine}
 use Rattle.tds_relay.specs.Promises.{one_if}
 use Rattle.tds_relay.specs.Telling.{Asks, AsksJust, Event, Hears, IsToldOnce, TakesBack, asked, asked_by, asked_in, happen, happens, happens_to, heard_in, if_its, wants}
 use Rattle.tds_relay.proofs.ends.Ending.{end_behind_is, end_by, whose_by}
@@ -66,17 +66,17 @@ whose_keeps : (by : End → End) → Keeps by → (key : ℕ) (who : Option ℕ)
 whose_keeps by keeps key None asks o at = at
 whose_keeps by keeps key (Some other) asks o at = if_keeps by keeps (other == key) asks o at
 
-quiet_at : (key : ℕ) (h : Hall) (move : Move) → IsQuiet move → (asks : Option Reset) (o : Option End) → AsksJust asks o → AsksJust asks (end_by key h move o)
-quiet_at key h (hall.Does event) quiet asks o at = at
-quiet_at key h (hall.Sends k deed) quiet asks o at = if_keeps (goes_on (sent_by h.desk (desk.Does k deed))) (goes_keeps (sent_by h.desk (desk.Does k deed))) (k == key) asks o at
-quiet_at key h (hall.LetsGo k parks gives way) quiet asks o at = if_keeps lets_go lets_keeps (k == key) asks o at
-quiet_at key h (hall.Loses number) quiet asks o at = whose_keeps closes closes_keeps key (holder h.desk number) asks o at
-quiet_at key h (hall.Replaces number) quiet asks o at = whose_keeps lets_go lets_keeps key (holder h.desk number) asks o at
-quiet_at key h (hall.Comes number part way) quiet asks o at = absurd quiet
-quiet_at key h (hall.Feeds k bytes) quiet asks o at = absurd quiet
-quiet_at key h (hall.Closes k) quiet asks o at = if_keeps closes closes_keeps (k == key) asks o at
-quiet_at key h (hall.Enters k ends) quiet asks o at = absurd quiet
-quiet_at key h (hall.Quits k gives way) quiet asks o at = absurd quiet
+quiet_at : (key : ℕ) (h : Core) (move : Move) → IsQuiet move → (asks : Option Reset) (o : Option End) → AsksJust asks o → AsksJust asks (end_by key h move o)
+quiet_at key h (core.Does event) quiet asks o at = at
+quiet_at key h (core.Sends k action) quiet asks o at = if_keeps (goes_on (sent_by h.pool (pool.Does k action))) (goes_keeps (sent_by h.pool (pool.Does k action))) (k == key) asks o at
+quiet_at key h (core.LetsGo k parks gives way) quiet asks o at = if_keeps lets_go lets_keeps (k == key) asks o at
+quiet_at key h (core.Loses number) quiet asks o at = whose_keeps closes closes_keeps key (holder h.pool number) asks o at
+quiet_at key h (core.Replaces number) quiet asks o at = whose_keeps lets_go lets_keeps key (holder h.pool number) asks o at
+quiet_at key h (core.Comes number part way) quiet asks o at = absurd quiet
+quiet_at key h (core.Feeds k bytes) quiet asks o at = absurd quiet
+quiet_at key h (core.Closes k) quiet asks o at = if_keeps closes closes_keeps (k == key) asks o at
+quiet_at key h (core.Enters k ends) quiet asks o at = absurd quiet
+quiet_at key h (core.Quits k gives way) quiet asks o at = absurd quiet
 
 -- ---- A packet
 
@@ -111,9 +111,9 @@ Handed owed asks what manner part o = IsHanded (is_said what o) manner → IsTol
 handed_by : (owed : Bool) (asks : Option Reset) (said withdrawn : Bool) (is : Option Reset) (what : What) (manner : Manner) (part : Part Token) (front : Front) → is_said what (Some (Open front withdrawn is)) ≡ said → IsHanded said manner
     → IsTold owed (hears_of_reset what (Some (Open front withdrawn is))) manner part → is ≡ asks → Leads asks (heard_in owed what manner part) (Some (told what (Open front withdrawn is)))
 handed_by owed asks true withdrawn is what (Whole tells) part front e on times at =
-    one_leads asks (house.acknowledges what) _ _ (times ∙ ap (λ (r : Option Reset). one_of (is_some r) (house.acknowledges what)) at) (heard_at what withdrawn is front e)
+    one_leads asks (machine.acknowledges what) _ _ (times ∙ ap (λ (r : Option Reset). one_of (is_some r) (machine.acknowledges what)) at) (heard_at what withdrawn is front e)
 handed_by owed asks true withdrawn is what (Without tells bytes) part front e on times at =
-    one_leads asks (house.acknowledges what) _ _ (times ∙ ap (λ (r : Option Reset). one_of (is_some r) (house.acknowledges what)) at) (heard_at what withdrawn is front e)
+    one_leads asks (machine.acknowledges what) _ _ (times ∙ ap (λ (r : Option Reset). one_of (is_some r) (machine.acknowledges what)) at) (heard_at what withdrawn is front e)
 handed_by owed asks true withdrawn is what Withheld part front e on times at = absurd on
 handed_by owed asks false withdrawn is what (Whole tells) part front e on times at = absurd (let u : ⊥ = cc in u)
 handed_by owed asks false withdrawn is what (Without tells bytes) part front e on times at = absurd (let u : ⊥ = cc in u)
@@ -140,15 +140,15 @@ handed_if : (owed : Bool) (key k : ℕ) (b : Bool) (asks : Option Reset) (what :
 handed_if owed key k true asks what manner part o e leads at may = let is = eqb-true k key e in leads is (may is).0 (may is).1 at
 handed_if owed key k false asks what manner part o e leads at may = nothing asks o at
 
-handed_whose : (key : ℕ) (h : House) (number : ℕ) (asks : Option Reset) (manner : Manner) (part : Part Token) (who : Option ℕ) → AsksJust asks (end_at h.hall.ends key)
-    → IsHanded (is_said (what_in (done_by h.hall.desk number part)) (end_whose who h.hall.ends)) manner
-    → IsTold (owes_reset number h.hall.desk) (hears_of_reset (what_in (done_by h.hall.desk number part)) (end_whose who h.hall.ends)) manner part
-    → Leads asks (if_its key who (heard_in (owes_reset number h.hall.desk) (what_in (done_by h.hall.desk number part)) manner part)) (whose_by key who (told (what_in (done_by h.hall.desk number part))) (end_at h.hall.ends key))
-handed_whose key h number asks manner part None at on times = nothing asks (end_at h.hall.ends key) at
+handed_whose : (key : ℕ) (h : Machine) (number : ℕ) (asks : Option Reset) (manner : Manner) (part : Part Token) (who : Option ℕ) → AsksJust asks (end_at h.core.ends key)
+    → IsHanded (is_said (what_in (done_by h.core.pool number part)) (end_whose who h.core.ends)) manner
+    → IsTold (owes_reset number h.core.pool) (hears_of_reset (what_in (done_by h.core.pool number part)) (end_whose who h.core.ends)) manner part
+    → Leads asks (if_its key who (heard_in (owes_reset number h.core.pool) (what_in (done_by h.core.pool number part)) manner part)) (whose_by key who (told (what_in (done_by h.core.pool number part))) (end_at h.core.ends key))
+handed_whose key h number asks manner part None at on times = nothing asks (end_at h.core.ends key) at
 handed_whose key h number asks manner part (Some k) at on times =
-    let what = what_in (done_by h.hall.desk number part) in
-    handed_if (owes_reset number h.hall.desk) key k (k == key) asks what manner part (end_at h.hall.ends key) refl (λ is. handed_leads (owes_reset number h.hall.desk) asks what manner part (end_at h.hall.ends key)) at
-    (λ is. (subst (λ (x : ℕ). IsHanded (is_said what (end_at h.hall.ends x)) manner) is on, subst (λ (x : ℕ). IsTold (owes_reset number h.hall.desk) (hears_of_reset what (end_at h.hall.ends x)) manner part) is times))
+    let what = what_in (done_by h.core.pool number part) in
+    handed_if (owes_reset number h.core.pool) key k (k == key) asks what manner part (end_at h.core.ends key) refl (λ is. handed_leads (owes_reset number h.core.pool) asks what manner part (end_at h.core.ends key)) at
+    (λ is. (subst (λ (x : ℕ). IsHanded (is_said what (end_at h.core.ends x)) manner) is on, subst (λ (x : ℕ). IsTold (owes_reset number h.core.pool) (hears_of_reset what (end_at h.core.ends x)) manner part) is times))
 
 -- ---- Its bytes
 
@@ -176,25 +176,25 @@ fed_if asks false bytes o at = nothing asks o at
 
 -- ---- A step
 
-leads_at : (key : ℕ) (h : Hall) (move : Move) (asks : Option Reset) (events : List Event) → Leads asks events (end_by key h move (end_at h.ends key)) → Leads asks events (end_at (moved h move).ends key)
+leads_at : (key : ℕ) (h : Core) (move : Move) (asks : Option Reset) (events : List Event) → Leads asks events (end_by key h move (end_at h.ends key)) → Leads asks events (end_at (moved h move).ends key)
 leads_at key h move asks events leads = subst (λ (o : Option End). Leads asks events o) (sym (end_behind_is key h move)) leads
 
 quits_if : (k key : ℕ) (b : Bool) (asks : Option Reset) (o : Option End) → (k == key) ≡ b → key ≢ k → AsksJust asks o → AsksJust asks (if b then None else o)
 quits_if k key true asks o e other at = tt
 quits_if k key false asks o e other at = at
 
-step_leads : (key : ℕ) (h : House) (step : Step) (asks : Option Reset) → MayStep h step → StaysBy key step → AsksJust asks (end_at h.hall.ends key)
-    → Leads asks (happens key h step) (end_at (after h step).hall.ends key)
-step_leads key h (Makes move) asks may stays at = leads_at key h.hall move asks [] (nothing asks (end_by key h.hall move (end_at h.hall.ends key)) (quiet_at key h.hall move may.1 asks (end_at h.hall.ends key) at))
+step_leads : (key : ℕ) (h : Machine) (step : Step) (asks : Option Reset) → MayStep h step → StaysBy key step → AsksJust asks (end_at h.core.ends key)
+    → Leads asks (happens key h step) (end_at (after h step).core.ends key)
+step_leads key h (Makes move) asks may stays at = leads_at key h.core move asks [] (nothing asks (end_by key h.core move (end_at h.core.ends key)) (quiet_at key h.core move may.1 asks (end_at h.core.ends key) at))
 step_leads key h (Hands number header content part way manner) asks may stays at =
-    leads_at key h.hall (hall.Comes number part way) asks _ (handed_whose key h number asks manner part (whose h.hall.desk number) at may.handed_on may.told)
+    leads_at key h.core (core.Comes number part way) asks _ (handed_whose key h number asks manner part (whose h.core.pool number) at may.handed_on may.told)
 step_leads key h (Takes other bytes) asks may stays at =
-    leads_at key h.hall (hall.Feeds other bytes) asks _ (fed_if asks (other == key) bytes (end_at h.hall.ends key) at)
-step_leads key h (Writes other count) asks may stays at = nothing asks (end_at h.hall.ends key) at
-step_leads key h (Admits other ends posts) asks may stays at =
+    leads_at key h.core (core.Feeds other bytes) asks _ (fed_if asks (other == key) bytes (end_at h.core.ends key) at)
+step_leads key h (Writes other count) asks may stays at = nothing asks (end_at h.core.ends key) at
+step_leads key h (Admits other ends queues) asks may stays at =
     nothing asks (end_at ends key) (subst (λ (o : Option End). AsksJust asks o) (sym (may.0.others_stay key stays)) at)
 step_leads key h (Removes other gives way) asks may stays at =
-    leads_at key h.hall (hall.Quits other gives way) asks [] (nothing asks _ (quits_if other key (other == key) asks (end_at h.hall.ends key) refl stays at))
+    leads_at key h.core (core.Quits other gives way) asks [] (nothing asks _ (quits_if other key (other == key) asks (end_at h.core.ends key) refl stays at))
 
 -- ---- Along steps
 
@@ -204,30 +204,30 @@ wants_both asks (Asks reset ∷ xs) ys = wants_both reset xs ys
 wants_both asks (TakesBack ∷ xs) ys = wants_both None xs ys
 wants_both asks (Hears acknowledges times ∷ xs) ys = wants_both None xs ys
 
-wants_along : (key : ℕ) (h : House) (steps : List Step) (asks : Option Reset) → MayAll h steps → StaysAll key steps → AsksJust asks (end_at h.hall.ends key)
-    → AsksJust (wants asks (happen key h steps)) (end_at (after_all h steps).hall.ends key)
+wants_along : (key : ℕ) (h : Machine) (steps : List Step) (asks : Option Reset) → MayAll h steps → StaysAll key steps → AsksJust asks (end_at h.core.ends key)
+    → AsksJust (wants asks (happen key h steps)) (end_at (after_all h steps).core.ends key)
 wants_along key h [] asks may stays at = at
 wants_along key h (step ∷ steps) asks may stays at =
     let one = step_leads key h step asks may.0 stays.0 at in
-    subst (λ (r : Option Reset). AsksJust r (end_at (after_all (after h step) steps).hall.ends key)) (sym (wants_both asks (happens key h step) (happen key (after h step) steps)))
+    subst (λ (r : Option Reset). AsksJust r (end_at (after_all (after h step) steps).core.ends key)) (sym (wants_both asks (happens key h step) (happen key (after h step) steps)))
     (wants_along key (after h step) steps (wants asks (happens key h step)) may.1 stays.1 one.at)
 
-pub told_along : (key : ℕ) (h : House) (steps : List Step) (asks : Option Reset) → MayAll h steps → StaysAll key steps → AsksJust asks (end_at h.hall.ends key) → IsToldOnce (is_some asks) (happen key h steps)
+pub told_along : (key : ℕ) (h : Machine) (steps : List Step) (asks : Option Reset) → MayAll h steps → StaysAll key steps → AsksJust asks (end_at h.core.ends key) → IsToldOnce (is_some asks) (happen key h steps)
 told_along key h [] asks may stays at = tt
 told_along key h (step ∷ steps) asks may stays at =
     let one = step_leads key h step asks may.0 stays.0 at in
     one.once (happen key (after h step) steps) (told_along key (after h step) steps (wants asks (happens key h step)) may.1 stays.1 one.at)
 
-begun : (sharing : Sharing) (key : ℕ) (v : Visit sharing key) → MayAll (house_in v) v.since × AsksJust None (end_at (house_in v).hall.ends key)
+begun : (sharing : Sharing) (key : ℕ) (v : Visit sharing key) → MayAll (machine_in v) v.since × AsksJust None (end_at (machine_in v).core.ends key)
 begun sharing key v =
     let c = came sharing key v in
-    let entered : HasEntered key (after_all (new_house sharing) v.before).hall.ends v.ends = c.may_come.0 in
-    let begins : end_at (house_in v).hall.ends key ≡ Some (Open (new_front entered.size) false None) = ap (λ (h : House). end_at h.hall.ends key) c.house_is ∙ entered.begins in
+    let entered : HasEntered key (after_all (new_machine sharing) v.before).core.ends v.ends = c.may_come.0 in
+    let begins : end_at (machine_in v).core.ends key ≡ Some (Open (new_front entered.size) false None) = ap (λ (h : Machine). end_at h.core.ends key) c.machine_is ∙ entered.begins in
     (c.may_since, subst (AsksJust None) (sym begins) refl)
 
 pub told_visit : (sharing : Sharing) (key : ℕ) (v : Visit sharing key) → IsToldOnce false (happens_to v)
-told_visit sharing key v = let at = begun sharing key v in told_along key (house_in v) v.since None at.0 v.stays at.1
+told_visit sharing key v = let at = begun sharing key v in told_along key (machine_in v) v.since None at.0 v.stays at.1
 
 -- its end has it as its bytes have said
-pub wants_in : (sharing : Sharing) (key : ℕ) (v : Visit sharing key) → AsksJust (wants None (happens_to v)) (end_at (after_all (house_in v) v.since).hall.ends key)
-wants_in sharing key v = let at = begun sharing key v in wants_along key (house_in v) v.since None at.0 v.stays at.1
+pub wants_in : (sharing : Sharing) (key : ℕ) (v : Visit sharing key) → AsksJust (wants None (happens_to v)) (end_at (after_all (machine_in v) v.since).core.ends key)
+wants_in sharing key v = let at = begun sharing key v in wants_along key (machine_in v) v.since None at.0 v.stays at.1

@@ -3,24 +3,23 @@ ghost use Rattle.std.specs.Prelude.{◌≡◌, ◌≤◌, [], Bool, None, IfOk, 
 ghost use Rattle.std.specs.Prelude.{drop, false, length, true};
 ghost use Rattle.slab.specs.Slab.{get};
 ghost use Rattle.tds_relay.specs.Asking.{Asks, AsksOn, IfAsks, IsUnderway, waits_of};
-ghost use Rattle.tds_relay.specs.Bodies.{Body, HeedsAll, HeedsOn, CancelsSaid, Carries, CarriesOn};
-ghost use Rattle.tds_relay.specs.Bodies.{Grows, Obeys, Starts, body_of, last_of, standing_in};
-ghost use Rattle.tds_relay.specs.Bodies.{standing_open};
+ghost use Rattle.tds_relay.specs.Bodies.{Body, HeedsAll, HeedsOn, HeedsServed, CancelsSaid, Carries};
+ghost use Rattle.tds_relay.specs.Bodies.{CarriesOn, Grows, GrowsFrom, Obeys, PutsSaid, Starts, GoesFrom, body_of};
+ghost use Rattle.tds_relay.specs.Bodies.{last_of, standing_in, standing_open};
 ghost use Rattle.tds_relay.specs.Closings.{ClosesOnly, register_in};
-ghost use Rattle.tds_relay.specs.Desk.{find_key};
+ghost use Rattle.tds_relay.specs.Pool.{find_key};
 ghost use Rattle.tds_relay.specs.Few.{Few, IsSeated, NobodyWaits};
-ghost use Rattle.tds_relay.specs.Fronts.{FedOn, Moved, ends_in, given_by, hall_in, house_in};
-ghost use Rattle.tds_relay.specs.Hall.{IfOpen, IsBegun, end_at, holder};
-ghost use Rattle.tds_relay.specs.House.{Steps};
+ghost use Rattle.tds_relay.specs.Fronts.{FedOn, Moved, ends_in, given_by, core_in, machine_in};
+ghost use Rattle.tds_relay.specs.Core.{IfOpen, IsBegun, end_at, holder};
+ghost use Rattle.tds_relay.specs.Machine.{Steps};
 ghost use Rattle.tds_relay.specs.Lent.{OthersKeepAt, PutsOnly};
-ghost use Rattle.tds_relay.specs.Posts.{names_in, posts_in};
+ghost use Rattle.tds_relay.specs.Queues.{names_in, queues_in};
 ghost use Rattle.tds_relay.specs.Reads.{Opens, Stays};
-ghost use Rattle.tds_relay.specs.Reasons.{CannotGoOnAt, ForReasonOrWaiting};
-ghost use Rattle.tds_relay.specs.Reasons.{GivesReason, HasReason, IsTurnedAwayAt, ItselfFor, MayCloseAt};
+ghost use Rattle.tds_relay.specs.Reasons.{CannotGoOnAt, GivesReason, IsTurnedAwayAt, ItselfFor, MayCloseAt};
 ghost use Rattle.tds_relay.specs.Taking.{Tells, TellsOn};
-ghost use Rattle.tds_relay.specs.Ties.{Application, Goes, IsReached, desk_in};
-ghost use Rattle.tds_relay.specs.Waiting.{KeepsInLine, KeepsSaid};
-ghost use Rattle.tds_relay.specs.Walkers.{AllStand};
+ghost use Rattle.tds_relay.specs.Ties.{Application, Goes, IsReached, pool_in};
+ghost use Rattle.tds_relay.specs.Waiting.{KeepsInLine, KeepsSaid, ForReasonOrWaiting, HasReason, IsRightlyKept};
+ghost use Rattle.tds_relay.specs.TokenParsers.{AllStand};
 ghost use Rattle.tds_relay.specs.Ordering.{GrowsByOrders, OpensNew, opens_in};
 ghost use Rattle.tds_relay.specs.Sparing.{OthersGo, OthersRest};
 
@@ -34,35 +33,35 @@ impl Relay {
     /// These bytes of an application came. At most as many as `room` says are to be handed in.
     pub fn said(&mut self, key: usize, piece: &[u8]) -> Result<(), NoMemory>
         ensures goes { OnOk result (Goes (Application key)
-            (desk_in self.old.desk) (desk_in self.new.desk)) }
+            (pool_in self.old.pool) (pool_in self.new.pool)) }
         ensures names { OnOk result (names_in self.new.applications
             ≡ names_in self.old.applications) }
-        ensures steps { OnOk result (Steps (Application key) (house_in self.old)
-            (house_in self.new)) }
-        ensures tells { OnOk result (Tells key (house_in self.old) piece.now []
-            (house_in self.new)) }
-        ensures asks { OnOk result (Asks key (house_in self.old) piece.now []
-            self.new.links.items (house_in self.new)) }
+        ensures steps { OnOk result (Steps (Application key) (machine_in self.old)
+            (machine_in self.new)) }
+        ensures tells { OnOk result (Tells key (machine_in self.old) piece.now []
+            (machine_in self.new)) }
+        ensures asks { OnOk result (Asks key (machine_in self.old) piece.now []
+            self.new.links.items (machine_in self.new)) }
         ensures served { OnOk result (NobodyWaits self.new) }
         ensures few { OnOk result (Few self.old.most self.old.links.items
             self.new.links.items) }
         ensures opens { OnOk result (Opens self.old.links.items self.new.links.items) }
-        ensures stand { OnOk result (AllStand self.old.desk.service
-            self.new.desk.service) }
-        ensures carries { IsReached (desk_in self.old.desk) → OnOk result (Carries key
-            (house_in self.old) piece.now [] (body_of key self.old) (body_of key self.new)
-            (house_in self.new)) }
+        ensures stand { OnOk result (AllStand self.old.pool.service
+            self.new.pool.service) }
+        ensures carries { IsReached (pool_in self.old.pool) → OnOk result (Carries key
+            (machine_in self.old) piece.now [] (body_of key self.old) (body_of key self.new)
+            (machine_in self.new)) }
         ensures closes { OnOk result (ClosesOnly (ForReasonOrWaiting key piece.now self.old)
             (register_in self.old) (register_in self.new)) }
         ensures seated { IsSeated self.old → OnOk result (IsSeated self.new) }
         ensures others { OnOk result (OthersGo key self.old self.new) }
-        ensures cancels { IsReached (desk_in self.old.desk) → OnOk result (HeedsAll key
-            (house_in self.old) piece.now [] (standing_in key self.old)
-            (standing_open key self.new) (house_in self.new)) }
+        ensures cancels { IsReached (pool_in self.old.pool) → OnOk result (HeedsServed key
+            (machine_in self.old) piece.now (standing_in key self.old)
+            (standing_open key self.new) (machine_in self.new)) }
         ensures opening { OnOk result (OpensNew self.old self.new) }
         ensures many { OnOk result (GrowsByOrders self.old self.new) }
-        ensures puts { IsReached (desk_in self.old.desk) → OnOk result (PutsOnly
-            (λ number. holder (desk_in self.old.desk) number ≡ Some key) self.old self.new) }
+        ensures puts { IsReached (pool_in self.old.pool) → OnOk result (PutsOnly
+            (λ number. holder (pool_in self.old.pool) number ≡ Some key) self.old self.new) }
     {
         self.take_all(key, piece)?;
         self.serve_line()
@@ -71,28 +70,29 @@ impl Relay {
     /// Takes them, one packet's header or data behind another: a byte at least in each turn.
     fn take_all(&mut self, key: usize, piece: &[u8]) -> Result<(), NoMemory>
         ensures goes { OnOk result (Goes (Application key)
-            (desk_in self.old.desk) (desk_in self.new.desk)) }
+            (pool_in self.old.pool) (pool_in self.new.pool)) }
         ensures names { OnOk result (names_in self.new.applications
             ≡ names_in self.old.applications) }
-        ensures tells { OnOk result (Tells key (house_in self.old) piece.now []
-            (house_in self.new)) }
-        ensures asks { OnOk result (Asks key (house_in self.old) piece.now []
-            self.new.links.items (house_in self.new)) }
+        ensures tells { OnOk result (Tells key (machine_in self.old) piece.now []
+            (machine_in self.new)) }
+        ensures asks { OnOk result (Asks key (machine_in self.old) piece.now []
+            self.new.links.items (machine_in self.new)) }
         ensures read { OnOk result (Stays self.old.links.items self.new.links.items) }
-        ensures stand { OnOk result (AllStand self.old.desk.service
-            self.new.desk.service) }
-        ensures carries { OnOk result (Carries key (house_in self.old) piece.now []
-            (body_of key self.old) (body_of key self.new) (house_in self.new)) }
+        ensures stand { OnOk result (AllStand self.old.pool.service
+            self.new.pool.service) }
+        ensures carries { OnOk result (Carries key (machine_in self.old) piece.now []
+            (body_of key self.old) (body_of key self.new) (machine_in self.new)) }
         ensures closes { OnOk result (ClosesOnly (ItselfFor key (HasReason key piece.now self.old))
             (register_in self.old) (register_in self.new)) }
         ensures seated { IsSeated self.old → OnOk result (IsSeated self.new) }
-        ensures others { IsReached (desk_in self.old.desk)
+        ensures others { IsReached (pool_in self.old.pool)
             → OnOk result (OthersRest key self.old self.new) }
-        ensures cancels { OnOk result (HeedsAll key (house_in self.old) piece.now []
-            (standing_in key self.old) (standing_in key self.new) (house_in self.new)) }
+        ensures cancels { OnOk result (HeedsAll key (machine_in self.old) piece.now []
+            (standing_in key self.old) (standing_in key self.new) (machine_in self.new)) }
         ensures opening { opens_in self.new.orders.items ≡ opens_in self.old.orders.items }
-        ensures aside { IsReached (desk_in self.old.desk)
+        ensures aside { IsReached (pool_in self.old.pool)
             → OnOk result (OthersKeepAt key self.old self.new) }
+        ensures right { IsRightlyKept key self.old → OnOk result (IsRightlyKept key self.new) }
     {
         let mut rest = piece;
         'taking: for _ in 0..piece.len() {
@@ -109,30 +109,32 @@ impl Relay {
     #[tactic(auto, using(crate::proofs::steps::Staying::stays_refl))]
     fn take(&mut self, key: usize, piece: &[u8]) -> Result<usize, NoMemory>
         ensures goes { OnOk result (Goes (Application key)
-            (desk_in self.old.desk) (desk_in self.new.desk)) }
+            (pool_in self.old.pool) (pool_in self.new.pool)) }
         ensures names { OnOk result (names_in self.new.applications
             ≡ names_in self.old.applications) }
         ensures tells { IfOk result (λ count. TellsOn key piece.now (drop count piece.now)
-            (house_in self.old) (house_in self.new)) }
+            (machine_in self.old) (machine_in self.new)) }
         ensures asks { IfOk result (λ count. AsksOn key piece.now (drop count piece.now)
-            self.old.links.items self.new.links.items (house_in self.old) (house_in self.new)) }
+            self.old.links.items self.new.links.items (machine_in self.old) (machine_in self.new)) }
         ensures read { OnOk result (Stays self.old.links.items self.new.links.items) }
-        ensures stand { OnOk result (AllStand self.old.desk.service
-            self.new.desk.service) }
+        ensures stand { OnOk result (AllStand self.old.pool.service
+            self.new.pool.service) }
         ensures carries { IfOk result (λ count. CarriesOn key piece.now (drop count piece.now)
-            (body_of key self.old) (body_of key self.new) (house_in self.old) (house_in self.new)) }
+            (body_of key self.old) (body_of key self.new)
+            (machine_in self.old) (machine_in self.new)) }
         ensures closes { OnOk result (ClosesOnly (ItselfFor key
             (GivesReason piece.now key self.old)) (register_in self.old) (register_in self.new)) }
         ensures some { IfOk result (λ count. 1 ≤ length piece.now → 1 ≤ count) }
         ensures seated { IsSeated self.old → OnOk result (IsSeated self.new) }
-        ensures others { IsReached (desk_in self.old.desk)
+        ensures others { IsReached (pool_in self.old.pool)
             → OnOk result (OthersRest key self.old self.new) }
         ensures cancels { IfOk result (λ count. HeedsOn key piece.now (drop count piece.now)
-            (standing_in key self.old) (standing_in key self.new) (house_in self.old)
-            (house_in self.new)) }
+            (standing_in key self.old) (standing_in key self.new) (machine_in self.old)
+            (machine_in self.new)) }
         ensures opening { opens_in self.new.orders.items ≡ opens_in self.old.orders.items }
-        ensures aside { IsReached (desk_in self.old.desk)
+        ensures aside { IsReached (pool_in self.old.pool)
             → OnOk result (OthersKeepAt key self.old self.new) }
+        ensures right { IsRightlyKept key self.old → OnOk result (IsRightlyKept key self.new) }
     {
         let Some(application) = self.applications.get_mut(key) else {
             return Ok(piece.len());
@@ -155,32 +157,35 @@ impl Relay {
     /// Does what is to be done with these bytes.
     fn obey(&mut self, key: usize, bytes: &[u8], said: Said) -> Result<(), NoMemory>
         ensures goes { OnOk result (Goes (Application key)
-            (desk_in self.old.desk) (desk_in self.new.desk)) }
-        ensures given { OnOk result (posts_in self.new.applications
-            ≡ given_by key said (posts_in self.old.applications)) }
-        ensures moves { OnOk result (FedOn key said (desk_in self.old.desk)
-            (ends_in self.old.applications) (hall_in self.new)) }
+            (pool_in self.old.pool) (pool_in self.new.pool)) }
+        ensures given { OnOk result (queues_in self.new.applications
+            ≡ given_by key said (queues_in self.old.applications)) }
+        ensures moves { OnOk result (FedOn key said (pool_in self.old.pool)
+            (ends_in self.old.applications) (core_in self.new)) }
         ensures underway { OnOk result (IfAsks (λ whole. IsUnderway whole
-            self.new.links.items key (hall_in self.new)) said) }
+            self.new.links.items key (core_in self.new)) said) }
         ensures read { OnOk result (Stays self.old.links.items self.new.links.items) }
-        ensures stand { OnOk result (AllStand self.old.desk.service
-            self.new.desk.service) }
+        ensures stand { OnOk result (AllStand self.old.pool.service
+            self.new.pool.service) }
         ensures body { OnOk result (Obeys said bytes.now (body_of key self.old)
             (body_of key self.new)) }
         ensures closes { OnOk result (ClosesOnly (ItselfFor key (MayCloseAt said bytes.now key
             (end_at (ends_in self.old.applications) key) self.old))
             (register_in self.old) (register_in self.new)) }
-        ensures keeps { find_key key (desk_in self.old.desk).holds ≡ None
+        ensures keeps { find_key key (pool_in self.old.pool).holds ≡ None
             → OnOk result (KeepsSaid said bytes.now (get self.old.applications key)
             (body_of key self.new)) }
         ensures seated { IsSeated self.old → OnOk result (IsSeated self.new) }
-        ensures others { IsReached (desk_in self.old.desk)
+        ensures others { IsReached (pool_in self.old.pool)
             → OnOk result (OthersRest key self.old self.new) }
         ensures cancels { OnOk result (CancelsSaid said (body_of key self.old)
             (standing_in key self.new)) }
         ensures opening { opens_in self.new.orders.items ≡ opens_in self.old.orders.items }
-        ensures aside { IsReached (desk_in self.old.desk)
+        ensures aside { IsReached (pool_in self.old.pool)
             → OnOk result (OthersKeepAt key self.old self.new) }
+        ensures puts { OnOk result (PutsSaid said bytes.now (standing_in key self.old)
+            (standing_in key self.new)) }
+        ensures right { IsRightlyKept key self.old → OnOk result (IsRightlyKept key self.new) }
     {
         bytes_are_packets();
         match said {
@@ -202,63 +207,69 @@ impl Relay {
     /// in the line where it holds none.
     fn seek(&mut self, key: usize) -> Result<(), NoMemory>
         ensures goes { OnOk result (Goes (Application key)
-            (desk_in self.old.desk) (desk_in self.new.desk)) }
-        ensures kept { OnOk result (posts_in self.new.applications
-            ≡ posts_in self.old.applications) }
+            (pool_in self.old.pool) (pool_in self.new.pool)) }
+        ensures kept { OnOk result (queues_in self.new.applications
+            ≡ queues_in self.old.applications) }
         ensures moves { OnOk result (IfOpen IsBegun (end_at (ends_in self.old.applications) key)
-            → Moved (Application key) (hall_in self.old) (hall_in self.new)) }
+            → Moved (Application key) (core_in self.old) (core_in self.new)) }
         ensures underway { (whole : Bool) → waits_of (get self.old.applications key) ≡ Some whole
-            → OnOk result (IsUnderway whole self.new.links.items key (hall_in self.new)) }
+            → OnOk result (IsUnderway whole self.new.links.items key (core_in self.new)) }
         ensures read { OnOk result (Stays self.old.links.items self.new.links.items) }
-        ensures stand { OnOk result (AllStand self.old.desk.service
-            self.new.desk.service) }
+        ensures stand { OnOk result (AllStand self.old.pool.service
+            self.new.pool.service) }
         ensures body { OnOk result (Starts (body_of key self.old) (body_of key self.new)) }
-        ensures stays { find_key key (desk_in self.old.desk).holds ≡ None
+        ensures stays { find_key key (pool_in self.old.pool).holds ≡ None
             → OnOk result (body_of key self.new ≡ body_of key self.old) }
         ensures closes { OnOk result (ClosesOnly (ItselfFor key (IsTurnedAwayAt key self.old))
             (register_in self.old) (register_in self.new)) }
         ensures seated { IsSeated self.old → OnOk result (IsSeated self.new) }
-        ensures others { IsReached (desk_in self.old.desk)
+        ensures others { IsReached (pool_in self.old.pool)
             → OnOk result (OthersRest key self.old self.new) }
         ensures opening { opens_in self.new.orders.items ≡ opens_in self.old.orders.items }
-        ensures aside { IsReached (desk_in self.old.desk)
+        ensures aside { IsReached (pool_in self.old.pool)
             → OnOk result (OthersKeepAt key self.old self.new) }
+        ensures puts { OnOk result (GoesFrom (standing_in key self.old)
+            (standing_in key self.new)) }
+        ensures right { OnOk result (IsRightlyKept key self.new) }
     {
-        match self.desk.hold_of(key) {
+        match self.pool.hold_of(key) {
             Some(_) => self.start_kept(key),
             None => self.wait(key),
         }
     }
 
     /// The next bytes of its request's body, with which it is whole or not.
-    #[tactic(auto, using(crate::proofs::steps::Posting::kept_more, crate::proofs::steps::Posting::posts_kept, crate::proofs::steps::Fronts::ends_more, crate::proofs::steps::Fronts::ends_kept, crate::proofs::steps::Staying::stays_refl, crate::proofs::steps::Underway::of_none))]
+    #[tactic(auto, using(crate::proofs::steps::Queueing::kept_more, crate::proofs::steps::Queueing::queues_kept, crate::proofs::steps::Fronts::ends_more, crate::proofs::steps::Fronts::ends_kept, crate::proofs::steps::Staying::stays_refl, crate::proofs::steps::Underway::of_none))]
     fn go_on(&mut self, key: usize, bytes: &[u8], whole: bool) -> Result<(), NoMemory>
         ensures goes { OnOk result (Goes (Application key)
-            (desk_in self.old.desk) (desk_in self.new.desk)) }
-        ensures kept { OnOk result (posts_in self.new.applications
-            ≡ posts_in self.old.applications) }
-        ensures moves { OnOk result (Moved (Application key) (hall_in self.old)
-            (hall_in self.new)) }
+            (pool_in self.old.pool) (pool_in self.new.pool)) }
+        ensures kept { OnOk result (queues_in self.new.applications
+            ≡ queues_in self.old.applications) }
+        ensures moves { OnOk result (Moved (Application key) (core_in self.old)
+            (core_in self.new)) }
         ensures underway { OnOk result (IsUnderway whole self.new.links.items key
-            (hall_in self.new)) }
+            (core_in self.new)) }
         ensures read { OnOk result (Stays self.old.links.items self.new.links.items) }
-        ensures stand { OnOk result (AllStand self.old.desk.service
-            self.new.desk.service) }
+        ensures stand { OnOk result (AllStand self.old.pool.service
+            self.new.pool.service) }
         ensures body { OnOk result ((mid : Body)
             × Grows whole bytes.now (body_of key self.old) mid
             × Starts mid (body_of key self.new)) }
-        ensures keeps { find_key key (desk_in self.old.desk).holds ≡ None
+        ensures keeps { find_key key (pool_in self.old.pool).holds ≡ None
             → OnOk result (KeepsInLine whole bytes.now (get self.old.applications key)
             (body_of key self.new)) }
         ensures closes { OnOk result (ClosesOnly (ItselfFor key
             (CannotGoOnAt whole bytes.now key self.old)) (register_in self.old)
             (register_in self.new)) }
         ensures seated { IsSeated self.old → OnOk result (IsSeated self.new) }
-        ensures others { IsReached (desk_in self.old.desk)
+        ensures others { IsReached (pool_in self.old.pool)
             → OnOk result (OthersRest key self.old self.new) }
         ensures opening { opens_in self.new.orders.items ≡ opens_in self.old.orders.items }
-        ensures aside { IsReached (desk_in self.old.desk)
+        ensures aside { IsReached (pool_in self.old.pool)
             → OnOk result (OthersKeepAt key self.old self.new) }
+        ensures puts { OnOk result (GrowsFrom whole bytes.now (standing_in key self.old)
+            (standing_in key self.new)) }
+        ensures right { OnOk result (IsRightlyKept key self.new) }
     {
         let Some(application) = self.applications.get_mut(key) else {
             return Ok(());

@@ -5,27 +5,28 @@ ghost use Rattle.slab.specs.Slab.{get};
 ghost use Rattle.tds_relay.specs.Asking.{IsTakenBack, IsUnderway, waits_of};
 ghost use Rattle.tds_client.specs.Streams.{packets_are};
 ghost use Rattle.tds_packet.specs.declared.status.Reset.TheVariants.{KeepTransaction};
-ghost use Rattle.tds_relay.specs.Bodies.{Begins, Body, Starts};
-ghost use Rattle.tds_relay.specs.Bodies.{body_of};
+ghost use Rattle.tds_relay.specs.Bodies.{Begins, BeginsFrom, Body, Starts};
+ghost use Rattle.tds_relay.specs.Bodies.{body_of, standing_in};
 ghost use Rattle.tds_relay.specs.Closings.{ClosesOnly, IsNoRequest, register_in};
 ghost use Rattle.tds_relay.specs.Few.{IsSeated};
-ghost use Rattle.tds_relay.specs.Fronts.{Moved, ends_in, hall_in};
-ghost use Rattle.tds_relay.specs.Hall.{AsksFor, AsksToPart, IfAsked, IfOpen, IsBegun, end_at};
+ghost use Rattle.tds_relay.specs.Fronts.{Moved, ends_in, core_in};
+ghost use Rattle.tds_relay.specs.Core.{AsksFor, AsksToPart, IfAsked, IfOpen, IsBegun, end_at};
 ghost use Rattle.tds_relay.specs.Lent.{OthersKeepAt};
+ghost use Rattle.tds_relay.specs.Waiting.{IsRightlyKept};
 ghost use Rattle.tds_relay.specs.Ordering.{opens_in};
 ghost use Rattle.tds_relay.specs.Places.{HasNoTransaction};
-ghost use Rattle.tds_relay.specs.Posts.{posts_in};
+ghost use Rattle.tds_relay.specs.Queues.{queues_in};
 ghost use Rattle.tds_relay.specs.Reads.{Stays};
 ghost use Rattle.tds_relay.specs.Reasons.{CannotBegin, CannotPart, HasTransaction};
 ghost use Rattle.tds_relay.specs.Reasons.{IsUnrenewed, ItselfFor};
-ghost use Rattle.tds_relay.specs.Ties.{Application, Goes, IsReached, desk_in};
-ghost use Rattle.tds_relay.specs.Walkers.{AllStand};
+ghost use Rattle.tds_relay.specs.Ties.{Application, Goes, IsReached, pool_in};
+ghost use Rattle.tds_relay.specs.TokenParsers.{AllStand};
 ghost use Rattle.tds_relay.specs.Sparing.{OthersRest};
 
 use super::Relay;
 use crate::NoMemory;
 use crate::application::Asking;
-use crate::desk::Renewed;
+use crate::pool::Renewed;
 use tds_client::MessageKind;
 use tds_packet::{Kind, Reset};
 
@@ -33,7 +34,7 @@ impl Relay {
     /// A request begins. Where it asks for a reset itself, its application gives back what it holds; but
     /// where the transaction is to stay, its connection stays too: whether there is one is known once the
     /// server has acknowledged what was taken back before.
-    #[tactic(auto, using(crate::proofs::steps::Reaching::reaches_turn, crate::proofs::steps::Reaching::reaches_left, crate::proofs::steps::Posting::kept_more, crate::proofs::steps::Posting::posts_kept, crate::proofs::steps::Fronts::ends_more, crate::proofs::steps::Fronts::ends_kept, crate::proofs::steps::Staying::stays_refl, crate::proofs::steps::Underway::of_none))]
+    #[tactic(auto, using(crate::proofs::steps::Reaching::reaches_turn, crate::proofs::steps::Reaching::reaches_left, crate::proofs::steps::Queueing::kept_more, crate::proofs::steps::Queueing::queues_kept, crate::proofs::steps::Fronts::ends_more, crate::proofs::steps::Fronts::ends_kept, crate::proofs::steps::Staying::stays_refl, crate::proofs::steps::Underway::of_none))]
     pub(super) fn begin(
         &mut self,
         key: usize,
@@ -41,28 +42,31 @@ impl Relay {
         reset: Option<Reset>,
     ) -> Result<(), NoMemory>
         ensures goes { OnOk result (Goes (Application key)
-            (desk_in self.old.desk) (desk_in self.new.desk)) }
-        ensures kept { OnOk result (posts_in self.new.applications
-            ≡ posts_in self.old.applications) }
+            (pool_in self.old.pool) (pool_in self.new.pool)) }
+        ensures kept { OnOk result (queues_in self.new.applications
+            ≡ queues_in self.old.applications) }
         ensures moves { OnOk result (IfAsked reset (end_at (ends_in self.old.applications) key)
             → IfOpen IsBegun (end_at (ends_in self.old.applications) key)
-            → Moved (Application key) (hall_in self.old) (hall_in self.new)) }
+            → Moved (Application key) (core_in self.old) (core_in self.new)) }
         ensures underway { OnOk result (IsUnderway false self.new.links.items key
-            (hall_in self.new)) }
+            (core_in self.new)) }
         ensures read { OnOk result (Stays self.old.links.items self.new.links.items) }
-        ensures stand { OnOk result (AllStand self.old.desk.service
-            self.new.desk.service) }
+        ensures stand { OnOk result (AllStand self.old.pool.service
+            self.new.pool.service) }
         ensures body { OnOk result ((mid : Body) × Begins kind mid
             × Starts mid (body_of key self.new)) }
         ensures closes { OnOk result (ClosesOnly (ItselfFor key (CannotBegin kind reset key
-            (end_at (ends_in self.old.applications) key) self.old.desk self.old.links.items))
+            (end_at (ends_in self.old.applications) key) self.old.pool self.old.links.items))
             (register_in self.old) (register_in self.new)) }
-        ensures others { IsReached (desk_in self.old.desk)
+        ensures others { IsReached (pool_in self.old.pool)
             → OnOk result (OthersRest key self.old self.new) }
         ensures seated { IsSeated self.old → OnOk result (IsSeated self.new) }
         ensures opening { opens_in self.new.orders.items ≡ opens_in self.old.orders.items }
-        ensures aside { IsReached (desk_in self.old.desk)
+        ensures aside { IsReached (pool_in self.old.pool)
             → OnOk result (OthersKeepAt key self.old self.new) }
+        ensures puts { OnOk result (reset ≡ None → BeginsFrom kind (standing_in key self.old)
+            (standing_in key self.new)) }
+        ensures right { OnOk result (IsRightlyKept key self.new) }
     {
         let Some(application) = self.applications.get_mut(key) else {
             return Ok(());
@@ -71,7 +75,7 @@ impl Relay {
             return self.expel(key);
         };
         application.forget(Asking::Waits { kind, whole: false });
-        let holds = self.desk.hold_of(key).is_some();
+        let holds = self.pool.hold_of(key).is_some();
         match (holds, reset) {
             (false, _) => self.wait(key),
             (true, None) => self.start(key),
@@ -91,12 +95,13 @@ impl Relay {
     #[tactic(auto, using(crate::proofs::steps::Underway::drains))]
     fn may_keep_later(&self, key: usize) -> bool
         ensures later { result ≡ true
-            → IsUnderway false self.now.links.items key (hall_in self.now) }
+            → IsUnderway false self.now.links.items key (core_in self.now) }
         ensures not { result ≡ false
             → IsTakenBack (end_at (ends_in self.now.applications) key)
-            → HasNoTransaction (desk_in self.now.desk) key }
+            → HasNoTransaction (pool_in self.now.pool) key }
+        ensures right { result ≡ true → IsRightlyKept key self.now }
     {
-        let Some(hold) = self.desk.hold_of(key) else {
+        let Some(hold) = self.pool.hold_of(key) else {
             return false;
         };
         let Some(application) = self.applications.get(key) else {
@@ -105,41 +110,42 @@ impl Relay {
         if !application.is_withdrawn {
             return false;
         }
-        self.desk.is_open_on(hold.number) == Some(true)
+        self.pool.is_open_on(hold.number) == Some(true)
     }
 
     /// The application lets its connection go, and waits for one like who has come.
     #[tactic(auto, using(crate::proofs::steps::Reaching::reaches_turn, crate::proofs::steps::Reaching::reaches_left))]
     fn change(&mut self, key: usize) -> Result<(), NoMemory>
         ensures goes { OnOk result (Goes (Application key)
-            (desk_in self.old.desk) (desk_in self.new.desk)) }
-        ensures kept { OnOk result (posts_in self.new.applications
-            ≡ posts_in self.old.applications) }
-        ensures moves { OnOk result (AsksToPart (hall_in self.old) key
+            (pool_in self.old.pool) (pool_in self.new.pool)) }
+        ensures kept { OnOk result (queues_in self.new.applications
+            ≡ queues_in self.old.applications) }
+        ensures moves { OnOk result (AsksToPart (core_in self.old) key
             → IfOpen IsBegun (end_at (ends_in self.old.applications) key)
-            → Moved (Application key) (hall_in self.old) (hall_in self.new)) }
+            → Moved (Application key) (core_in self.old) (core_in self.new)) }
         ensures underway { OnOk result ((whole : Bool)
-            → IsUnderway whole self.new.links.items key (hall_in self.new)) }
+            → IsUnderway whole self.new.links.items key (core_in self.new)) }
         ensures read { OnOk result (Stays self.old.links.items self.new.links.items) }
-        ensures stand { OnOk result (AllStand self.old.desk.service
-            self.new.desk.service) }
+        ensures stand { OnOk result (AllStand self.old.pool.service
+            self.new.pool.service) }
         ensures body { (whole : Bool) → waits_of (get self.old.applications key) ≡ Some whole
             → OnOk result (Starts (body_of key self.old) (body_of key self.new)) }
         ensures closes { OnOk result (ClosesOnly (ItselfFor key (CannotPart key
-            (end_at (ends_in self.old.applications) key) self.old.desk))
+            (end_at (ends_in self.old.applications) key) self.old.pool))
             (register_in self.old) (register_in self.new)) }
-        ensures others { IsReached (desk_in self.old.desk)
+        ensures others { IsReached (pool_in self.old.pool)
             → OnOk result (OthersRest key self.old self.new) }
         ensures seated { IsSeated self.old → OnOk result (IsSeated self.new) }
         ensures opening { opens_in self.new.orders.items ≡ opens_in self.old.orders.items }
-        ensures aside { IsReached (desk_in self.old.desk)
+        ensures aside { IsReached (pool_in self.old.pool)
             → OnOk result (OthersKeepAt key self.old self.new) }
+        ensures right { OnOk result (IsRightlyKept key self.new) }
     {
         if !self.has_nothing_out(key) {
             return self.expel(key);
         }
         self.release(key)?;
-        if self.desk.hold_of(key).is_some() {
+        if self.pool.hold_of(key).is_some() {
             return self.expel(key);
         }
         self.wait(key)
@@ -149,33 +155,34 @@ impl Relay {
     #[tactic(auto, using(crate::proofs::steps::Reaching::reaches_turn, crate::proofs::steps::Reaching::reaches_left))]
     fn renew(&mut self, key: usize) -> Result<(), NoMemory>
         ensures goes { OnOk result (Goes (Application key)
-            (desk_in self.old.desk) (desk_in self.new.desk)) }
-        ensures kept { OnOk result (posts_in self.new.applications
-            ≡ posts_in self.old.applications) }
+            (pool_in self.old.pool) (pool_in self.new.pool)) }
+        ensures kept { OnOk result (queues_in self.new.applications
+            ≡ queues_in self.old.applications) }
         ensures moves { OnOk result (AsksFor KeepTransaction
             (end_at (ends_in self.old.applications) key)
             → IfOpen IsBegun (end_at (ends_in self.old.applications) key)
-            → Moved (Application key) (hall_in self.old) (hall_in self.new)) }
+            → Moved (Application key) (core_in self.old) (core_in self.new)) }
         ensures underway { (whole : Bool) → waits_of (get self.old.applications key) ≡ Some whole
-            → OnOk result (IsUnderway whole self.new.links.items key (hall_in self.new)) }
+            → OnOk result (IsUnderway whole self.new.links.items key (core_in self.new)) }
         ensures read { OnOk result (Stays self.old.links.items self.new.links.items) }
-        ensures stand { OnOk result (AllStand self.old.desk.service
-            self.new.desk.service) }
+        ensures stand { OnOk result (AllStand self.old.pool.service
+            self.new.pool.service) }
         ensures body { (whole : Bool) → waits_of (get self.old.applications key) ≡ Some whole
             → OnOk result (Starts (body_of key self.old) (body_of key self.new)) }
         ensures closes { OnOk result (ClosesOnly (ItselfFor key (IsUnrenewed
-            (HasTransaction (desk_in self.old.desk) key
-            ⊎ CannotPart key (end_at (ends_in self.old.applications) key) self.old.desk) key
-            (end_at (ends_in self.old.applications) key) self.old.desk self.old.links.items
+            (HasTransaction (pool_in self.old.pool) key
+            ⊎ CannotPart key (end_at (ends_in self.old.applications) key) self.old.pool) key
+            (end_at (ends_in self.old.applications) key) self.old.pool self.old.links.items
             (body_of key self.old))) (register_in self.old) (register_in self.new)) }
-        ensures others { IsReached (desk_in self.old.desk)
+        ensures others { IsReached (pool_in self.old.pool)
             → OnOk result (OthersRest key self.old self.new) }
         ensures seated { IsSeated self.old → OnOk result (IsSeated self.new) }
         ensures opening { opens_in self.new.orders.items ≡ opens_in self.old.orders.items }
-        ensures aside { IsReached (desk_in self.old.desk)
+        ensures aside { IsReached (pool_in self.old.pool)
             → OnOk result (OthersKeepAt key self.old self.new) }
+        ensures right { OnOk result (IsRightlyKept key self.new) }
     {
-        match self.desk.renew(key)? {
+        match self.pool.renew(key)? {
             Renewed::Kept(hold) => {
                 self.restart(hold.number);
                 self.start_kept(key)

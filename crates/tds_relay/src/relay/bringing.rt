@@ -6,17 +6,17 @@ ghost use Rattle.tds_relay.specs.Cleaning.{IsNotBrought, LosesWaiting, cleaned_i
 ghost use Rattle.tds_relay.specs.Closings.{ClosesOnly, IsWaiting};
 ghost use Rattle.tds_relay.specs.Closings.{register_in, settings_in, with_links};
 ghost use Rattle.tds_relay.specs.Apart.{LendsInTurn};
-ghost use Rattle.tds_relay.specs.Fronts.{ends_in, hall_in, house_in};
-ghost use Rattle.tds_relay.specs.Hall.{holder};
-ghost use Rattle.tds_relay.specs.House.{Steps};
-ghost use Rattle.tds_relay.specs.Posts.{names_in, posts_in};
+ghost use Rattle.tds_relay.specs.Fronts.{ends_in, core_in, machine_in};
+ghost use Rattle.tds_relay.specs.Core.{holder};
+ghost use Rattle.tds_relay.specs.Machine.{Steps};
+ghost use Rattle.tds_relay.specs.Queues.{names_in, queues_in};
 ghost use Rattle.tds_relay.specs.Reads.{IsCalled, OpensFirst};
 ghost use Rattle.tds_relay.specs.Reads.{open_waits, seen_at};
 ghost use Rattle.tds_relay.specs.Ordering.{OpensNew, StayOrdered};
 ghost use Rattle.tds_relay.specs.Sparing.{AllGo};
 ghost use Rattle.tds_relay.specs.Ties.{Goes, IsReached, Neither};
-ghost use Rattle.tds_relay.specs.Ties.{desk_in};
-ghost use Rattle.tds_relay.specs.Walkers.{AllStand};
+ghost use Rattle.tds_relay.specs.Ties.{pool_in};
+ghost use Rattle.tds_relay.specs.TokenParsers.{AllStand};
 ghost use Rattle.tds_relay.specs.Few.{IsSeated};
 
 use super::Relay;
@@ -28,46 +28,46 @@ impl Relay {
     /// all. It is cleaned first. Answers its number, or none where it isn't wanted.
     #[tactic(auto, using(crate::proofs::steps::Reaching::reaches_turn, crate::proofs::steps::Reaching::reaches_turned, crate::proofs::spared::Resting::go_refl, crate::proofs::spared::Ordered::ordered_refl))]
     pub fn bring(&mut self, tag: usize) -> Result<Option<u64>, NoMemory>
-        ensures goes { OnOk result (Goes Neither (desk_in self.old.desk) (desk_in self.new.desk)) }
-        ensures steps { OnOk result (Steps Neither (house_in self.old) (house_in self.new)) }
-        ensures kept { OnOk result (posts_in self.new.applications
-            ≡ posts_in self.old.applications) }
+        ensures goes { OnOk result (Goes Neither (pool_in self.old.pool) (pool_in self.new.pool)) }
+        ensures steps { OnOk result (Steps Neither (machine_in self.old) (machine_in self.new)) }
+        ensures kept { OnOk result (queues_in self.new.applications
+            ≡ queues_in self.old.applications) }
         ensures opens { IfOk result (λ number.
             OpensFirst number self.old.links.items self.new.links.items) }
         ensures named { IfOk result (λ brought. IfSome brought (λ number.
             IsCalled true (Some tag) (seen_at number self.new.links.items))) }
         ensures names { OnOk result (names_in self.new.applications
             ≡ names_in self.old.applications) }
-        ensures stand { OnOk result (AllStand self.old.desk.service
-            self.new.desk.service) }
+        ensures stand { OnOk result (AllStand self.old.pool.service
+            self.new.pool.service) }
         ensures goes_on { OnOk result (AllGo self.old self.new) }
         ensures ordered { OnOk result (StayOrdered self.old.orders.items self.new.orders.items) }
         ensures closes { OnOk result ((first : List Link)
             × IsFirst tag (settings_in self.old) self.old.links.items first
-            × ClosesOnly (IsWaiting (desk_in self.old.desk).line)
+            × ClosesOnly (IsWaiting (pool_in self.old.pool).line)
             (with_links first (register_in self.old)) (register_in self.new)) }
         ensures lent { IfOk result (λ brought. IfSome brought (λ number.
-            IsLentBy number (desk_in self.old.desk).service)) }
+            IsLentBy number (pool_in self.old.pool).service)) }
         ensures tries { IfOk result (λ brought. IfNone brought (IsNotBrought self.old.links.items
-            (desk_in self.old.desk) (desk_in self.new.desk))) }
+            (pool_in self.old.pool) (pool_in self.new.pool))) }
         ensures seated { IsSeated self.old → OnOk result (IsSeated self.new) }
         ensures counts { IfOk result (λ brought. CountsBrought brought
             (cleaned_in self.old) (cleaned_in self.new)) }
-        ensures cleaned { IsReached (desk_in self.old.desk) → IfOk result (λ brought.
+        ensures cleaned { IsReached (pool_in self.old.pool) → IfOk result (λ brought.
             IfSome brought (λ number. CountsSince (LosesWaiting (register_in self.old) self.old
             self.new) number (cleaned_in self.old) (cleaned_in self.new) self.new.links.items)) }
         ensures opening { OnOk result (OpensNew self.old self.new) }
-        ensures cleans { IsReached (desk_in self.old.desk) → IfOk result (λ brought. IfSome brought
-            (λ number. CleaningWaits (IsSome (holder (desk_in self.new.desk) number))
+        ensures cleans { IsReached (pool_in self.old.pool) → IfOk result (λ brought. IfSome brought
+            (λ number. CleaningWaits (IsSome (holder (pool_in self.new.pool) number))
             (open_waits number self.new.links.items))) }
-        ensures lends { OnOk result (LendsInTurn (desk_in self.old.desk).line
-            (ends_in self.old.applications) (hall_in self.new)) }
+        ensures lends { OnOk result (LendsInTurn (pool_in self.old.pool).line
+            (ends_in self.old.applications) (core_in self.new)) }
     {
         if !self.links.is_empty() {
             return Ok(None);
         }
         self.outbox.clear();
-        let Some(left) = self.desk.bring(&mut self.outbox)? else {
+        let Some(left) = self.pool.bring(&mut self.outbox)? else {
             return Ok(None);
         };
         if !left.is_there {

@@ -8,37 +8,37 @@ ghost use Rattle.tds_relay.specs.Cleaning.{CountsGone, CountsLost, cleaned_in};
 ghost use Rattle.tds_relay.specs.Closings.{ClosesOnly, but_told, is_shut};
 ghost use Rattle.tds_relay.specs.Closings.{register_in, settings_in};
 ghost use Rattle.tds_relay.specs.Coming.{AllAlong, ComesAnew, ContinuesAnew, StreamsAnew};
-ghost use Rattle.tds_relay.specs.Desk.{whose};
+ghost use Rattle.tds_relay.specs.Pool.{whose};
 ghost use Rattle.tds_relay.specs.Faults.{IsHeaderOf, IsRefusedOn};
 ghost use Rattle.tds_relay.specs.Few.{Few, HearsSeat, IsSeated, IsSeatedBehind, NobodyWaits, NoneNew};
-ghost use Rattle.tds_relay.specs.Fronts.{end_of, ends_in, hall_in, told_by, house_in, house_of};
-ghost use Rattle.tds_relay.specs.Fronts.{house_with};
-ghost use Rattle.tds_relay.specs.Hall.{told};
+ghost use Rattle.tds_relay.specs.Fronts.{end_of, ends_in, core_in, told_by, machine_in, machine_of};
+ghost use Rattle.tds_relay.specs.Fronts.{machine_with};
+ghost use Rattle.tds_relay.specs.Core.{told};
 ghost use Rattle.tds_relay.specs.Handing.{Brings, HearsBy, IsKnown, KnowsOn, Passes, news_for, fed};
-ghost use Rattle.tds_relay.specs.House.{Steps};
-ghost use Rattle.tds_relay.specs.Reasons.{Cleans, HeardFor, IsHeardAs, IsIdle, HearsNothing};
-ghost use Rattle.tds_relay.specs.Posts.{names_in, post_of, posts_in};
+ghost use Rattle.tds_relay.specs.Machine.{Steps};
+ghost use Rattle.tds_relay.specs.Reasons.{Cleans, IsHeardAs, IsIdle, HearsNothing};
+ghost use Rattle.tds_relay.specs.Queues.{names_in, queue_of, queues_in};
 ghost use Rattle.tds_packet.specs.Stream.{IsLess};
 ghost use Rattle.tds_relay.specs.Reads.{Comes, IsLessAt, OpensOthers, StreamsAll};
 ghost use Rattle.tds_relay.specs.Reads.{answer_at, if_heard, open_at};
-ghost use Rattle.tds_relay.specs.Reads.{post_on, seen_at};
+ghost use Rattle.tds_relay.specs.Reads.{queue_on, seen_at};
 ghost use Rattle.tds_relay.specs.Bounds.{IsRoom};
 ghost use Rattle.tds_relay.specs.Ordering.{GrowsByOrders, OpensNew, StayOrdered, opens_in};
 ghost use Rattle.tds_relay.specs.Sending.{sending_at};
 ghost use Rattle.tds_relay.specs.Sparing.{OffGo, OffHold};
-ghost use Rattle.tds_relay.specs.Ties.{Connection, Goes, IsReached, desk_in};
-ghost use Rattle.tds_relay.specs.Waiting.{IsNotAcknowledged, KeepsPosts};
+ghost use Rattle.tds_relay.specs.Ties.{Connection, Goes, IsReached, pool_in};
+ghost use Rattle.tds_relay.specs.Waiting.{IsNotAcknowledged, KeepsQueues, HeardFor};
 ghost use Rattle.tds_relay.specs.Waking.{HandsTo, IsWoken, PutsFor, Wakes};
-ghost use Rattle.tds_relay.specs.Walkers.{AllStand, HasRead, ReadsBy};
+ghost use Rattle.tds_relay.specs.TokenParsers.{AllStand, HasRead, ReadsBy};
 
 use super::Relay;
 use super::asking::behind;
 use crate::NoMemory;
 use crate::application::Application;
-use crate::desk::{Desk, Heard, What};
 use crate::fault::Refused;
 use crate::link::{Answer, Link, News};
 use crate::links::place_in;
+use crate::pool::{Heard, Pool, What};
 use crate::reading::reads_packets;
 use slab::Slab;
 use tds_packet::PacketRef;
@@ -47,28 +47,28 @@ impl Relay {
     /// These bytes came on the connection of this number, behind its login.
     pub fn came(&mut self, number: u64, piece: &[u8]) -> Result<(), NoMemory>
         ensures goes { OnOk result (Goes (Connection number)
-            (desk_in self.old.desk) (desk_in self.new.desk)) }
+            (pool_in self.old.pool) (pool_in self.new.pool)) }
         ensures names { OnOk result (names_in self.new.applications
             ≡ names_in self.old.applications) }
-        ensures steps { OnOk result (Steps (Connection number) (house_in self.old)
-            (house_in self.new)) }
+        ensures steps { OnOk result (Steps (Connection number) (machine_in self.old)
+            (machine_in self.new)) }
         ensures served { OnOk result (NobodyWaits self.new) }
         ensures few { OnOk result (Few self.old.most self.old.links.items
             self.new.links.items) }
         ensures comes { OnOk result (Comes number (open_at number self.old.links.items)
-            (house_in self.old) self.old.desk.service piece.now
-            (open_at number self.new.links.items) (house_in self.new) self.new.desk.service) }
+            (machine_in self.old) self.old.pool.service piece.now
+            (open_at number self.new.links.items) (machine_in self.new) self.new.pool.service) }
         ensures anew { OnOk result (ComesAnew number piece.now self.old self.new) }
         ensures others { OnOk result (OpensOthers number
             self.old.links.items self.new.links.items) }
-        ensures bodies { IsReached (desk_in self.old.desk)
+        ensures bodies { IsReached (pool_in self.old.pool)
             → OnOk result (AllAlong self.old self.new) }
         ensures ordered { OnOk result (StayOrdered self.old.orders.items self.new.orders.items) }
-        ensures wakes { OnOk result (Wakes (posts_in self.old.applications)
+        ensures wakes { OnOk result (Wakes (queues_in self.old.applications)
             self.new.applications self.new.orders.items) }
         ensures refused { OnOk result (IsRefusedOn number self.old.refused self.new.refused) }
-        ensures only { IsReached (desk_in self.old.desk)
-            → OnOk result (LosesOnly number (hall_in self.old) (hall_in self.new)) }
+        ensures only { IsReached (pool_in self.old.pool)
+            → OnOk result (LosesOnly number (core_in self.old) (core_in self.new)) }
         ensures closes { OnOk result (ClosesOnly (HeardFor number piece.now self.old)
             (but_told (register_in self.new) (register_in self.old)) (register_in self.new)) }
         ensures seated { IsSeated self.old → OnOk result (IsSeated self.new) }
@@ -85,26 +85,26 @@ impl Relay {
     fn hear_all(&mut self, number: u64, piece: &[u8]) -> Result<(), NoMemory>
         ensures none { OnOk result (NoneNew self.old.links.items self.new.links.items) }
         ensures goes { OnOk result (Goes (Connection number)
-            (desk_in self.old.desk) (desk_in self.new.desk)) }
+            (pool_in self.old.pool) (pool_in self.new.pool)) }
         ensures names { OnOk result (names_in self.new.applications
             ≡ names_in self.old.applications) }
         ensures streams { OnOk result (StreamsAll number (open_at number self.old.links.items)
-            (house_in self.old) self.old.desk.service piece.now
-            (open_at number self.new.links.items) (house_in self.new) self.new.desk.service) }
+            (machine_in self.old) self.old.pool.service piece.now
+            (open_at number self.new.links.items) (machine_in self.new) self.new.pool.service) }
         ensures anew { OnOk result (StreamsAnew number (answer_at number self.old.links.items)
-            (open_at number self.old.links.items) (house_in self.old) self.old.desk.service
+            (open_at number self.old.links.items) (machine_in self.old) self.old.pool.service
             piece.now [] (answer_at number self.new.links.items)
-            (open_at number self.new.links.items) (house_in self.new) self.new.desk.service) }
+            (open_at number self.new.links.items) (machine_in self.new) self.new.pool.service) }
         ensures others { OnOk result (OpensOthers number
             self.old.links.items self.new.links.items) }
-        ensures bodies { IsReached (desk_in self.old.desk)
+        ensures bodies { IsReached (pool_in self.old.pool)
             → OnOk result (AllAlong self.old self.new) }
         ensures ordered { OnOk result (StayOrdered self.old.orders.items self.new.orders.items) }
-        ensures wakes { OnOk result (Wakes (posts_in self.old.applications)
+        ensures wakes { OnOk result (Wakes (queues_in self.old.applications)
             self.new.applications self.new.orders.items) }
         ensures refused { OnOk result (IsRefusedOn number self.old.refused self.new.refused) }
-        ensures spares { IsReached (desk_in self.old.desk) → OnOk result (SparesOthers number None
-            (hall_in self.old) (hall_in self.new)) }
+        ensures spares { IsReached (pool_in self.old.pool) → OnOk result (SparesOthers number None
+            (core_in self.old) (core_in self.new)) }
         ensures closes { OnOk result (ClosesOnly (HeardFor number piece.now self.old)
             (but_told (register_in self.new) (register_in self.old)) (register_in self.new)) }
         ensures seated { IsSeated self.old → OnOk result (IsSeated self.new) }
@@ -130,7 +130,7 @@ impl Relay {
     fn hear(&mut self, number: u64, piece: &[u8]) -> Result<(usize, Option<Heard>), NoMemory>
         ensures settings { settings_in self.new ≡ settings_in self.old }
         ensures goes { OnOk result (Goes (Connection number)
-            (desk_in self.old.desk) (desk_in self.new.desk)) }
+            (pool_in self.old.pool) (pool_in self.new.pool)) }
         ensures names { OnOk result (names_in self.new.applications
             ≡ names_in self.old.applications) }
         ensures ends { OnOk result (ends_in self.new.applications
@@ -138,10 +138,10 @@ impl Relay {
         ensures continues { IfOk result (λ heard. ContinuesAnew number piece.now
             (drop heard.0 piece.now) heard.1 (answer_at number self.old.links.items)
             (open_at number self.old.links.items) (answer_at number self.new.links.items)
-            (if_heard heard.1 (open_at number self.new.links.items)) (house_in self.old)
-            self.old.desk.service (house_with (desk_in self.new.desk)
-            (told_by heard.1 (ends_in self.old.applications)) (posts_in self.new.applications))
-            self.new.desk.service) }
+            (if_heard heard.1 (open_at number self.new.links.items)) (machine_in self.old)
+            self.old.pool.service (machine_with (pool_in self.new.pool)
+            (told_by heard.1 (ends_in self.old.applications)) (queues_in self.new.applications))
+            self.new.pool.service) }
         ensures others { OnOk result (OpensOthers number
             self.old.links.items self.new.links.items) }
         ensures takes { IfOk result (λ heard. IsLessAt (open_at number self.old.links.items)
@@ -152,26 +152,26 @@ impl Relay {
         ensures orders { self.new.orders.items ≡ self.old.orders.items }
         ensures many { OnOk result (length self.new.links.items ≡ length self.old.links.items) }
         ensures puts { IfOk result (λ heard. PutsFor heard.1 (ends_in self.old.applications)
-            (posts_in self.old.applications) (posts_in self.new.applications)) }
+            (queues_in self.old.applications) (queues_in self.new.applications)) }
         ensures same { OnOk result ((other : ℕ) → (sending_at other self.new.links.items
             ≡ sending_at other self.old.links.items)
             × (is_shut (seen_at other self.new.links.items)
             ≡ is_shut (seen_at other self.old.links.items))) }
-        ensures posts { OnOk result (KeepsPosts self.old.links.items self.new.links.items) }
-        ensures cleans { IfOk result (λ heard. Cleans (whose (desk_in self.old.desk) number)
+        ensures queues { OnOk result (KeepsQueues self.old.links.items self.new.links.items) }
+        ensures cleans { IfOk result (λ heard. Cleans (whose (pool_in self.old.pool) number)
             heard.1 [] self.new.outbox.items) }
         ensures refused { OnOk result (IsRefusedOn number self.old.refused self.new.refused) }
         ensures hears { IfOk result (λ heard.
             (HearsNothing heard.1 × IsIdle self.old self.new)
-            ⊎ IsHeardAs number piece.now heard.1 self.old (house_with (desk_in self.new.desk)
-            (told_by heard.1 (ends_in self.old.applications)) (posts_in self.new.applications))) }
+            ⊎ IsHeardAs number piece.now heard.1 self.old (machine_with (pool_in self.new.pool)
+            (told_by heard.1 (ends_in self.old.applications)) (queues_in self.new.applications))) }
         ensures seated { IsSeated self.old → IfOk result (λ heard.
             IsSeatedBehind heard.1 number self.new) }
         ensures counts { cleaned_in self.new ≡ cleaned_in self.old }
-        ensures off { OnOk result (OffHold number self.old.desk self.new.desk) }
+        ensures off { OnOk result (OffHold number self.old.pool self.new.pool) }
     {
         let Relay {
-            desk,
+            pool,
             applications,
             links,
             outbox,
@@ -186,7 +186,7 @@ impl Relay {
         if !link.is_open {
             return Ok((piece.len(), Some(NOTHING)));
         }
-        hear_on(desk, applications, link, refused, number, outbox, piece)
+        hear_on(pool, applications, link, refused, number, outbox, piece)
     }
 }
 
@@ -197,7 +197,7 @@ const NOTHING: Heard = Heard {
 
 /// Takes bytes of this connection up to the end of a packet.
 fn hear_on(
-    desk: &mut Desk,
+    pool: &mut Pool,
     applications: &mut Slab<Application>,
     link: &mut Link,
     refused: &mut Option<Refused>,
@@ -206,15 +206,15 @@ fn hear_on(
     piece: &[u8],
 ) -> Result<(usize, Option<Heard>), NoMemory>
     requires { link.old.is_open ≡ true }
-    ensures goes { OnOk result (Goes (Connection number) (desk_in desk.old)
-        (desk_in desk.new)) }
+    ensures goes { OnOk result (Goes (Connection number) (pool_in pool.old)
+        (pool_in pool.new)) }
     ensures names { OnOk result (names_in applications.new ≡ names_in applications.old) }
-    ensures hears { IfOk result (λ heard. HearsBy number (reading_on number desk.old.service)
-        link.old link.new piece.now heard.0 heard.1 (house_of desk.old applications.old)
-        (house_with (desk_in desk.new) (told_by heard.1 (ends_in applications.old))
-        (posts_in applications.new))) }
+    ensures hears { IfOk result (λ heard. HearsBy number (reading_on number pool.old.service)
+        link.old link.new piece.now heard.0 heard.1 (machine_of pool.old applications.old)
+        (machine_with (pool_in pool.new) (told_by heard.1 (ends_in applications.old))
+        (queues_in applications.new))) }
     ensures read { IfOk result (λ heard. ReadsBy number (fed link.old.reader piece.now) heard.1
-        desk.old.service desk.new.service) }
+        pool.old.service pool.new.service) }
     ensures takes { IfOk result (λ heard. IsLess link.old.reader link.old.reader.taken
         → 1 ≤ length piece.now → 1 ≤ heard.0) }
     ensures number { link.new.number ≡ link.old.number }
@@ -224,16 +224,16 @@ fn hear_on(
     ensures ends { OnOk result (ends_in applications.new ≡ ends_in applications.old) }
     ensures asks { OnOk result (AskAsBefore applications.old applications.new) }
     ensures puts { IfOk result (λ heard. PutsFor heard.1 (ends_in applications.old)
-        (posts_in applications.old) (posts_in applications.new)) }
+        (queues_in applications.old) (queues_in applications.new)) }
     ensures refused { IfOk result (λ heard. IsHeaderOf number
         (fed link.old.reader piece.now) heard.1 refused.old refused.new) }
     ensures known { OnOk result (KnowsOn (fed link.old.reader piece.now) link.old.answer
         link.new.answer) }
-    ensures cleans { IfOk result (λ heard. Cleans (whose (desk_in desk.old) number) heard.1
+    ensures cleans { IfOk result (λ heard. Cleans (whose (pool_in pool.old) number) heard.1
         outbox.old.items outbox.new.items) }
-    ensures seats { IsReached (desk_in desk.old) → IfOk result (λ heard. HearsSeat heard.1 number
-        (desk_in desk.old).service (desk_in desk.new).service) }
-    ensures off { OnOk result (OffHold number desk.old desk.new) }
+    ensures seats { IsReached (pool_in pool.old) → IfOk result (λ heard. HearsSeat heard.1 number
+        (pool_in pool.old).service (pool_in pool.new).service) }
+    ensures off { OnOk result (OffHold number pool.old pool.new) }
 {
     let count = match link.reader.feed(piece) {
         Ok(count) => count,
@@ -243,28 +243,28 @@ fn hear_on(
         }
     };
     reads_packets();
-    let heard = hear_packet(desk, applications, link, number, outbox)?;
+    let heard = hear_packet(pool, applications, link, number, outbox)?;
     link.reader.done();
     Ok((count, Some(heard)))
 }
 
-/// The packet that has come, if one has: the desk hears it, and whoever holds the connection gets it.
+/// The packet that has come, if one has: the pool hears it, and whoever holds the connection gets it.
 fn hear_packet(
-    desk: &mut Desk,
+    pool: &mut Pool,
     applications: &mut Slab<Application>,
     link: &mut Link,
     number: u64,
     outbox: &mut Vec<u8>,
 ) -> Result<Heard, NoMemory>
-    ensures goes { OnOk result (Goes (Connection number) (desk_in desk.old)
-        (desk_in desk.new)) }
+    ensures goes { OnOk result (Goes (Connection number) (pool_in pool.old)
+        (pool_in pool.new)) }
     ensures names { OnOk result (names_in applications.new ≡ names_in applications.old) }
-    ensures brings { IfOk result (λ heard. Brings number (reading_on number desk.old.service)
-        link.old.answer link.new.answer link.old.reader heard (house_of desk.old applications.old)
-        (house_with (desk_in desk.new) (told_by (Some heard) (ends_in applications.old))
-        (posts_in applications.new))) }
-    ensures read { OnOk result (HasRead number link.old.reader desk.old.service
-        desk.new.service) }
+    ensures brings { IfOk result (λ heard. Brings number (reading_on number pool.old.service)
+        link.old.answer link.new.answer link.old.reader heard (machine_of pool.old applications.old)
+        (machine_with (pool_in pool.new) (told_by (Some heard) (ends_in applications.old))
+        (queues_in applications.new))) }
+    ensures read { OnOk result (HasRead number link.old.reader pool.old.service
+        pool.new.service) }
     ensures reader { link.new.reader ≡ link.old.reader }
     ensures number { link.new.number ≡ link.old.number }
     ensures is_open { link.new.is_open ≡ link.old.is_open }
@@ -273,18 +273,18 @@ fn hear_packet(
     ensures ends { OnOk result (ends_in applications.new ≡ ends_in applications.old) }
     ensures asks { OnOk result (AskAsBefore applications.old applications.new) }
     ensures known { OnOk result (KnowsOn link.old.reader link.old.answer link.new.answer) }
-    ensures cleans { IfOk result (λ heard. Cleans (whose (desk_in desk.old) number) (Some heard)
+    ensures cleans { IfOk result (λ heard. Cleans (whose (pool_in pool.old) number) (Some heard)
         outbox.old.items outbox.new.items) }
-    ensures seats { IsReached (desk_in desk.old) → IfOk result (λ heard. HearsSeat (Some heard)
-        number (desk_in desk.old).service (desk_in desk.new).service) }
-    ensures off { OnOk result (OffHold number desk.old desk.new) }
+    ensures seats { IsReached (pool_in pool.old) → IfOk result (λ heard. HearsSeat (Some heard)
+        number (pool_in pool.old).service (pool_in pool.new).service) }
+    ensures off { OnOk result (OffHold number pool.old pool.new) }
 {
     let Some(packet) = link.reader.packet() else {
         return Ok(NOTHING);
     };
     let ends = packet.header.status.ends();
-    let owed = desk.owes_reset(number);
-    let heard = desk.came(number, packet.data, ends, outbox)?;
+    let owed = pool.owes_reset(number);
+    let heard = pool.came(number, packet.data, ends, outbox)?;
     if matches!(heard.what, What::Closed) {
         return Ok(heard);
     }
@@ -298,7 +298,7 @@ fn hear_packet(
         return Ok(heard);
     }
     let asks = application.is_told(heard.what);
-    let news = news_for(asks, owed, desk.owes_reset(number), link.answer.holds());
+    let news = news_for(asks, owed, pool.owes_reset(number), link.answer.holds());
     hand_on(&mut link.answer, news, packet, application)?;
     Ok(heard)
 }
@@ -326,7 +326,7 @@ fn hand_on(
 ) -> Result<(), NoMemory>
     requires { packet.header.length ≡ 8 + length packet.«data».now }
     ensures passes { OnOk result (Passes news answer.old packet.entry.header
-        packet.entry.«data».now (post_of application.old) (post_of application.new)) }
+        packet.entry.«data».now (queue_of application.old) (queue_of application.new)) }
     ensures known { OnOk result (IsKnown news answer.old packet.entry.header
         packet.entry.«data».now answer.new) }
     ensures end { OnOk result (end_of application.new ≡ end_of application.old) }

@@ -3,16 +3,16 @@ ghost use Rattle.std.specs.Prelude.{◌≡◌, None, OnOk};
 ghost use Rattle.tds_relay.specs.Bodies.{AskOn};
 ghost use Rattle.tds_relay.specs.Lent.{OthersKeepAt};
 ghost use Rattle.tds_relay.specs.Few.{IsSeated};
-ghost use Rattle.tds_relay.specs.Fronts.{Moved, ends_in, hall_in, hall_of_ends};
-ghost use Rattle.tds_relay.specs.Hall.{change_end, closes, closes_for, end_at};
+ghost use Rattle.tds_relay.specs.Fronts.{Moved, ends_in, core_in, core_of_ends};
+ghost use Rattle.tds_relay.specs.Core.{change_end, closes, closes_for, end_at};
 ghost use Rattle.tds_relay.specs.Closings.{ClosesOnly, Itself, register_in};
-ghost use Rattle.tds_relay.specs.Posts.{posts_in};
+ghost use Rattle.tds_relay.specs.Queues.{queues_in};
 ghost use Rattle.tds_relay.specs.Ordering.{opens_in};
 ghost use Rattle.tds_relay.specs.Reads.{Stays};
 ghost use Rattle.tds_relay.specs.Sparing.{OthersRest};
 ghost use Rattle.tds_relay.specs.Taking.{IsDeaf};
-ghost use Rattle.tds_relay.specs.Ties.{Application, Goes, IsReached, desk_in};
-ghost use Rattle.tds_relay.specs.Walkers.{AllStand};
+ghost use Rattle.tds_relay.specs.Ties.{Application, Goes, IsReached, pool_in};
+ghost use Rattle.tds_relay.specs.TokenParsers.{AllStand};
 
 use super::Relay;
 use crate::NoMemory;
@@ -22,23 +22,23 @@ impl Relay {
     /// Nothing more of an application is taken, and it is to be closed. Its connection is given back.
     pub(super) fn expel(&mut self, key: usize) -> Result<(), NoMemory>
         ensures goes { OnOk result (Goes (Application key)
-            (desk_in self.old.desk) (desk_in self.new.desk)) }
-        ensures kept { OnOk result (posts_in self.new.applications
-            ≡ posts_in self.old.applications) }
-        ensures moves { OnOk result (Moved (Application key) (hall_of_ends (desk_in self.old.desk)
-            (change_end key closes (ends_in self.old.applications))) (hall_in self.new)) }
+            (pool_in self.old.pool) (pool_in self.new.pool)) }
+        ensures kept { OnOk result (queues_in self.new.applications
+            ≡ queues_in self.old.applications) }
+        ensures moves { OnOk result (Moved (Application key) (core_of_ends (pool_in self.old.pool)
+            (change_end key closes (ends_in self.old.applications))) (core_in self.new)) }
         ensures over { OnOk result (IsDeaf (end_at (ends_in self.new.applications) key)) }
         ensures read { OnOk result (Stays self.old.links.items self.new.links.items) }
-        ensures stand { OnOk result (AllStand self.old.desk.service
-            self.new.desk.service) }
+        ensures stand { OnOk result (AllStand self.old.pool.service
+            self.new.pool.service) }
         ensures asks { OnOk result (AskOn self.old.applications self.new.applications) }
-        ensures others { IsReached (desk_in self.old.desk)
+        ensures others { IsReached (pool_in self.old.pool)
             → OnOk result (OthersRest key self.old self.new) }
         ensures closes { OnOk result (ClosesOnly (Itself key)
             (register_in self.old) (register_in self.new)) }
         ensures seated { IsSeated self.old → OnOk result (IsSeated self.new) }
         ensures opening { opens_in self.new.orders.items ≡ opens_in self.old.orders.items }
-        ensures aside { IsReached (desk_in self.old.desk)
+        ensures aside { IsReached (pool_in self.old.pool)
             → OnOk result (OthersKeepAt key self.old self.new) }
     {
         self.expel_for(key, None)
@@ -48,24 +48,24 @@ impl Relay {
     #[tactic(auto, using(crate::proofs::steps::Reaching::reaches_left))]
     pub(super) fn expel_for(&mut self, key: usize, why: Option<FrontFault>) -> Result<(), NoMemory>
         ensures goes { OnOk result (Goes (Application key)
-            (desk_in self.old.desk) (desk_in self.new.desk)) }
-        ensures kept { OnOk result (posts_in self.new.applications
-            ≡ posts_in self.old.applications) }
-        ensures moves { OnOk result (Moved (Application key) (hall_of_ends (desk_in self.old.desk)
+            (pool_in self.old.pool) (pool_in self.new.pool)) }
+        ensures kept { OnOk result (queues_in self.new.applications
+            ≡ queues_in self.old.applications) }
+        ensures moves { OnOk result (Moved (Application key) (core_of_ends (pool_in self.old.pool)
             (change_end key (closes_for why) (ends_in self.old.applications)))
-            (hall_in self.new)) }
+            (core_in self.new)) }
         ensures over { OnOk result (IsDeaf (end_at (ends_in self.new.applications) key)) }
         ensures read { OnOk result (Stays self.old.links.items self.new.links.items) }
-        ensures stand { OnOk result (AllStand self.old.desk.service
-            self.new.desk.service) }
+        ensures stand { OnOk result (AllStand self.old.pool.service
+            self.new.pool.service) }
         ensures asks { OnOk result (AskOn self.old.applications self.new.applications) }
-        ensures others { IsReached (desk_in self.old.desk)
+        ensures others { IsReached (pool_in self.old.pool)
             → OnOk result (OthersRest key self.old self.new) }
         ensures closes { OnOk result (ClosesOnly (Itself key)
             (register_in self.old) (register_in self.new)) }
         ensures seated { IsSeated self.old → OnOk result (IsSeated self.new) }
         ensures opening { opens_in self.new.orders.items ≡ opens_in self.old.orders.items }
-        ensures aside { IsReached (desk_in self.old.desk)
+        ensures aside { IsReached (pool_in self.old.pool)
             → OnOk result (OthersKeepAt key self.old self.new) }
     {
         self.end_for(key, why)?;

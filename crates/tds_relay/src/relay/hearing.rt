@@ -7,37 +7,37 @@ ghost use Rattle.tds_relay.specs.Closings.{ClosesOnly};
 ghost use Rattle.tds_relay.specs.Closings.{register_in};
 ghost use Rattle.tds_relay.specs.Coming.{AllAlong, BeginAnyIf, acknowledged_in};
 ghost use Rattle.tds_relay.specs.Few.{IsSeated, IsSeatedBehind};
-ghost use Rattle.tds_relay.specs.Fronts.{Moved, ends_in, hall_in, hall_of_ends, told_by};
+ghost use Rattle.tds_relay.specs.Fronts.{Moved, ends_in, core_in, core_of_ends, told_by};
 ghost use Rattle.tds_relay.specs.Handing.{heard_key};
-ghost use Rattle.tds_relay.specs.Posts.{posts_in};
+ghost use Rattle.tds_relay.specs.Queues.{queues_in};
 ghost use Rattle.tds_relay.specs.Reads.{Stays};
 ghost use Rattle.tds_relay.specs.Reads.{reader_at, waits_on};
 ghost use Rattle.tds_relay.specs.Ordering.{StayOrdered, opens_in};
 ghost use Rattle.tds_relay.specs.Sparing.{OffGo};
-ghost use Rattle.tds_relay.specs.Ties.{Connection, Goes, IsReached, desk_in};
+ghost use Rattle.tds_relay.specs.Ties.{Connection, Goes, IsReached, pool_in};
 ghost use Rattle.tds_relay.specs.Waiting.{IsNotAcknowledged, LosesAt};
 ghost use Rattle.tds_relay.specs.Waking.{HandsTo, IsWoken};
-ghost use Rattle.tds_relay.specs.Walkers.{AllStand};
+ghost use Rattle.tds_relay.specs.TokenParsers.{AllStand};
 
 use super::Relay;
 use crate::NoMemory;
-use crate::desk::{Heard, What};
+use crate::pool::{Heard, What};
 
 impl Relay {
     /// What came of a packet is done; a header that isn't one loses its connection.
     pub(super) fn heard(&mut self, number: u64, heard: Option<Heard>) -> Result<(), NoMemory>
         ensures goes { OnOk result (Goes (Connection number)
-            (desk_in self.old.desk) (desk_in self.new.desk)) }
-        ensures kept { OnOk result (posts_in self.new.applications
-            ≡ posts_in self.old.applications) }
-        ensures moves { OnOk result (Moved (Connection number) (hall_of_ends
-            (desk_in self.old.desk) (told_by heard (ends_in self.old.applications)))
-            (hall_in self.new)) }
+            (pool_in self.old.pool) (pool_in self.new.pool)) }
+        ensures kept { OnOk result (queues_in self.new.applications
+            ≡ queues_in self.old.applications) }
+        ensures moves { OnOk result (Moved (Connection number) (core_of_ends
+            (pool_in self.old.pool) (told_by heard (ends_in self.old.applications)))
+            (core_in self.new)) }
         ensures read { OnOk result (Stays self.old.links.items self.new.links.items) }
         ensures gone { IsNone heard → OnOk result (reader_at number self.new.links.items ≡ None) }
-        ensures stand { OnOk result (AllStand self.old.desk.service
-            self.new.desk.service) }
-        ensures bodies { IsReached (desk_in self.old.desk)
+        ensures stand { OnOk result (AllStand self.old.pool.service
+            self.new.pool.service) }
+        ensures bodies { IsReached (pool_in self.old.pool)
             → OnOk result (AllAlong self.old self.new) }
         ensures ordered { OnOk result (StayOrdered self.old.orders.items self.new.orders.items) }
         ensures wakes { OnOk result ((key : ℕ) → HandsTo heard key (ends_in self.old.applications)
@@ -46,8 +46,8 @@ impl Relay {
             → waits_on other self.new.links.items ≡ waits_on other self.old.links.items) }
         ensures begins { OnOk result (BeginAnyIf (acknowledged_in heard)
             self.old.links.items self.new.links.items) }
-        ensures spares { IsReached (desk_in self.old.desk) → OnOk result (SparesOthers number
-            (heard_key heard) (hall_in self.old) (hall_in self.new)) }
+        ensures spares { IsReached (pool_in self.old.pool) → OnOk result (SparesOthers number
+            (heard_key heard) (core_in self.old) (core_in self.new)) }
         ensures closes { OnOk result (ClosesOnly (LosesAt number heard self.old)
             (register_in self.old) (register_in self.new)) }
         ensures seated { IsSeatedBehind heard number self.old
@@ -65,16 +65,16 @@ impl Relay {
     /// What came of a packet is done.
     fn heard_packet(&mut self, number: u64, heard: Heard) -> Result<(), NoMemory>
         ensures goes { OnOk result (Goes (Connection number)
-            (desk_in self.old.desk) (desk_in self.new.desk)) }
-        ensures kept { OnOk result (posts_in self.new.applications
-            ≡ posts_in self.old.applications) }
-        ensures moves { OnOk result (Moved (Connection number) (hall_of_ends
-            (desk_in self.old.desk) (told_by (Some heard) (ends_in self.old.applications)))
-            (hall_in self.new)) }
+            (pool_in self.old.pool) (pool_in self.new.pool)) }
+        ensures kept { OnOk result (queues_in self.new.applications
+            ≡ queues_in self.old.applications) }
+        ensures moves { OnOk result (Moved (Connection number) (core_of_ends
+            (pool_in self.old.pool) (told_by (Some heard) (ends_in self.old.applications)))
+            (core_in self.new)) }
         ensures read { OnOk result (Stays self.old.links.items self.new.links.items) }
-        ensures stand { OnOk result (AllStand self.old.desk.service
-            self.new.desk.service) }
-        ensures bodies { IsReached (desk_in self.old.desk)
+        ensures stand { OnOk result (AllStand self.old.pool.service
+            self.new.pool.service) }
+        ensures bodies { IsReached (pool_in self.old.pool)
             → OnOk result (AllAlong self.old self.new) }
         ensures ordered { OnOk result (StayOrdered self.old.orders.items self.new.orders.items) }
         ensures wakes { OnOk result ((key : ℕ)
@@ -85,8 +85,8 @@ impl Relay {
             ≡ waits_on other self.old.links.items) }
         ensures begins { OnOk result (BeginAnyIf (acknowledged_in (Some heard))
             self.old.links.items self.new.links.items) }
-        ensures spares { IsReached (desk_in self.old.desk) → OnOk result (SparesOthers number
-            (heard_key (Some heard)) (hall_in self.old) (hall_in self.new)) }
+        ensures spares { IsReached (pool_in self.old.pool) → OnOk result (SparesOthers number
+            (heard_key (Some heard)) (core_in self.old) (core_in self.new)) }
         ensures closes { OnOk result (ClosesOnly (LosesAt number (Some heard) self.old)
             (register_in self.old) (register_in self.new)) }
         ensures seated { IsSeatedBehind (Some heard) number self.old

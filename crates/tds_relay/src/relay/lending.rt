@@ -3,39 +3,39 @@ ghost use Rattle.std.specs.Prelude.{◌≡◌, ◌≢◌, ◌⊎◌, ◌++◌, [
 ghost use Rattle.slab.specs.Slab.{get};
 ghost use Rattle.tds_relay.specs.Apart.{Alone, AloneWho, LendsAfter, LendsInTurn, UnlessServed};
 ghost use Rattle.tds_relay.specs.Asking.{HasBegun, IsUnderway, waits_of};
-ghost use Rattle.tds_relay.specs.Bodies.{AskAsBefore, AskOn, Grows, Starts, body_of, going_of, held_of};
+ghost use Rattle.tds_relay.specs.Bodies.{AskAsBefore, AskOn, Grows, Starts, GoesFrom, body_of, going_of, held_of, standing_in};
 ghost use Rattle.tds_relay.specs.Closings.{ClosesOnly, IsWaiting, IsWho, Itself, Nobody, WhoOrWaiting, register_in};
-ghost use Rattle.tds_relay.specs.Desk.{find_number, key_of};
+ghost use Rattle.tds_relay.specs.Pool.{find_number, key_of};
 ghost use Rattle.tds_relay.specs.Lent.{FirstKeeps, IsOnItsOwn, IsWithHolder, LendsInLine, PutsOnly};
 ghost use Rattle.tds_relay.specs.Few.{Few, FewBy, IsSeated, IsSeatedIf, NobodyWaits};
-ghost use Rattle.tds_relay.specs.Fronts.{MovedOn, ends_in, hall_in, house_in};
-ghost use Rattle.tds_relay.specs.Hall.{IsReset, end_at, holder};
-ghost use Rattle.tds_relay.specs.House.{StepsOn};
+ghost use Rattle.tds_relay.specs.Fronts.{MovedOn, ends_in, core_in, machine_in};
+ghost use Rattle.tds_relay.specs.Core.{IsReset, end_at, holder};
+ghost use Rattle.tds_relay.specs.Machine.{StepsOn};
 ghost use Rattle.tds_relay.specs.Lent.{AllLast, BeginsOn, IsMade, IsMadeOn, KeepsAnswers, LastBut, LastOrDeaf};
-ghost use Rattle.tds_relay.specs.Waiting.{IsUnheldOrTurnedAway, OpensFor};
-ghost use Rattle.tds_relay.specs.Posts.{names_in, posts_in};
+ghost use Rattle.tds_relay.specs.Waiting.{IsUnheldOrTurnedAway, IsLentInVain, OpensOrLends};
+ghost use Rattle.tds_relay.specs.Queues.{names_in, queues_in};
 ghost use Rattle.tds_relay.specs.Cutting.{at_its_beginning};
-ghost use Rattle.tds_relay.specs.Reads.{Opens, OpensOne, Stays, answer_at, named_seen, open_at, bytes_on, link_at, opened_at, opened_seen, post_on, seen_at, waits_on};
+ghost use Rattle.tds_relay.specs.Reads.{Opens, OpensOne, Stays, answer_at, named_seen, open_at, bytes_on, link_at, opened_at, opened_seen, queue_on, seen_at, waits_on};
 ghost use Rattle.tds_relay.specs.Ordering.{GrowsByOrders, OpensNew, StayOrdered, opens_if, opens_in};
-ghost use Rattle.tds_relay.specs.Reasons.{CannotPut, CannotStartAt, HasNoRoom, IsLentInVain, IsTurnedAwayAt, IsUnheld, ItselfFor};
+ghost use Rattle.tds_relay.specs.Reasons.{CannotPut, CannotStartAt, HasNoRoom, IsTurnedAwayAt, IsUnheld, ItselfFor};
 ghost use Rattle.tds_relay.specs.Sending.{IsToWrite, called_at};
 ghost use Rattle.tds_relay.specs.Coming.{MayBeginAny};
-ghost use Rattle.tds_relay.specs.Sparing.{AllGo, AllRest, IsHeldBack, IsUnkept, OthersRest, StartsOn, StartsThere};
+ghost use Rattle.tds_relay.specs.Sparing.{AllGo, AllRest, AwayRest, IsHeldBack, IsUnkept, OthersRest, StartsOn, StartsThere};
 ghost use Rattle.tds_relay.specs.Taking.{IsDeaf};
-ghost use Rattle.tds_relay.specs.Ties.{Goes, GoesOn, IsReached, desk_in};
+ghost use Rattle.tds_relay.specs.Ties.{Goes, GoesOn, IsReached, pool_in};
 ghost use Rattle.tds_relay.specs.Told.{TellsTheSame};
 ghost use Rattle.tds_relay.specs.Waiting.{GoesOrWaits};
-ghost use Rattle.tds_relay.specs.Walkers.{AllStand};
+ghost use Rattle.tds_relay.specs.TokenParsers.{AllStand};
 ghost use Rattle.tds_relay.specs.Cleaning.{cleaned_in};
 
 use super::Relay;
 use super::putting::unless_memory;
 use crate::NoMemory;
 use crate::application::Asking;
-use crate::desk::Served;
 use crate::link::Link;
 use crate::links::{restart, set_open, set_tag};
 use crate::order::Order;
+use crate::pool::Served;
 
 impl Relay {
     pub(super) fn new_link(&self, number: u64) -> Result<Link, NoMemory>
@@ -51,8 +51,8 @@ impl Relay {
 
     /// The connection of this number is being opened, and is called so.
     pub fn opening(&mut self, number: u64, tag: usize)
-        ensures desk { self.new.desk ≡ self.old.desk }
-        ensures kept { posts_in self.new.applications ≡ posts_in self.old.applications }
+        ensures pool { self.new.pool ≡ self.old.pool }
+        ensures kept { queues_in self.new.applications ≡ queues_in self.old.applications }
         ensures ends { ends_in self.new.applications ≡ ends_in self.old.applications }
         ensures named { (other : ℕ) → seen_at other self.new.links.items
             ≡ named_seen tag number other self.old.links.items }
@@ -70,35 +70,35 @@ impl Relay {
 
     /// The connection of this number is open and logged in.
     pub fn opened(&mut self, number: u64) -> Result<(), NoMemory>
-        ensures goes { OnOk result (GoesOn (desk_in self.old.desk) (desk_in self.new.desk)) }
-        ensures steps { OnOk result (StepsOn (house_in self.old) (house_in self.new)) }
+        ensures goes { OnOk result (GoesOn (pool_in self.old.pool) (pool_in self.new.pool)) }
+        ensures steps { OnOk result (StepsOn (machine_in self.old) (machine_in self.new)) }
         ensures served { OnOk result (NobodyWaits self.new) }
         ensures few { OnOk result (Few self.old.most self.old.links.items
             self.new.links.items) }
         ensures opens { OnOk result (OpensOne number self.old.links.items self.new.links.items) }
         ensures names { OnOk result (names_in self.new.applications
             ≡ names_in self.old.applications) }
-        ensures stand { OnOk result (AllStand self.old.desk.service
-            self.new.desk.service) }
+        ensures stand { OnOk result (AllStand self.old.pool.service
+            self.new.pool.service) }
         ensures goes_on { OnOk result (AllGo self.old self.new) }
-        ensures starts { IsReached (desk_in self.old.desk)
+        ensures starts { IsReached (pool_in self.old.pool)
             → OnOk result (StartsOn number self.old self.new) }
         ensures ordered { OnOk result (StayOrdered self.old.orders.items self.new.orders.items) }
         ensures writes { OnOk result (IsToWrite (called_at number self.new.links.items)
             self.new.orders.items) }
-        ensures closes { OnOk result (ClosesOnly (OpensFor number self.old)
+        ensures closes { OnOk result (ClosesOnly (OpensOrLends number self.old)
             (register_in self.old) (register_in self.new)) }
         ensures counts { cleaned_in self.new ≡ cleaned_in self.old }
         ensures seated { IsSeated self.old → OnOk result (IsSeated self.new) }
         ensures lasts { OnOk result (LastBut
-            (WhoOrWaiting (holder (desk_in self.old.desk) number) (desk_in self.old.desk).line)
+            (WhoOrWaiting (holder (pool_in self.old.pool) number) (pool_in self.old.pool).line)
             (register_in self.old) (register_in self.new)) }
         ensures opening { OnOk result (OpensNew self.old self.new) }
         ensures many { OnOk result (GrowsByOrders self.old self.new) }
-        ensures puts { IsReached (desk_in self.old.desk) → OnOk result
+        ensures puts { IsReached (pool_in self.old.pool) → OnOk result
             (PutsOnly (IsWithHolder number self.old) self.old self.new) }
-        ensures lends { OnOk result (LendsAfter (holder (desk_in self.old.desk) number)
-            (hall_in self.old) (hall_in self.new)) }
+        ensures lends { OnOk result (LendsAfter (holder (pool_in self.old.pool) number)
+            (core_in self.old) (core_in self.new)) }
     {
         self.set_open(number);
         self.order_write_on(number)?;
@@ -107,8 +107,8 @@ impl Relay {
     }
 
     fn set_open(&mut self, number: u64)
-        ensures desk { self.new.desk ≡ self.old.desk }
-        ensures kept { posts_in self.new.applications ≡ posts_in self.old.applications }
+        ensures pool { self.new.pool ≡ self.old.pool }
+        ensures kept { queues_in self.new.applications ≡ queues_in self.old.applications }
         ensures ends { ends_in self.new.applications ≡ ends_in self.old.applications }
         ensures opens { (other : ℕ) → open_at other self.new.links.items
             ≡ opened_at number other self.old.links.items }
@@ -118,8 +118,8 @@ impl Relay {
             ≡ waits_on other self.old.links.items }
         ensures answers { (other : ℕ) → answer_at other self.new.links.items
             ≡ answer_at other self.old.links.items }
-        ensures posts { (other : ℕ) → post_on other self.new.links.items
-            ≡ post_on other self.old.links.items }
+        ensures queues { (other : ℕ) → queue_on other self.new.links.items
+            ≡ queue_on other self.old.links.items }
         ensures asks { AskAsBefore self.old.applications self.new.applications }
         ensures same { AllRest self.old self.new }
         ensures orders { self.new.orders.items ≡ self.old.orders.items }
@@ -133,35 +133,35 @@ impl Relay {
     /// Asks what the application asks that holds a connection.
     #[tactic(auto, using(crate::proofs::steps::Staying::stays_refl, crate::proofs::spared::Resting::go_refl, crate::proofs::spared::Ordered::ordered_refl))]
     fn start_on(&mut self, number: u64) -> Result<(), NoMemory>
-        ensures goes { OnOk result (GoesOn (desk_in self.old.desk) (desk_in self.new.desk)) }
-        ensures kept { OnOk result (posts_in self.new.applications
-            ≡ posts_in self.old.applications) }
-        ensures moves { OnOk result (MovedOn (hall_in self.old) (hall_in self.new)) }
+        ensures goes { OnOk result (GoesOn (pool_in self.old.pool) (pool_in self.new.pool)) }
+        ensures kept { OnOk result (queues_in self.new.applications
+            ≡ queues_in self.old.applications) }
+        ensures moves { OnOk result (MovedOn (core_in self.old) (core_in self.new)) }
         ensures read { OnOk result (Stays self.old.links.items self.new.links.items) }
-        ensures stand { OnOk result (AllStand self.old.desk.service
-            self.new.desk.service) }
+        ensures stand { OnOk result (AllStand self.old.pool.service
+            self.new.pool.service) }
         ensures goes_on { OnOk result (AllGo self.old self.new) }
         ensures waits { OnOk result ((key : ℕ)
-            → key_of (find_number number (desk_in self.old.desk).holds) ≡ Some key
+            → key_of (find_number number (pool_in self.old.pool).holds) ≡ Some key
             → IsUnkept (body_of key self.new) ⊎ IsHeldBack key self.old) }
         ensures behind { OnOk result ((key : ℕ)
-            → key_of (find_number number (desk_in self.old.desk).holds) ≡ Some key
+            → key_of (find_number number (pool_in self.old.pool).holds) ≡ Some key
             → StartsThere key self.old self.new) }
         ensures ordered { OnOk result (StayOrdered self.old.orders.items self.new.orders.items) }
         ensures counts { cleaned_in self.new ≡ cleaned_in self.old }
         ensures closes { OnOk result (ClosesOnly
-            (λ other. IsWho (holder (desk_in self.old.desk) number) other
+            (λ other. IsWho (holder (pool_in self.old.pool) number) other
             × IsTurnedAwayAt other self.old) (register_in self.old) (register_in self.new)) }
         ensures seated { IsSeated self.old → OnOk result (IsSeated self.new) }
-        ensures lasts { OnOk result (LastBut (IsWho (holder (desk_in self.old.desk) number))
+        ensures lasts { OnOk result (LastBut (IsWho (holder (pool_in self.old.pool) number))
             (register_in self.old) (register_in self.new)) }
         ensures opening { opens_in self.new.orders.items ≡ opens_in self.old.orders.items }
-        ensures keeps { IsReached (desk_in self.old.desk) → OnOk result
+        ensures keeps { IsReached (pool_in self.old.pool) → OnOk result
             (FirstKeeps (IsWithHolder number self.old) self.old self.new) }
-        ensures alone { OnOk result (AloneWho (holder (desk_in self.old.desk) number)
-            (hall_in self.old) (hall_in self.new)) }
+        ensures alone { OnOk result (AloneWho (holder (pool_in self.old.pool) number)
+            (core_in self.old) (core_in self.new)) }
     {
-        match self.desk.key_on(number) {
+        match self.pool.key_on(number) {
             Some(key) => self.start_kept(key),
             None => Ok(()),
         }
@@ -170,24 +170,24 @@ impl Relay {
     /// Lends connections to those who wait, in order, while there are any.
     #[tactic(auto, using(crate::proofs::steps::Staying::opens_refl, crate::proofs::steps::Reaching::reaches_turn, crate::proofs::steps::Reaching::reaches_turned, crate::proofs::spared::Resting::go_refl, crate::proofs::spared::Ordered::ordered_refl, crate::proofs::spared::Apart::unserved_refl, crate::proofs::spared::Lasting::last_start))]
     pub(super) fn serve_line(&mut self) -> Result<(), NoMemory>
-        ensures goes { OnOk result (GoesOn (desk_in self.old.desk) (desk_in self.new.desk)) }
-        ensures kept { OnOk result (posts_in self.new.applications
-            ≡ posts_in self.old.applications) }
-        ensures moves { OnOk result (MovedOn (hall_in self.old) (hall_in self.new)) }
+        ensures goes { OnOk result (GoesOn (pool_in self.old.pool) (pool_in self.new.pool)) }
+        ensures kept { OnOk result (queues_in self.new.applications
+            ≡ queues_in self.old.applications) }
+        ensures moves { OnOk result (MovedOn (core_in self.old) (core_in self.new)) }
         ensures served { OnOk result (NobodyWaits self.new) }
         ensures few { OnOk result (Few self.old.most self.old.links.items
             self.new.links.items) }
         ensures opens { OnOk result (Opens self.old.links.items self.new.links.items) }
-        ensures stand { OnOk result (AllStand self.old.desk.service
-            self.new.desk.service) }
+        ensures stand { OnOk result (AllStand self.old.pool.service
+            self.new.pool.service) }
         ensures goes_on { OnOk result (AllGo self.old self.new) }
-        ensures apart { OnOk result (UnlessServed (hall_in self.old) (hall_in self.new)) }
-        ensures lends { OnOk result (LendsInTurn (desk_in self.old.desk).line
-            (ends_in self.old.applications) (hall_in self.new)) }
+        ensures apart { OnOk result (UnlessServed (core_in self.old) (core_in self.new)) }
+        ensures lends { OnOk result (LendsInTurn (pool_in self.old.pool).line
+            (ends_in self.old.applications) (core_in self.new)) }
         ensures ordered { OnOk result (StayOrdered self.old.orders.items self.new.orders.items) }
-        ensures closes { OnOk result (ClosesOnly (IsWaiting (desk_in self.old.desk).line)
+        ensures closes { OnOk result (ClosesOnly (IsWaiting (pool_in self.old.pool).line)
             (register_in self.old) (register_in self.new)) }
-        ensures lasts { OnOk result (LastBut (IsWaiting (desk_in self.old.desk).line)
+        ensures lasts { OnOk result (LastBut (IsWaiting (pool_in self.old.pool).line)
             (register_in self.old) (register_in self.new)) }
         ensures vain { OnOk result (ClosesOnly (IsLentInVain self.old) (register_in self.old)
             (register_in self.new)) }
@@ -195,15 +195,17 @@ impl Relay {
         ensures counts { cleaned_in self.new ≡ cleaned_in self.old }
         ensures opening { OnOk result (OpensNew self.old self.new) }
         ensures many { OnOk result (GrowsByOrders self.old self.new) }
-        ensures fills { IsReached (desk_in self.old.desk)
+        ensures fills { IsReached (pool_in self.old.pool)
             → OnOk result (LendsInLine self.old self.new) }
+        ensures aside { IsReached (pool_in self.old.pool)
+            → OnOk result (AwayRest self.old self.new) }
     {
-        let waiting = self.desk.waiting();
+        let waiting = self.pool.waiting();
         'line: for turn in 0..waiting {
             if self.is_full() {
                 return Ok(());
             }
-            match self.desk.serve()? {
+            match self.pool.serve()? {
                 Some(served) => self.lend(served)?,
                 None => return Ok(()),
             }
@@ -214,21 +216,21 @@ impl Relay {
     /// A connection is lent to an application. One that nobody had is opened.
     #[tactic(auto, using(crate::proofs::steps::Reaching::reaches_turn, crate::proofs::steps::Reaching::reaches_turned))]
     fn lend(&mut self, served: Served) -> Result<(), NoMemory>
-        ensures goes { OnOk result (GoesOn (desk_in self.old.desk) (desk_in self.new.desk)) }
-        ensures kept { OnOk result (posts_in self.new.applications
-            ≡ posts_in self.old.applications) }
-        ensures moves { OnOk result (MovedOn (hall_in self.old) (hall_in self.new)) }
+        ensures goes { OnOk result (GoesOn (pool_in self.old.pool) (pool_in self.new.pool)) }
+        ensures kept { OnOk result (queues_in self.new.applications
+            ≡ queues_in self.old.applications) }
+        ensures moves { OnOk result (MovedOn (core_in self.old) (core_in self.new)) }
         ensures opens { OnOk result (Opens self.old.links.items self.new.links.items) }
         ensures few { OnOk result (FewBy served.had self.old.links.items self.new.links.items) }
         ensures underway { (whole : Bool) → served.had ≡ true
             → waits_of (get self.old.applications served.hold.key) ≡ Some whole
             → OnOk result (IsUnderway whole self.new.links.items served.hold.key
-            (hall_in self.new)) }
-        ensures stand { OnOk result (AllStand self.old.desk.service
-            self.new.desk.service) }
+            (core_in self.new)) }
+        ensures stand { OnOk result (AllStand self.old.pool.service
+            self.new.pool.service) }
         ensures goes_on { OnOk result (AllGo self.old self.new) }
-        ensures alone { OnOk result (Alone served.hold.key (hall_in self.old)
-            (hall_in self.new)) }
+        ensures alone { OnOk result (Alone served.hold.key (core_in self.old)
+            (core_in self.new)) }
         ensures ordered { OnOk result (StayOrdered self.old.orders.items self.new.orders.items) }
         ensures begins { served.had ≡ true → OnOk result (BeginsOn served.hold.number
             self.old.links.items self.new.links.items) }
@@ -247,9 +249,11 @@ impl Relay {
         ensures opening { OnOk result (opens_in self.new.orders.items
             ≡ opens_in self.old.orders.items ++ opens_if served.had served.hold.number) }
         ensures many { OnOk result (GrowsByOrders self.old self.new) }
-        ensures own { IsReached (desk_in self.old.desk)
-            → holder (desk_in self.old.desk) served.hold.number ≡ Some served.hold.key
+        ensures own { IsReached (pool_in self.old.pool)
+            → holder (pool_in self.old.pool) served.hold.number ≡ Some served.hold.key
             → OnOk result (IsOnItsOwn served.hold.key self.old self.new) }
+        ensures others { IsReached (pool_in self.old.pool)
+            → OnOk result (OthersRest served.hold.key self.old self.new) }
     {
         let number = served.hold.number;
         if served.had {
@@ -264,9 +268,9 @@ impl Relay {
 
     /// What comes next there is a message's first packet. Who held it may have left in the middle of one.
     pub(super) fn restart(&mut self, number: u64)
-        ensures desk { self.new.desk ≡ self.old.desk }
+        ensures pool { self.new.pool ≡ self.old.pool }
         ensures same { self.new.applications ≡ self.old.applications }
-        ensures kept { posts_in self.new.applications ≡ posts_in self.old.applications }
+        ensures kept { queues_in self.new.applications ≡ queues_in self.old.applications }
         ensures ends { ends_in self.new.applications ≡ ends_in self.old.applications }
         ensures read { Stays self.old.links.items self.new.links.items }
         ensures begins { answer_at number self.new.links.items
@@ -274,8 +278,8 @@ impl Relay {
         ensures any { MayBeginAny self.old.links.items self.new.links.items }
         ensures waits { (other : ℕ) → waits_on other self.new.links.items
             ≡ waits_on other self.old.links.items }
-        ensures posts { (other : ℕ) → post_on other self.new.links.items
-            ≡ post_on other self.old.links.items }
+        ensures queues { (other : ℕ) → queue_on other self.new.links.items
+            ≡ queue_on other self.old.links.items }
         ensures rests { AllRest self.old self.new }
         ensures orders { self.new.orders.items ≡ self.old.orders.items }
         ensures closes { ClosesOnly Nobody (register_in self.old) (register_in self.new) }
@@ -291,37 +295,39 @@ impl Relay {
     /// what it took back.
     #[tactic(auto, using(crate::proofs::steps::Reaching::reaches_turn, crate::proofs::steps::Reaching::reaches_turned, crate::proofs::steps::Underway::of_none, crate::proofs::steps::Underway::of_over, crate::proofs::steps::Underway::drains, crate::proofs::bytes::Calls::stand_on, crate::proofs::spared::Resting::others_refl, crate::proofs::spared::Ordered::ordered_refl, crate::proofs::spared::Apart::alone_refl))]
     pub(super) fn start(&mut self, key: usize) -> Result<(), NoMemory>
-        ensures goes { OnOk result (GoesOn (desk_in self.old.desk) (desk_in self.new.desk)) }
-        ensures kept { OnOk result (posts_in self.new.applications
-            ≡ posts_in self.old.applications) }
-        ensures moves { OnOk result (IsReset (desk_in self.old.desk) key
+        ensures goes { OnOk result (GoesOn (pool_in self.old.pool) (pool_in self.new.pool)) }
+        ensures kept { OnOk result (queues_in self.new.applications
+            ≡ queues_in self.old.applications) }
+        ensures moves { OnOk result (IsReset (pool_in self.old.pool) key
             (end_at (ends_in self.old.applications) key)
-            → HasBegun (desk_in self.old.desk) key (end_at (ends_in self.old.applications) key)
-            → MovedOn (hall_in self.old) (hall_in self.new)) }
+            → HasBegun (pool_in self.old.pool) key (end_at (ends_in self.old.applications) key)
+            → MovedOn (core_in self.old) (core_in self.new)) }
         ensures underway { (whole : Bool) → waits_of (get self.old.applications key) ≡ Some whole
-            → OnOk result (IsUnderway whole self.new.links.items key (hall_in self.new)) }
+            → OnOk result (IsUnderway whole self.new.links.items key (core_in self.new)) }
         ensures read { OnOk result (Stays self.old.links.items self.new.links.items) }
-        ensures stand { OnOk result (AllStand self.old.desk.service
-            self.new.desk.service) }
+        ensures stand { OnOk result (AllStand self.old.pool.service
+            self.new.pool.service) }
         ensures body { OnOk result (Starts (body_of key self.old) (body_of key self.new)) }
-        ensures others { IsReached (desk_in self.old.desk)
+        ensures others { IsReached (pool_in self.old.pool)
             → OnOk result (OthersRest key self.old self.new) }
         ensures waits { OnOk result (IsUnkept (body_of key self.new)
             ⊎ IsHeldBack key self.old) }
-        ensures alone { OnOk result (Alone key (hall_in self.old) (hall_in self.new)) }
+        ensures alone { OnOk result (Alone key (core_in self.old) (core_in self.new)) }
         ensures ordered { OnOk result (StayOrdered self.old.orders.items self.new.orders.items) }
         ensures placed { OnOk result (GoesOrWaits key self.new) }
         ensures behind { OnOk result (StartsThere key self.old self.new) }
         ensures answers { OnOk result (KeepsAnswers self.old.links.items self.new.links.items) }
-        ensures closes { OnOk result (ClosesOnly (ItselfFor key (IsUnheld key self.old.desk
+        ensures closes { OnOk result (ClosesOnly (ItselfFor key (IsUnheld key self.old.pool
             ⊎ CannotStartAt key self.old)) (register_in self.old) (register_in self.new)) }
         ensures lasts { OnOk result (LastBut (Itself key)
             (register_in self.old) (register_in self.new)) }
         ensures seated { IsSeated self.old → OnOk result (IsSeated self.new) }
         ensures counts { cleaned_in self.new ≡ cleaned_in self.old }
         ensures opening { opens_in self.new.orders.items ≡ opens_in self.old.orders.items }
-        ensures own { IsReached (desk_in self.old.desk) → OnOk result
+        ensures own { IsReached (pool_in self.old.pool) → OnOk result
             (IsOnItsOwn key self.old self.new) }
+        ensures puts { OnOk result (GoesFrom (standing_in key self.old)
+            (standing_in key self.new)) }
     {
         let Some(application) = self.applications.get(key) else {
             return Ok(());
@@ -332,7 +338,7 @@ impl Relay {
         let Asking::Waits { kind, whole } = application.asking else {
             return Ok(());
         };
-        let Some(hold) = self.desk.hold_of(key) else {
+        let Some(hold) = self.pool.hold_of(key) else {
             return self.end(key);
         };
         if application.is_withdrawn {
@@ -341,7 +347,7 @@ impl Relay {
         if !self.is_open(hold.number) {
             return Ok(());
         }
-        match self.desk.ask(key, kind) {
+        match self.pool.ask(key, kind) {
             Ok(_) => self.put_held(key, whole),
             Err(refusal) => {
                 unless_memory(refusal)?;
@@ -352,17 +358,17 @@ impl Relay {
 
     /// A connection that an application holds doesn't take its request: both are closed.
     pub(super) fn fail(&mut self, key: usize, number: u64) -> Result<(), NoMemory>
-        ensures goes { OnOk result (GoesOn (desk_in self.old.desk) (desk_in self.new.desk)) }
-        ensures kept { OnOk result (posts_in self.new.applications
-            ≡ posts_in self.old.applications) }
-        ensures moves { OnOk result (MovedOn (hall_in self.old) (hall_in self.new)) }
+        ensures goes { OnOk result (GoesOn (pool_in self.old.pool) (pool_in self.new.pool)) }
+        ensures kept { OnOk result (queues_in self.new.applications
+            ≡ queues_in self.old.applications) }
+        ensures moves { OnOk result (MovedOn (core_in self.old) (core_in self.new)) }
         ensures over { OnOk result (IsDeaf (end_at (ends_in self.new.applications) key)) }
         ensures read { OnOk result (Stays self.old.links.items self.new.links.items) }
-        ensures stand { OnOk result (AllStand self.old.desk.service
-            self.new.desk.service) }
-        ensures rests { IsReached (desk_in self.old.desk)
+        ensures stand { OnOk result (AllStand self.old.pool.service
+            self.new.pool.service) }
+        ensures rests { IsReached (pool_in self.old.pool)
             → OnOk result (AllRest self.old self.new) }
-        ensures alone { OnOk result (Alone key (hall_in self.old) (hall_in self.new)) }
+        ensures alone { OnOk result (Alone key (core_in self.old) (core_in self.new)) }
         ensures ordered { OnOk result (StayOrdered self.old.orders.items self.new.orders.items) }
         ensures answers { OnOk result (KeepsAnswers self.old.links.items self.new.links.items) }
         ensures closes { OnOk result (ClosesOnly (Itself key)

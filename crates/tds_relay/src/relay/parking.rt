@@ -3,24 +3,25 @@ ghost use Rattle.std.specs.Prelude.{◌≡◌, OnOk, IfOk, false, true, Some};
 ghost use Rattle.tds_relay.specs.Apart.{LendsInTurn, UnlessServed};
 ghost use Rattle.tds_relay.specs.Cleaning.{CountsHold, CountsSinceEnd, WaitsSinceEnd, cleaned_in};
 ghost use Rattle.tds_relay.specs.Closings.{ClosesOnly, IsWaiting, register_in};
-ghost use Rattle.tds_relay.specs.Desk.{Sharing, find_key, without};
+ghost use Rattle.tds_relay.specs.Pool.{Sharing, find_key, without};
 ghost use Rattle.tds_relay.specs.Lent.{LastBesides, PutsOnly};
+ghost use Rattle.tds_relay.specs.Waiting.{IsLentByParting};
 ghost use Rattle.tds_relay.specs.Few.{Few, IsSeated, NobodyWaits};
-ghost use Rattle.tds_relay.specs.Fronts.{ends_in, hall_in, house_in};
-ghost use Rattle.tds_relay.specs.Hall.{IsAway, change_end, holder, lets_go};
-ghost use Rattle.tds_relay.specs.House.{IsLedTo, Steps};
+ghost use Rattle.tds_relay.specs.Fronts.{ends_in, core_in, machine_in};
+ghost use Rattle.tds_relay.specs.Core.{IsAway, change_end, holder, lets_go};
+ghost use Rattle.tds_relay.specs.Machine.{IsLedTo, Steps};
 ghost use Rattle.tds_relay.specs.Ordering.{GrowsByOrders, OpensNew, StayOrdered};
 ghost use Rattle.tds_relay.specs.Parking.{may_park_in};
 ghost use Rattle.tds_relay.specs.Places.{held_by};
-ghost use Rattle.tds_relay.specs.Posts.{posts_in};
+ghost use Rattle.tds_relay.specs.Queues.{queues_in};
 ghost use Rattle.tds_relay.specs.Reads.{Opens};
 ghost use Rattle.tds_relay.specs.Sparing.{AllGo};
-ghost use Rattle.tds_relay.specs.Ties.{Application, Goes, IsReached, Leaving, Parking, desk_in};
-ghost use Rattle.tds_relay.specs.Walkers.{AllStand};
+ghost use Rattle.tds_relay.specs.Ties.{Application, Goes, IsReached, Leaving, Parking, pool_in};
+ghost use Rattle.tds_relay.specs.TokenParsers.{AllStand};
 
 use super::Relay;
 use crate::NoMemory;
-use crate::desk::Mode;
+use crate::pool::Mode;
 
 impl Relay {
     /// Parts an application from its connection at rest, so that who waits is lent that once it is clean. It is
@@ -35,45 +36,45 @@ impl Relay {
         ensures is { IfOk result (λ is. is ≡ may_park_in self.old key) }
         ensures nothing { IfOk result (λ is. is ≡ false → self.new ≡ self.old) }
         ensures left { IfOk result (λ is. is ≡ true
-            → Leaving key (desk_in self.old.desk) (desk_in self.new.desk)) }
-        ensures away { (sharing : Sharing) → IsLedTo sharing (house_in self.old)
-            → IfOk result (λ is. is ≡ true → IsAway (hall_in self.new) key) }
+            → Leaving key (pool_in self.old.pool) (pool_in self.new.pool)) }
+        ensures away { (sharing : Sharing) → IsLedTo sharing (machine_in self.old)
+            → IfOk result (λ is. is ≡ true → IsAway (core_in self.new) key) }
         ensures goes { OnOk result (Goes (Application key)
-            (desk_in self.old.desk) (desk_in self.new.desk)) }
-        ensures steps { OnOk result (Steps (Parking key) (house_in self.old)
-            (house_in self.new)) }
-        ensures kept { OnOk result (posts_in self.new.applications
-            ≡ posts_in self.old.applications) }
+            (pool_in self.old.pool) (pool_in self.new.pool)) }
+        ensures steps { OnOk result (Steps (Parking key) (machine_in self.old)
+            (machine_in self.new)) }
+        ensures kept { OnOk result (queues_in self.new.applications
+            ≡ queues_in self.old.applications) }
         ensures served { IfOk result (λ is. is ≡ true → NobodyWaits self.new) }
         ensures lends { IfOk result (λ is. is ≡ true
-            → LendsInTurn (without key (desk_in self.old.desk).line)
-            (change_end key lets_go (ends_in self.old.applications)) (hall_in self.new)) }
+            → LendsInTurn (without key (pool_in self.old.pool).line)
+            (change_end key lets_go (ends_in self.old.applications)) (core_in self.new)) }
         ensures few { OnOk result (Few self.old.most self.old.links.items
             self.new.links.items) }
         ensures opens { OnOk result (Opens self.old.links.items self.new.links.items) }
-        ensures stand { OnOk result (AllStand self.old.desk.service
-            self.new.desk.service) }
+        ensures stand { OnOk result (AllStand self.old.pool.service
+            self.new.pool.service) }
         ensures goes_on { OnOk result (AllGo self.old self.new) }
-        ensures apart { OnOk result (UnlessServed (hall_in self.old) (hall_in self.new)) }
+        ensures apart { OnOk result (UnlessServed (core_in self.old) (core_in self.new)) }
         ensures ordered { OnOk result (StayOrdered self.old.orders.items self.new.orders.items) }
-        ensures closes { OnOk result (ClosesOnly (IsWaiting (desk_in self.old.desk).line)
+        ensures closes { OnOk result (ClosesOnly (IsLentByParting (Parking key) key self.old)
             (register_in self.old) (register_in self.new)) }
-        ensures ends { IsReached (desk_in self.old.desk) → IfOk result (λ is. is ≡ true
+        ensures ends { IsReached (pool_in self.old.pool) → IfOk result (λ is. is ≡ true
             → WaitsSinceEnd key self.old self.new) }
         ensures seated { IsSeated self.old → OnOk result (IsSeated self.new) }
         ensures lasts { OnOk result (LastBesides
-            (λ number. held_by (desk_in self.old.desk) key ≡ Some number)
-            (IsWaiting (desk_in self.old.desk).line) (register_in self.old)
+            (λ number. held_by (pool_in self.old.pool) key ≡ Some number)
+            (IsWaiting (pool_in self.old.pool).line) (register_in self.old)
             (register_in self.new)) }
         ensures counts { IfOk result (λ is. is ≡ true
-            → CountsHold (find_key key (desk_in self.old.desk).holds)
+            → CountsHold (find_key key (pool_in self.old.pool).holds)
             (cleaned_in self.old) (cleaned_in self.new)) }
-        ensures cleaned { IsReached (desk_in self.old.desk) → IfOk result (λ is. is ≡ true
+        ensures cleaned { IsReached (pool_in self.old.pool) → IfOk result (λ is. is ≡ true
             → CountsSinceEnd key (register_in self.old) self.old self.new) }
         ensures opening { OnOk result (OpensNew self.old self.new) }
         ensures many { OnOk result (GrowsByOrders self.old self.new) }
-        ensures puts { IsReached (desk_in self.old.desk) → OnOk result (PutsOnly
-            (λ number. holder (desk_in self.old.desk) number ≡ Some key)
+        ensures puts { IsReached (pool_in self.old.pool) → OnOk result (PutsOnly
+            (λ number. holder (pool_in self.old.pool) number ≡ Some key)
             self.old self.new) }
     {
         if !self.may_park(key) {
@@ -88,7 +89,7 @@ impl Relay {
     fn may_park(&self, key: usize) -> bool
         ensures { result ≡ may_park_in self.now key }
     {
-        match self.desk.mode() {
+        match self.pool.mode() {
             Mode::Sessions => return false,
             Mode::Transactions => {}
         }
@@ -101,8 +102,8 @@ impl Relay {
         if !application.has_no_request() {
             return false;
         }
-        match self.desk.hold_of(key) {
-            Some(hold) => self.desk.is_clean_on(hold.number),
+        match self.pool.hold_of(key) {
+            Some(hold) => self.pool.is_clean_on(hold.number),
             None => false,
         }
     }

@@ -1,11 +1,11 @@
 //! Where applications and connections are, for whoever tells an operator of it or sets time limits.
 ghost use Rattle.std.specs.Prelude.{◌≡◌, option_copied};
 ghost use Rattle.slab.specs.Slab.{get};
-ghost use Rattle.tds_relay.specs.Desk.{fault_on};
+ghost use Rattle.tds_relay.specs.Pool.{fault_on};
 ghost use Rattle.tds_relay.specs.Faults.{header_fault_in, why_at};
-ghost use Rattle.tds_relay.specs.Fronts.{house_in};
+ghost use Rattle.tds_relay.specs.Fronts.{machine_in};
 ghost use Rattle.tds_relay.specs.Places.{begun_in, held_by, open_on};
-ghost use Rattle.tds_relay.specs.Ties.{desk_in};
+ghost use Rattle.tds_relay.specs.Ties.{pool_in};
 ghost use Rattle.tds_relay.specs.Told.{counts_in, has_cancelled, held_name, held_place, holder_name};
 ghost use Rattle.tds_relay.specs.Told.{place_on, place_with, told_place, unheld_place};
 
@@ -65,11 +65,11 @@ pub struct Counts {
 impl Relay {
     /// Where the application of this key is, if there is one.
     pub fn place_of(&self, key: usize) -> Option<Place>
-        ensures { result ≡ told_place (held_by (desk_in self.now.desk) key)
+        ensures { result ≡ told_place (held_by (pool_in self.now.pool) key)
             (get self.now.applications key) }
     {
         let application = self.applications.get(key)?;
-        let number = match self.desk.hold_of(key) {
+        let number = match self.pool.hold_of(key) {
             Some(hold) => Some(hold.number),
             None => None,
         };
@@ -80,7 +80,7 @@ impl Relay {
     pub fn held_tag(&self, key: usize) -> Option<usize>
         ensures { result ≡ held_name key self.now }
     {
-        let hold = self.desk.hold_of(key)?;
+        let hold = self.pool.hold_of(key)?;
         self.link(hold.number)?.tag
     }
 
@@ -88,7 +88,7 @@ impl Relay {
     pub fn holder_tag(&self, number: u64) -> Option<usize>
         ensures { result ≡ holder_name number self.now }
     {
-        let key = self.desk.key_on(number)?;
+        let key = self.pool.key_on(number)?;
         Some(self.applications.get(key)?.tag)
     }
 
@@ -105,7 +105,7 @@ impl Relay {
     /// What an application did that the protocol doesn't allow, where it is to be closed for that.
     #[tactic(auto, using(crate::proofs::steps::Faults::why_there, crate::proofs::steps::Faults::why_nobody))]
     pub fn fault_of(&self, key: usize) -> Option<FrontFault>
-        ensures { result ≡ why_at key (house_in self.now) }
+        ensures { result ≡ why_at key (machine_in self.now) }
     {
         match self.applications.get(key) {
             Some(application) => application.fault(),
@@ -116,9 +116,9 @@ impl Relay {
     /// What the server said on the connection of this number that no server may, where that is closed for it:
     /// until another one is.
     pub fn fault_on(&self, number: u64) -> Option<&ListenFault>
-        ensures { option_copied result ≡ fault_on number (desk_in self.now.desk) }
+        ensures { option_copied result ≡ fault_on number (pool_in self.now.pool) }
     {
-        self.desk.fault_on(number)
+        self.pool.fault_on(number)
     }
 
     /// The fault of the header of a packet that came on the connection of this number, where that is closed for
@@ -140,16 +140,16 @@ impl Relay {
 
     /// Where the connection of this number is, if there is one.
     pub fn place_on(&self, number: u64) -> Option<PlaceOn>
-        ensures { result ≡ place_on (desk_in self.now.desk) self.now.links.items number }
+        ensures { result ≡ place_on (pool_in self.now.pool) self.now.links.items number }
     {
         let link = self.link(number)?;
         if !link.is_open {
             return Some(PlaceOn::Opening);
         }
-        if let Some(key) = self.desk.key_on(number) {
+        if let Some(key) = self.pool.key_on(number) {
             return Some(PlaceOn::Held(key));
         }
-        Some(match self.desk.place_on(number)? {
+        Some(match self.pool.place_on(number)? {
             Seated::Free => PlaceOn::Free,
             Seated::Draining => PlaceOn::Draining,
             Seated::Cleaning(_) | Seated::Leased(_) | Seated::Kept(_) => PlaceOn::Cleaning,
@@ -159,23 +159,23 @@ impl Relay {
     /// Whether a transaction is open on the connection of this number, if there is one. One that the next
     /// request's full reset ends isn't counted.
     pub fn is_open_on(&self, number: u64) -> Option<bool>
-        ensures { result ≡ open_on (desk_in self.now.desk) number }
+        ensures { result ≡ open_on (pool_in self.now.pool) number }
     {
-        self.desk.is_open_on(number)
+        self.pool.is_open_on(number)
     }
 
     /// The keys of the applications that wait for a connection, the first one first.
     pub fn line(&self) -> &[usize]
-        ensures { result.now ≡ (desk_in self.now.desk).line }
+        ensures { result.now ≡ (pool_in self.now.pool).line }
     {
-        self.desk.line()
+        self.pool.line()
     }
 
     /// What the relay has done.
     pub fn counts(&self) -> Counts
         ensures { result ≡ counts_in self.now }
     {
-        let figures = self.desk.figures();
+        let figures = self.pool.figures();
         Counts {
             requests: figures.requests,
             cancels: figures.cancels,

@@ -4,18 +4,18 @@ ghost use Rattle.tds_relay.specs.Apart.{Alone};
 ghost use Rattle.tds_relay.specs.Asking.{IsUnderway, SendsOn};
 ghost use Rattle.tds_relay.specs.Bodies.{AskAsBefore, ClientPuts, Grows, PutsOn, body_of, going_of, held_of};
 ghost use Rattle.tds_relay.specs.Closings.{ClosesOnly, Nobody, register_in};
-ghost use Rattle.tds_relay.specs.Desk.{find_key};
-ghost use Rattle.tds_relay.specs.declared.desk.Hold.{Hold};
+ghost use Rattle.tds_relay.specs.Pool.{find_key};
+ghost use Rattle.tds_relay.specs.declared.pool.Hold.{Hold};
 ghost use Rattle.tds_relay.specs.Lent.{IsOnItsOwn, KeepsAnswers, LastOrDeaf};
-ghost use Rattle.tds_relay.specs.Fronts.{MayPut, MovedOn, ends_in, goes_by, hall_in, puts};
-ghost use Rattle.tds_relay.specs.Hall.{IfOpen, change_end, end_at};
+ghost use Rattle.tds_relay.specs.Fronts.{MayPut, MovedOn, ends_in, goes_by, core_in, puts};
+ghost use Rattle.tds_relay.specs.Core.{IfOpen, change_end, end_at};
 ghost use Rattle.tds_relay.specs.Ordering.{StayOrdered, opens_in};
-ghost use Rattle.tds_relay.specs.Posts.{posts_in};
+ghost use Rattle.tds_relay.specs.Queues.{queues_in};
 ghost use Rattle.tds_relay.specs.Reads.{Stays};
 ghost use Rattle.tds_relay.specs.Reasons.{CannotPut, IsReason, IsUnbegun, IsUntaken, ItselfFor};
 ghost use Rattle.tds_relay.specs.Sparing.{IsUnkept, OthersHold, OthersRest};
-ghost use Rattle.tds_relay.specs.Ties.{GoesOn, IsReached, desk_in};
-ghost use Rattle.tds_relay.specs.Walkers.{AllStand};
+ghost use Rattle.tds_relay.specs.Ties.{GoesOn, IsReached, pool_in};
+ghost use Rattle.tds_relay.specs.TokenParsers.{AllStand};
 ghost use Rattle.tds_relay.specs.Few.{IsSeated, KeepsSeats};
 ghost use Rattle.tds_relay.specs.Cleaning.{cleaned_in};
 ghost use Rattle.slab.specs.Slab.{get};
@@ -23,7 +23,7 @@ ghost use Rattle.slab.specs.Slab.{get};
 use super::Relay;
 use crate::NoMemory;
 use crate::application::Asking;
-use crate::desk::Desk;
+use crate::pool::Pool;
 use std::alloc::AllocError;
 use tds_service::Refusal;
 
@@ -31,39 +31,39 @@ impl Relay {
     /// Puts bytes of a request on its connection, and its end.
     #[tactic(auto, using(crate::proofs::steps::Reaching::reaches_turn, crate::proofs::steps::Reaching::reaches_turned))]
     pub(super) fn put(&mut self, key: usize, bytes: &[u8], whole: bool) -> Result<(), NoMemory>
-        ensures goes { OnOk result (GoesOn (desk_in self.old.desk) (desk_in self.new.desk)) }
-        ensures kept { OnOk result (posts_in self.new.applications
-            ≡ posts_in self.old.applications) }
-        ensures moves { OnOk result (MovedOn (hall_in self.old) (hall_in self.new)) }
+        ensures goes { OnOk result (GoesOn (pool_in self.old.pool) (pool_in self.new.pool)) }
+        ensures kept { OnOk result (queues_in self.new.applications
+            ≡ queues_in self.old.applications) }
+        ensures moves { OnOk result (MovedOn (core_in self.old) (core_in self.new)) }
         ensures underway { OnOk result (IsUnderway whole self.new.links.items key
-            (hall_in self.new)) }
+            (core_in self.new)) }
         ensures read { OnOk result (Stays self.old.links.items self.new.links.items) }
-        ensures stand { OnOk result (AllStand self.old.desk.service
-            self.new.desk.service) }
+        ensures stand { OnOk result (AllStand self.old.pool.service
+            self.new.pool.service) }
         ensures body { OnOk result (PutsOn whole bytes.now key self.old self.new) }
-        ensures others { IsReached (desk_in self.old.desk)
+        ensures others { IsReached (pool_in self.old.pool)
             → OnOk result (OthersRest key self.old self.new) }
-        ensures alone { OnOk result (Alone key (hall_in self.old) (hall_in self.new)) }
+        ensures alone { OnOk result (Alone key (core_in self.old) (core_in self.new)) }
         ensures ordered { OnOk result (StayOrdered self.old.orders.items self.new.orders.items) }
         ensures answers { OnOk result (KeepsAnswers self.old.links.items self.new.links.items) }
         ensures closes { OnOk result (ClosesOnly (ItselfFor key (CannotPut whole bytes.now key
-            (end_at (ends_in self.old.applications) key) self.old.desk self.old.links.items))
+            (end_at (ends_in self.old.applications) key) self.old.pool self.old.links.items))
             (register_in self.old) (register_in self.new)) }
         ensures lasts { OnOk result (LastOrDeaf key self.old.links.items self.new) }
         ensures seated { IsSeated self.old → OnOk result (IsSeated self.new) }
         ensures counts { cleaned_in self.new ≡ cleaned_in self.old }
         ensures opening { opens_in self.new.orders.items ≡ opens_in self.old.orders.items }
-        ensures own { IsReached (desk_in self.old.desk) → OnOk result
+        ensures own { IsReached (pool_in self.old.pool) → OnOk result
             (IsOnItsOwn key self.old self.new) }
     {
-        let Some(hold) = self.desk.hold_of(key) else {
+        let Some(hold) = self.pool.hold_of(key) else {
             return self.end(key);
         };
         if !self.may_put(key, whole) {
             return self.fail(key, hold.number);
         }
         self.outbox.clear();
-        let is_put = put_on(&mut self.desk, key, bytes, whole, &mut self.outbox)?;
+        let is_put = put_on(&mut self.pool, key, bytes, whole, &mut self.outbox)?;
         self.note_went_on(key);
         if !is_put {
             return self.fail(key, hold.number);
@@ -77,34 +77,34 @@ impl Relay {
     }
 
     /// Puts what is kept of a request on its connection.
-    #[tactic(auto, using(crate::proofs::steps::Posting::kept_more, crate::proofs::steps::Posting::posts_kept, crate::proofs::steps::Fronts::ends_more, crate::proofs::steps::Fronts::ends_kept, crate::proofs::steps::Underway::of_none, crate::proofs::spared::Resting::others_refl, crate::proofs::spared::Ordered::ordered_refl, crate::proofs::spared::Apart::alone_refl))]
+    #[tactic(auto, using(crate::proofs::steps::Queueing::kept_more, crate::proofs::steps::Queueing::queues_kept, crate::proofs::steps::Fronts::ends_more, crate::proofs::steps::Fronts::ends_kept, crate::proofs::steps::Underway::of_none, crate::proofs::spared::Resting::others_refl, crate::proofs::spared::Ordered::ordered_refl, crate::proofs::spared::Apart::alone_refl))]
     pub(super) fn put_held(&mut self, key: usize, whole: bool) -> Result<(), NoMemory>
-        ensures goes { OnOk result (GoesOn (desk_in self.old.desk) (desk_in self.new.desk)) }
-        ensures kept { OnOk result (posts_in self.new.applications
-            ≡ posts_in self.old.applications) }
-        ensures moves { OnOk result (MovedOn (hall_in self.old) (hall_in self.new)) }
+        ensures goes { OnOk result (GoesOn (pool_in self.old.pool) (pool_in self.new.pool)) }
+        ensures kept { OnOk result (queues_in self.new.applications
+            ≡ queues_in self.old.applications) }
+        ensures moves { OnOk result (MovedOn (core_in self.old) (core_in self.new)) }
         ensures underway { OnOk result (IsUnderway whole self.new.links.items key
-            (hall_in self.new)) }
+            (core_in self.new)) }
         ensures read { OnOk result (Stays self.old.links.items self.new.links.items) }
-        ensures stand { OnOk result (AllStand self.old.desk.service
-            self.new.desk.service) }
+        ensures stand { OnOk result (AllStand self.old.pool.service
+            self.new.pool.service) }
         ensures body { OnOk result (Grows whole (held_of (get self.old.applications key))
             (going_of key self.old) (body_of key self.new)) }
-        ensures others { IsReached (desk_in self.old.desk)
+        ensures others { IsReached (pool_in self.old.pool)
             → OnOk result (OthersRest key self.old self.new) }
         ensures gone { OnOk result (IsUnkept (body_of key self.new)) }
-        ensures alone { OnOk result (Alone key (hall_in self.old) (hall_in self.new)) }
+        ensures alone { OnOk result (Alone key (core_in self.old) (core_in self.new)) }
         ensures ordered { OnOk result (StayOrdered self.old.orders.items self.new.orders.items) }
         ensures answers { OnOk result (KeepsAnswers self.old.links.items self.new.links.items) }
         ensures closes { OnOk result (ClosesOnly (ItselfFor key (CannotPut whole
             (held_of (get self.old.applications key)) key
-            (end_at (ends_in self.old.applications) key) self.old.desk self.old.links.items))
+            (end_at (ends_in self.old.applications) key) self.old.pool self.old.links.items))
             (register_in self.old) (register_in self.new)) }
         ensures lasts { OnOk result (LastOrDeaf key self.old.links.items self.new) }
         ensures seated { IsSeated self.old → OnOk result (IsSeated self.new) }
         ensures counts { cleaned_in self.new ≡ cleaned_in self.old }
         ensures opening { opens_in self.new.orders.items ≡ opens_in self.old.orders.items }
-        ensures own { IsReached (desk_in self.old.desk) → OnOk result
+        ensures own { IsReached (pool_in self.old.pool) → OnOk result
             (IsOnItsOwn key self.old self.new) }
     {
         let Some(application) = self.applications.get_mut(key) else {
@@ -127,10 +127,10 @@ impl Relay {
         }
     }
 
-    /// Something of a request goes on, where the desk has something to send.
+    /// Something of a request goes on, where the pool has something to send.
     fn note_went_on(&mut self, key: usize)
-        ensures desk { self.new.desk ≡ self.old.desk }
-        ensures kept { posts_in self.new.applications ≡ posts_in self.old.applications }
+        ensures pool { self.new.pool ≡ self.old.pool }
+        ensures kept { queues_in self.new.applications ≡ queues_in self.old.applications }
         ensures ends { ends_in self.new.applications
             ≡ change_end key (goes_by self.old.outbox.items) (ends_in self.old.applications) }
         ensures links { self.new.links.items ≡ self.old.links.items }
@@ -152,28 +152,28 @@ impl Relay {
 
 /// Puts bytes of a request, and its end. False where one was refused.
 fn put_on(
-    desk: &mut Desk,
+    pool: &mut Pool,
     key: usize,
     bytes: &[u8],
     whole: bool,
     out: &mut Vec<u8>,
 ) -> Result<bool, NoMemory>
-    ensures goes { OnOk result (GoesOn (desk_in desk.old) (desk_in desk.new)) }
-    ensures puts { OnOk result (MayPut key whole (desk_in desk.old) (desk_in desk.new)
+    ensures goes { OnOk result (GoesOn (pool_in pool.old) (pool_in pool.new)) }
+    ensures puts { OnOk result (MayPut key whole (pool_in pool.old) (pool_in pool.new)
         out.old.items out.new.items) }
-    ensures sends { IfOk result (λ is. is ≡ true → SendsOn whole (desk_in desk.new) key) }
-    ensures stand { OnOk result (AllStand desk.old.service desk.new.service) }
-    ensures body { IfOk result (λ is. is ≡ true → ClientPuts whole bytes.now key desk.old desk.new
+    ensures sends { IfOk result (λ is. is ≡ true → SendsOn whole (pool_in pool.new) key) }
+    ensures stand { OnOk result (AllStand pool.old.service pool.new.service) }
+    ensures body { IfOk result (λ is. is ≡ true → ClientPuts whole bytes.now key pool.old pool.new
         out.old.items out.new.items) }
-    ensures others { OnOk result (OthersHold key desk.old desk.new) }
-    ensures line { OnOk result ((desk_in desk.new).line ≡ (desk_in desk.old).line) }
+    ensures others { OnOk result (OthersHold key pool.old pool.new) }
+    ensures line { OnOk result ((pool_in pool.new).line ≡ (pool_in pool.old).line) }
     ensures untaken { IfOk result (λ is. is ≡ false → (hold : Hold)
-        → find_key key (desk_in desk.old).holds ≡ Some hold
-        → IsUntaken whole bytes.now key desk.old) }
-    ensures seats { OnOk result (KeepsSeats (desk_in desk.old).service (desk_in desk.new).service) }
-    ensures holds { OnOk result ((desk_in desk.new).holds ≡ (desk_in desk.old).holds) }
+        → find_key key (pool_in pool.old).holds ≡ Some hold
+        → IsUntaken whole bytes.now key pool.old) }
+    ensures seats { OnOk result (KeepsSeats (pool_in pool.old).service (pool_in pool.new).service) }
+    ensures holds { OnOk result ((pool_in pool.new).holds ≡ (pool_in pool.old).holds) }
 {
-    match desk.put(key, bytes, out) {
+    match pool.put(key, bytes, out) {
         Ok(_) => {}
         Err(refusal) => {
             unless_memory(refusal)?;
@@ -183,7 +183,7 @@ fn put_on(
     if !whole {
         return Ok(true);
     }
-    match desk.finish(key, out) {
+    match pool.finish(key, out) {
         Ok(_) => Ok(true),
         Err(refusal) => {
             unless_memory(refusal)?;

@@ -6,41 +6,41 @@ ghost use Rattle.tds_relay.specs.Bodies.{body_of};
 ghost use Rattle.tds_relay.specs.Cleaning.{cleaned_in};
 ghost use Rattle.tds_relay.specs.Closings.{ClosesOnly, IsWho, register_in};
 ghost use Rattle.tds_relay.specs.Coming.{AllAlong, MayBeginAny};
-ghost use Rattle.tds_relay.specs.Fronts.{Moved, ends_in, hall_in};
-ghost use Rattle.tds_relay.specs.Hall.{AsksFor, IfOpen, IfWhose, IsBegun, MayPart, end_at, holder};
+ghost use Rattle.tds_relay.specs.Fronts.{Moved, ends_in, core_in};
+ghost use Rattle.tds_relay.specs.Core.{AsksFor, IfOpen, IfWhose, IsBegun, MayPart, end_at, holder};
 ghost use Rattle.tds_relay.specs.Ordering.{StayOrdered, opens_in};
-ghost use Rattle.tds_relay.specs.Posts.{posts_in};
+ghost use Rattle.tds_relay.specs.Queues.{queues_in};
 ghost use Rattle.tds_relay.specs.Reads.{Stays};
 ghost use Rattle.tds_relay.specs.Reasons.{CannotMove, ResumesNotAt};
 ghost use Rattle.tds_relay.specs.Sparing.{IsKept, OffGo};
-ghost use Rattle.tds_relay.specs.Ties.{Connection, Goes, IsReached, desk_in};
+ghost use Rattle.tds_relay.specs.Ties.{Connection, Goes, IsReached, pool_in};
 ghost use Rattle.tds_relay.specs.Waiting.{Resumes, StandsInLine};
-ghost use Rattle.tds_relay.specs.Walkers.{AllStand};
+ghost use Rattle.tds_relay.specs.TokenParsers.{AllStand};
 ghost use Rattle.tds_relay.specs.Few.{IsSeated};
 
 use super::Relay;
 use crate::NoMemory;
-use crate::desk::Renewed;
+use crate::pool::Renewed;
 
 impl Relay {
     /// The server has acknowledged that an application's request was taken back: its next one goes on.
     pub(super) fn resume(&mut self, number: u64, key: usize) -> Result<(), NoMemory>
         ensures goes { OnOk result (Goes (Connection number)
-            (desk_in self.old.desk) (desk_in self.new.desk)) }
-        ensures kept { OnOk result (posts_in self.new.applications
-            ≡ posts_in self.old.applications) }
-        ensures moves { OnOk result (Moved (Connection number) (hall_in self.old)
-            (hall_in self.new)) }
+            (pool_in self.old.pool) (pool_in self.new.pool)) }
+        ensures kept { OnOk result (queues_in self.new.applications
+            ≡ queues_in self.old.applications) }
+        ensures moves { OnOk result (Moved (Connection number) (core_in self.old)
+            (core_in self.new)) }
         ensures read { OnOk result (Stays self.old.links.items self.new.links.items) }
-        ensures stand { OnOk result (AllStand self.old.desk.service
-            self.new.desk.service) }
-        ensures bodies { IsReached (desk_in self.old.desk)
+        ensures stand { OnOk result (AllStand self.old.pool.service
+            self.new.pool.service) }
+        ensures bodies { IsReached (pool_in self.old.pool)
             → OnOk result (AllAlong self.old self.new) }
         ensures ordered { OnOk result (StayOrdered self.old.orders.items self.new.orders.items) }
         ensures resumes { OnOk result (Resumes key self.old self.new) }
         ensures begins { OnOk result (MayBeginAny self.old.links.items self.new.links.items) }
-        ensures spares { IsReached (desk_in self.old.desk) → OnOk result (SparesOthers number
-            (Some key) (hall_in self.old) (hall_in self.new)) }
+        ensures spares { IsReached (pool_in self.old.pool) → OnOk result (SparesOthers number
+            (Some key) (core_in self.old) (core_in self.new)) }
         ensures closes { OnOk result (ClosesOnly (ResumesNotAt number key self.old)
             (register_in self.old) (register_in self.new)) }
         ensures seated { IsSeated self.old → OnOk result (IsSeated self.new) }
@@ -72,21 +72,21 @@ impl Relay {
     #[tactic(auto, using(crate::proofs::steps::Reaching::reaches_turn))]
     fn keep(&mut self, number: u64, key: usize) -> Result<(), NoMemory>
         ensures goes { OnOk result (Goes (Connection number)
-            (desk_in self.old.desk) (desk_in self.new.desk)) }
-        ensures kept { OnOk result (posts_in self.new.applications
-            ≡ posts_in self.old.applications) }
+            (pool_in self.old.pool) (pool_in self.new.pool)) }
+        ensures kept { OnOk result (queues_in self.new.applications
+            ≡ queues_in self.old.applications) }
         ensures moves { OnOk result (AsksFor KeepTransaction
             (end_at (ends_in self.old.applications) key)
-            → Moved (Connection number) (hall_in self.old) (hall_in self.new)) }
+            → Moved (Connection number) (core_in self.old) (core_in self.new)) }
         ensures read { OnOk result (Stays self.old.links.items self.new.links.items) }
-        ensures stand { OnOk result (AllStand self.old.desk.service
-            self.new.desk.service) }
-        ensures bodies { IsReached (desk_in self.old.desk)
+        ensures stand { OnOk result (AllStand self.old.pool.service
+            self.new.pool.service) }
+        ensures bodies { IsReached (pool_in self.old.pool)
             → OnOk result (AllAlong self.old self.new) }
         ensures ordered { OnOk result (StayOrdered self.old.orders.items self.new.orders.items) }
         ensures begins { OnOk result (MayBeginAny self.old.links.items self.new.links.items) }
-        ensures spares { IsReached (desk_in self.old.desk) → OnOk result (SparesOthers number
-            (Some key) (hall_in self.old) (hall_in self.new)) }
+        ensures spares { IsReached (pool_in self.old.pool) → OnOk result (SparesOthers number
+            (Some key) (core_in self.old) (core_in self.new)) }
         ensures closes { AsksFor KeepTransaction (end_at (ends_in self.old.applications) key)
             → OnOk result (ClosesOnly (ResumesNotAt number key self.old)
             (register_in self.old) (register_in self.new)) }
@@ -95,7 +95,7 @@ impl Relay {
         ensures opening { opens_in self.new.orders.items ≡ opens_in self.old.orders.items }
         ensures apart { OnOk result (OffGo number (Some key) self.old self.new) }
     {
-        match self.desk.renew(key)? {
+        match self.pool.renew(key)? {
             Renewed::Kept(hold) => {
                 self.restart(hold.number);
                 self.start_kept(key)
@@ -109,25 +109,25 @@ impl Relay {
     #[tactic(auto, using(crate::proofs::steps::Reaching::reaches_turn))]
     fn replace(&mut self, number: u64) -> Result<(), NoMemory>
         ensures goes { OnOk result (Goes (Connection number)
-            (desk_in self.old.desk) (desk_in self.new.desk)) }
-        ensures kept { OnOk result (posts_in self.new.applications
-            ≡ posts_in self.old.applications) }
-        ensures moves { OnOk result (Moved (Connection number) (hall_in self.old)
-            (hall_in self.new)) }
+            (pool_in self.old.pool) (pool_in self.new.pool)) }
+        ensures kept { OnOk result (queues_in self.new.applications
+            ≡ queues_in self.old.applications) }
+        ensures moves { OnOk result (Moved (Connection number) (core_in self.old)
+            (core_in self.new)) }
         ensures read { OnOk result (Stays self.old.links.items self.new.links.items) }
-        ensures stand { OnOk result (AllStand self.old.desk.service
-            self.new.desk.service) }
-        ensures bodies { IsReached (desk_in self.old.desk)
+        ensures stand { OnOk result (AllStand self.old.pool.service
+            self.new.pool.service) }
+        ensures bodies { IsReached (pool_in self.old.pool)
             → OnOk result (AllAlong self.old self.new) }
         ensures ordered { OnOk result (StayOrdered self.old.orders.items self.new.orders.items) }
         ensures lines { OnOk result ((key : ℕ)
-            → holder (desk_in self.old.desk) number ≡ Some key → StandsInLine key self.new) }
+            → holder (pool_in self.old.pool) number ≡ Some key → StandsInLine key self.new) }
         ensures begins { OnOk result (MayBeginAny self.old.links.items self.new.links.items) }
-        ensures spares { IsReached (desk_in self.old.desk) → OnOk result (SparesOthers number
-            None (hall_in self.old) (hall_in self.new)) }
+        ensures spares { IsReached (pool_in self.old.pool) → OnOk result (SparesOthers number
+            None (core_in self.old) (core_in self.new)) }
         ensures closes { OnOk result (ClosesOnly
-            (λ other. IsWho (holder (desk_in self.old.desk) number) other × CannotMove other
-            (end_at (ends_in self.old.applications) other) (desk_in self.old.desk))
+            (λ other. IsWho (holder (pool_in self.old.pool) number) other × CannotMove other
+            (end_at (ends_in self.old.applications) other) (pool_in self.old.pool))
             (register_in self.old) (register_in self.new)) }
         ensures seated { IsSeated self.old → OnOk result (IsSeated self.new) }
         ensures counts { cleaned_in self.new ≡ cleaned_in self.old }
@@ -137,7 +137,7 @@ impl Relay {
         if !self.may_replace(number) {
             return self.lose(number);
         }
-        let holder = self.desk.lose(number)?;
+        let holder = self.pool.lose(number)?;
         let Some(key) = holder else {
             return self.close_link(number);
         };
@@ -148,16 +148,16 @@ impl Relay {
 
     /// Whether who holds the connection of this number may be parted from it.
     fn may_replace(&self, number: u64) -> bool
-        ensures parts { result ≡ true → IfWhose (MayPart (hall_in self.now))
-            (holder (desk_in self.now.desk) number) }
+        ensures parts { result ≡ true → IfWhose (MayPart (core_in self.now))
+            (holder (pool_in self.now.pool) number) }
         ensures begun { result ≡ true → IfWhose
             (λ key. IfOpen IsBegun (end_at (ends_in self.now.applications) key))
-            (holder (desk_in self.now.desk) number) }
+            (holder (pool_in self.now.pool) number) }
         ensures not { result ≡ false → (key : ℕ)
-            → holder (desk_in self.now.desk) number ≡ Some key → CannotMove key
-            (end_at (ends_in self.now.applications) key) (desk_in self.now.desk) }
+            → holder (pool_in self.now.pool) number ≡ Some key → CannotMove key
+            (end_at (ends_in self.now.applications) key) (pool_in self.now.pool) }
     {
-        match self.desk.key_on(number) {
+        match self.pool.key_on(number) {
             Some(key) => self.may_part(key),
             None => true,
         }

@@ -6,22 +6,22 @@ ghost use Rattle.tds_relay.specs.Apart.{Alone, SparesOthers};
 ghost use Rattle.tds_relay.specs.Bodies.{AskAsBefore, AskOn};
 ghost use Rattle.tds_relay.specs.Bounds.{most_for};
 ghost use Rattle.tds_relay.specs.Closings.{ClosesOnly, IsWho, Nobody, register_in, times_closed};
-ghost use Rattle.tds_relay.specs.Desk.{find_number};
-ghost use Rattle.tds_relay.specs.Fronts.{MovedOn, ends_in, hall_in, house_in};
-ghost use Rattle.tds_relay.specs.Hall.{holder};
-ghost use Rattle.tds_relay.specs.House.{Steps};
+ghost use Rattle.tds_relay.specs.Pool.{find_number};
+ghost use Rattle.tds_relay.specs.Fronts.{MovedOn, ends_in, core_in, machine_in};
+ghost use Rattle.tds_relay.specs.Core.{holder};
+ghost use Rattle.tds_relay.specs.Machine.{Steps};
 ghost use Rattle.tds_relay.specs.Lent.{AllLast, KeepsAnswers, MayForget, OthersKeepAt};
 ghost use Rattle.tds_relay.specs.Ordering.{StayOrdered, opens_in};
-ghost use Rattle.tds_relay.specs.Posts.{change, post_at, posts_in, unsent_of, without_first};
+ghost use Rattle.tds_relay.specs.Queues.{change, queue_at, queues_in, unsent_of, without_first};
 ghost use Rattle.tds_relay.specs.Reasons.{HasNoRoom, IsOverfull, ItselfFor};
 ghost use Rattle.tds_relay.specs.Law.{waiting_on};
-ghost use Rattle.tds_relay.specs.Reads.{FillsBy, Sees, Stays, post_on, waits_on};
+ghost use Rattle.tds_relay.specs.Reads.{FillsBy, Sees, Stays, queue_on, waits_on};
 ghost use Rattle.tds_relay.specs.Sending.{IsToWrite, called_at};
 ghost use Rattle.tds_relay.specs.Sparing.{AllRest, SendsOn};
-ghost use Rattle.tds_relay.specs.Ties.{GoesOn, IsReached, Neither, desk_in};
+ghost use Rattle.tds_relay.specs.Ties.{GoesOn, IsReached, Neither, pool_in};
 ghost use Rattle.tds_relay.specs.Told.{TellsTheSame, held_name, holder_name, is_there};
 ghost use Rattle.tds_relay.specs.Waking.{IsWoken};
-ghost use Rattle.tds_relay.specs.Walkers.{AllStand};
+ghost use Rattle.tds_relay.specs.TokenParsers.{AllStand};
 ghost use Rattle.tds_relay.specs.declared.outgoing.TheConstants.{PIECE};
 ghost use Rattle.tds_relay.specs.Few.{IsSeated, IsSeatedBut};
 ghost use Rattle.tds_relay.specs.Cleaning.{CountsOnce, CountsSent, cleaned_in};
@@ -57,11 +57,11 @@ impl Relay {
     /// So many bytes of that were sent. Answers the tag of the connection that it holds, which may be read
     /// again.
     pub fn sent(&mut self, key: usize, count: usize) -> Option<usize>
-        ensures desk { self.new.desk ≡ self.old.desk }
-        ensures sent { posts_in self.new.applications
-            ≡ change key (without_first count) (posts_in self.old.applications) }
+        ensures pool { self.new.pool ≡ self.old.pool }
+        ensures sent { queues_in self.new.applications
+            ≡ change key (without_first count) (queues_in self.old.applications) }
         ensures ends { ends_in self.new.applications ≡ ends_in self.old.applications }
-        ensures steps { Steps Neither (house_in self.old) (house_in self.new) }
+        ensures steps { Steps Neither (machine_in self.old) (machine_in self.new) }
         ensures links { self.new.links.items ≡ self.old.links.items }
         ensures rest { AllRest self.old self.new }
         ensures whose { result ≡ held_name key self.old }
@@ -70,16 +70,16 @@ impl Relay {
         ensures seated { IsSeated self.old → IsSeated self.new }
     {
         self.forget_sent(key, count);
-        let hold = self.desk.hold_of(key)?;
+        let hold = self.pool.hold_of(key)?;
         self.link(hold.number)?.tag
     }
 
     /// So many bytes wait for an application no more.
-    #[tactic(auto, using(crate::proofs::steps::Posting::posts_changed, crate::proofs::steps::Posting::posts_nobody))]
+    #[tactic(auto, using(crate::proofs::steps::Queueing::queues_changed, crate::proofs::steps::Queueing::queues_nobody))]
     fn forget_sent(&mut self, key: usize, count: usize)
-        ensures desk { self.new.desk ≡ self.old.desk }
-        ensures sent { posts_in self.new.applications
-            ≡ change key (without_first count) (posts_in self.old.applications) }
+        ensures pool { self.new.pool ≡ self.old.pool }
+        ensures sent { queues_in self.new.applications
+            ≡ change key (without_first count) (queues_in self.old.applications) }
         ensures ends { ends_in self.new.applications ≡ ends_in self.old.applications }
         ensures links { self.new.links.items ≡ self.old.links.items }
         ensures asks { AskAsBefore self.old.applications self.new.applications }
@@ -95,8 +95,8 @@ impl Relay {
     /// So many bytes of that were sent. Answers the tag of the application that holds it, which may be read
     /// again.
     pub fn sent_on(&mut self, number: u64, count: usize) -> Option<usize>
-        ensures desk { self.new.desk ≡ self.old.desk }
-        ensures kept { posts_in self.new.applications ≡ posts_in self.old.applications }
+        ensures pool { self.new.pool ≡ self.old.pool }
+        ensures kept { queues_in self.new.applications ≡ queues_in self.old.applications }
         ensures ends { ends_in self.new.applications ≡ ends_in self.old.applications }
         ensures read { Sees self.old.links.items self.new.links.items }
         ensures answers { KeepsAnswers self.old.links.items self.new.links.items }
@@ -110,24 +110,24 @@ impl Relay {
         ensures tells { TellsTheSame self.old self.new }
         ensures orders { self.new.orders.items ≡ self.old.orders.items }
         ensures seated { IsSeated self.old → IsSeated self.new }
-        ensures posts { post_on number self.new.links.items
-            ≡ option_map (without_first count) (post_on number self.old.links.items) }
+        ensures queues { queue_on number self.new.links.items
+            ≡ option_map (without_first count) (queue_on number self.old.links.items) }
         ensures keeps { (other : ℕ) → other ≢ number
-            → post_on other self.new.links.items ≡ post_on other self.old.links.items }
+            → queue_on other self.new.links.items ≡ queue_on other self.old.links.items }
     {
         if !forget_sent(&mut self.links, number, count) {
             return None;
         }
-        let key = self.desk.key_on(number)?;
+        let key = self.pool.key_on(number)?;
         Some(self.applications.get(key)?.tag)
     }
 
-    /// What the desk has to send on a connection waits there. False where more would wait than may.
+    /// What the pool has to send on a connection waits there. False where more would wait than may.
     #[tactic(auto, using(crate::proofs::steps::Staying::stays_refl, crate::proofs::spared::Ordered::ordered_refl, crate::proofs::spared::Closings::closes_refl, crate::proofs::spared::Begun::answers_refl, crate::proofs::spared::Lasting::last_refl))]
     pub(super) fn fits_on(&mut self, number: u64) -> Result<bool, NoMemory>
-        ensures desk { self.new.desk ≡ self.old.desk }
-        ensures kept { OnOk result (posts_in self.new.applications
-            ≡ posts_in self.old.applications) }
+        ensures pool { self.new.pool ≡ self.old.pool }
+        ensures kept { OnOk result (queues_in self.new.applications
+            ≡ queues_in self.old.applications) }
         ensures ends { OnOk result (ends_in self.new.applications
             ≡ ends_in self.old.applications) }
         ensures read { OnOk result (Stays self.old.links.items self.new.links.items) }
@@ -142,8 +142,8 @@ impl Relay {
         ensures idle { self.old.outbox.items ≡ [] → OnOk result (self.new ≡ self.old) }
         ensures others { OnOk result ((other : ℕ) → other ≢ number
             → waits_on other self.new.links.items ≡ waits_on other self.old.links.items) }
-        ensures posts { OnOk result ((other : ℕ) → other ≢ number
-            → post_on other self.new.links.items ≡ post_on other self.old.links.items) }
+        ensures queues { OnOk result ((other : ℕ) → other ≢ number
+            → queue_on other self.new.links.items ≡ queue_on other self.old.links.items) }
         ensures ordered { OnOk result (StayOrdered self.old.orders.items self.new.orders.items) }
         ensures answers { OnOk result (KeepsAnswers self.old.links.items self.new.links.items) }
         ensures closes { OnOk result (ClosesOnly Nobody
@@ -165,18 +165,18 @@ impl Relay {
         Ok(true)
     }
 
-    /// What the desk has to send on a connection waits there. One for which more would wait than may is
+    /// What the pool has to send on a connection waits there. One for which more would wait than may is
     /// closed.
     pub(super) fn send_on(&mut self, number: u64) -> Result<(), NoMemory>
-        ensures goes { OnOk result (GoesOn (desk_in self.old.desk) (desk_in self.new.desk)) }
-        ensures kept { OnOk result (posts_in self.new.applications
-            ≡ posts_in self.old.applications) }
-        ensures moves { OnOk result (MovedOn (hall_in self.old) (hall_in self.new)) }
+        ensures goes { OnOk result (GoesOn (pool_in self.old.pool) (pool_in self.new.pool)) }
+        ensures kept { OnOk result (queues_in self.new.applications
+            ≡ queues_in self.old.applications) }
+        ensures moves { OnOk result (MovedOn (core_in self.old) (core_in self.new)) }
         ensures read { OnOk result (Stays self.old.links.items self.new.links.items) }
-        ensures stand { OnOk result (AllStand self.old.desk.service
-            self.new.desk.service) }
+        ensures stand { OnOk result (AllStand self.old.pool.service
+            self.new.pool.service) }
         ensures asks { OnOk result (AskOn self.old.applications self.new.applications) }
-        ensures sends { IsReached (desk_in self.old.desk)
+        ensures sends { IsReached (pool_in self.old.pool)
             → OnOk result (SendsOn number self.old self.new) }
         ensures puts { OnOk result (FillsBy self.old.outbox.items
             (waits_on number self.old.links.items) (waits_on number self.new.links.items)) }
@@ -184,10 +184,10 @@ impl Relay {
         ensures others { OnOk result ((other : ℕ) → other ≢ number
             → waits_on other self.new.links.items ≡ waits_on other self.old.links.items) }
         ensures answers { OnOk result (KeepsAnswers self.old.links.items self.new.links.items) }
-        ensures spares { OnOk result (SparesOthers number None (hall_in self.old)
-            (hall_in self.new)) }
+        ensures spares { OnOk result (SparesOthers number None (core_in self.old)
+            (core_in self.new)) }
         ensures closes { OnOk result (ClosesOnly (λ other.
-            IsWho (holder (desk_in self.old.desk) number) other
+            IsWho (holder (pool_in self.old.pool) number) other
             × HasNoRoom number self.old.outbox.items self.old.links.items
             × (self.old.outbox.items ≢ []))
             (register_in self.old) (register_in self.new)) }
@@ -204,22 +204,22 @@ impl Relay {
 
     /// The same of one that nobody holds: it is counted as cleaned, or as closed instead.
     pub(super) fn send_unheld(&mut self, number: u64) -> Result<(), NoMemory>
-        ensures goes { OnOk result (GoesOn (desk_in self.old.desk) (desk_in self.new.desk)) }
-        ensures kept { OnOk result (posts_in self.new.applications
-            ≡ posts_in self.old.applications) }
-        ensures moves { OnOk result (MovedOn (hall_in self.old) (hall_in self.new)) }
+        ensures goes { OnOk result (GoesOn (pool_in self.old.pool) (pool_in self.new.pool)) }
+        ensures kept { OnOk result (queues_in self.new.applications
+            ≡ queues_in self.old.applications) }
+        ensures moves { OnOk result (MovedOn (core_in self.old) (core_in self.new)) }
         ensures ends { OnOk result (ends_in self.new.applications
             ≡ ends_in self.old.applications) }
         ensures read { OnOk result (Stays self.old.links.items self.new.links.items) }
-        ensures stand { OnOk result (AllStand self.old.desk.service
-            self.new.desk.service) }
+        ensures stand { OnOk result (AllStand self.old.pool.service
+            self.new.pool.service) }
         ensures asks { OnOk result (AskOn self.old.applications self.new.applications) }
-        ensures sends { IsReached (desk_in self.old.desk)
+        ensures sends { IsReached (pool_in self.old.pool)
             → OnOk result (SendsOn number self.old self.new) }
-        ensures line { OnOk result ((desk_in self.new.desk).line
-            ≡ (desk_in self.old.desk).line) }
+        ensures line { OnOk result ((pool_in self.new.pool).line
+            ≡ (pool_in self.old.pool).line) }
         ensures ordered { OnOk result (StayOrdered self.old.orders.items self.new.orders.items) }
-        ensures puts { find_number number (desk_in self.old.desk).holds ≡ None
+        ensures puts { find_number number (pool_in self.old.pool).holds ≡ None
             → OnOk result (FillsBy self.old.outbox.items
             (waits_on number self.old.links.items) (waits_on number self.new.links.items)) }
         ensures closes { OnOk result (ClosesOnly Nobody
@@ -227,16 +227,16 @@ impl Relay {
         ensures seated { IsSeated self.old → OnOk result (IsSeated self.new) }
         ensures others { OnOk result ((other : ℕ) → other ≢ number
             → waits_on other self.new.links.items ≡ waits_on other self.old.links.items) }
-        ensures posts { OnOk result ((other : ℕ) → other ≢ number
-            → post_on other self.new.links.items ≡ post_on other self.old.links.items) }
+        ensures queues { OnOk result ((other : ℕ) → other ≢ number
+            → queue_on other self.new.links.items ≡ queue_on other self.old.links.items) }
         ensures counts { OnOk result (CountsOnce (cleaned_in self.old) (cleaned_in self.new)) }
-        ensures cleaned { find_number number (desk_in self.old.desk).holds ≡ None
+        ensures cleaned { find_number number (pool_in self.old.pool).holds ≡ None
             → IsSome (waits_on number self.old.links.items)
             → OnOk result (CountsSent (waits_on number self.new.links.items)
             (cleaned_in self.old) (cleaned_in self.new)) }
         ensures opening { opens_in self.new.orders.items ≡ opens_in self.old.orders.items }
-        ensures holds { OnOk result (MayForget number self.old.desk.holds.items
-            self.new.desk.holds.items) }
+        ensures holds { OnOk result (MayForget number self.old.pool.holds.items
+            self.new.pool.holds.items) }
         ensures answers { OnOk result (KeepsAnswers self.old.links.items self.new.links.items) }
     {
         let fits = self.fits_on(number)?;
@@ -245,7 +245,7 @@ impl Relay {
             return Ok(());
         }
         self.failed = self.failed.saturating_add(1);
-        match self.desk.key_on(number) {
+        match self.pool.key_on(number) {
             Some(_) => Ok(()),
             None => self.lose(number),
         }
@@ -253,17 +253,17 @@ impl Relay {
 
     /// Something is to be sent to an application. One for which more would wait than may is closed.
     pub(super) fn order_write(&mut self, key: usize) -> Result<(), NoMemory>
-        ensures desk { self.new.desk ≡ self.old.desk }
-        ensures kept { OnOk result (posts_in self.new.applications
-            ≡ posts_in self.old.applications) }
-        ensures moves { OnOk result (MovedOn (hall_in self.old) (hall_in self.new)) }
+        ensures pool { self.new.pool ≡ self.old.pool }
+        ensures kept { OnOk result (queues_in self.new.applications
+            ≡ queues_in self.old.applications) }
+        ensures moves { OnOk result (MovedOn (core_in self.old) (core_in self.new)) }
         ensures links { OnOk result (self.new.links.items ≡ self.old.links.items) }
         ensures asks { OnOk result (AskOn self.old.applications self.new.applications) }
         ensures ordered { OnOk result (StayOrdered self.old.orders.items self.new.orders.items) }
         ensures wakes { OnOk result (IsWoken key self.new.applications self.new.orders.items) }
-        ensures alone { OnOk result (Alone key (hall_in self.old) (hall_in self.new)) }
+        ensures alone { OnOk result (Alone key (core_in self.old) (core_in self.new)) }
         ensures closes { OnOk result (ClosesOnly (ItselfFor key
-            (IsOverfull (post_at (posts_in self.old.applications) key)))
+            (IsOverfull (queue_at (queues_in self.old.applications) key)))
             (register_in self.old) (register_in self.new)) }
         ensures counts { cleaned_in self.new ≡ cleaned_in self.old }
         ensures opening { opens_in self.new.orders.items ≡ opens_in self.old.orders.items }
@@ -281,9 +281,9 @@ impl Relay {
     /// Something is to be sent on a connection.
     #[tactic(auto, using(crate::proofs::spared::Ordered::ordered_refl))]
     pub(super) fn order_write_on(&mut self, number: u64) -> Result<(), NoMemory>
-        ensures desk { self.new.desk ≡ self.old.desk }
-        ensures kept { OnOk result (posts_in self.new.applications
-            ≡ posts_in self.old.applications) }
+        ensures pool { self.new.pool ≡ self.old.pool }
+        ensures kept { OnOk result (queues_in self.new.applications
+            ≡ queues_in self.old.applications) }
         ensures ends { OnOk result (ends_in self.new.applications
             ≡ ends_in self.old.applications) }
         ensures links { OnOk result (self.new.links.items ≡ self.old.links.items) }

@@ -6,20 +6,21 @@ ghost use Rattle.tds_front.specs.declared.front.Said.TheVariants.{Forget, HandOn
 ghost use Rattle.tds_relay.specs.Anew.{AsksNothing};
 ghost use Rattle.tds_relay.specs.Bodies.{AskAsBefore, AskOn, Body, Halts, IsStoppedOnce, IsHalting, IsUnsent};
 ghost use Rattle.tds_relay.specs.Bodies.{Nowhere, Spared, Starts, StopsOn, body_in, body_of};
-ghost use Rattle.tds_relay.specs.Bodies.{going_of, standing_in};
+ghost use Rattle.tds_relay.specs.Bodies.{PutsNothing, going_of, standing_in};
 ghost use Rattle.tds_relay.specs.Closings.{ClosesOnly, Nobody, register_in};
-ghost use Rattle.tds_relay.specs.Desk.{Does, Stops, Unwaits, find_key};
-ghost use Rattle.tds_relay.specs.declared.desk.Hold.{Hold};
-ghost use Rattle.tds_relay.specs.Fronts.{FedOn, Moved, MovedOn, ends_in, hall_in, hall_of_ends, withdraws};
-ghost use Rattle.tds_relay.specs.Hall.{Ends, IfOpen, IsHere, change_end, end_at};
+ghost use Rattle.tds_relay.specs.Pool.{Does, Stops, Unwaits, find_key};
+ghost use Rattle.tds_relay.specs.declared.pool.Hold.{Hold};
+ghost use Rattle.tds_relay.specs.Fronts.{FedOn, Moved, MovedOn, ends_in, core_in, core_of_ends, withdraws};
+ghost use Rattle.tds_relay.specs.Core.{Ends, IfOpen, IsHere, change_end, end_at};
 ghost use Rattle.tds_relay.specs.Lent.{OthersKeepAt};
-ghost use Rattle.tds_relay.specs.Posts.{acknowledgement, give, post_at, posts_in};
+ghost use Rattle.tds_relay.specs.Waiting.{IsRightlyKept};
+ghost use Rattle.tds_relay.specs.Queues.{acknowledgement, give, queue_at, queues_in};
 ghost use Rattle.tds_relay.specs.Reads.{Stays};
 ghost use Rattle.tds_relay.specs.Reasons.{CannotForget, CannotStop, CannotUnask, HasNoRoom};
 ghost use Rattle.tds_relay.specs.Reasons.{IsOverfull, IsUnheld, IsUnstopped, ItselfFor};
 ghost use Rattle.tds_relay.specs.Sparing.{OthersRest};
-ghost use Rattle.tds_relay.specs.Ties.{Application, Goes, GoesOn, IsReached, Turns, desk_in};
-ghost use Rattle.tds_relay.specs.Walkers.{AllStand};
+ghost use Rattle.tds_relay.specs.Ties.{Application, Goes, GoesOn, IsReached, Turns, pool_in};
+ghost use Rattle.tds_relay.specs.TokenParsers.{AllStand};
 ghost use Rattle.tds_relay.specs.Few.{IsSeated};
 ghost use Rattle.tds_relay.specs.Ordering.{opens_in};
 
@@ -38,27 +39,29 @@ impl Relay {
     /// What has come of its request is forgotten. Nothing of it has gone on.
     pub(super) fn forget(&mut self, key: usize) -> Result<(), NoMemory>
         ensures goes { OnOk result (Goes (Application key)
-            (desk_in self.old.desk) (desk_in self.new.desk)) }
-        ensures kept { OnOk result (posts_in self.new.applications
-            ≡ posts_in self.old.applications) }
+            (pool_in self.old.pool) (pool_in self.new.pool)) }
+        ensures kept { OnOk result (queues_in self.new.applications
+            ≡ queues_in self.old.applications) }
         ensures moves { OnOk result (IfOpen AsksNothing (end_at (ends_in self.old.applications) key)
-            → Moved (Application key) (hall_in self.old) (hall_in self.new)) }
+            → Moved (Application key) (core_in self.old) (core_in self.new)) }
         ensures read { OnOk result (Stays self.old.links.items self.new.links.items) }
-        ensures stand { OnOk result (AllStand self.old.desk.service
-            self.new.desk.service) }
+        ensures stand { OnOk result (AllStand self.old.pool.service
+            self.new.pool.service) }
         ensures body { OnOk result ((goes : Body)
             → Starts Nowhere (body_in (get self.new.applications key) goes)) }
         ensures closes { OnOk result (ClosesOnly (ItselfFor key (CannotForget false key
-            (end_at (ends_in self.old.applications) key) self.old.desk self.old.links.items
+            (end_at (ends_in self.old.applications) key) self.old.pool self.old.links.items
             (body_of key self.old))) (register_in self.old) (register_in self.new)) }
-        ensures others { IsReached (desk_in self.old.desk)
+        ensures others { IsReached (pool_in self.old.pool)
             → OnOk result (OthersRest key self.old self.new) }
         ensures seated { IsSeated self.old → OnOk result (IsSeated self.new) }
         ensures cancels { OnOk result (IsStoppedOnce (body_of key self.old)
             (standing_in key self.new)) }
         ensures opening { opens_in self.new.orders.items ≡ opens_in self.old.orders.items }
-        ensures aside { IsReached (desk_in self.old.desk)
+        ensures aside { IsReached (pool_in self.old.pool)
             → OnOk result (OthersKeepAt key self.old self.new) }
+        ensures puts { OnOk result (PutsNothing (standing_in key self.old)
+            (standing_in key self.new)) }
     {
         let was_asked = self.forget_request(key);
         if was_asked { self.unask(key) } else { Ok(()) }
@@ -66,14 +69,14 @@ impl Relay {
 
     /// What has come of its request is forgotten. Answers whether that was asked on a connection.
     fn forget_request(&mut self, key: usize) -> bool
-        ensures goes { Goes (Application key) (desk_in self.old.desk) (desk_in self.new.desk) }
-        ensures kept { posts_in self.new.applications ≡ posts_in self.old.applications }
+        ensures goes { Goes (Application key) (pool_in self.old.pool) (pool_in self.new.pool) }
+        ensures kept { queues_in self.new.applications ≡ queues_in self.old.applications }
         ensures ends { ends_in self.new.applications ≡ ends_in self.old.applications }
-        ensures turns { Turns (Unwaits key) (desk_in self.old.desk) (desk_in self.new.desk) [] [] }
-        ensures holds { self.new.desk.holds ≡ self.old.desk.holds }
-        ensures service { self.new.desk.service ≡ self.old.desk.service }
+        ensures turns { Turns (Unwaits key) (pool_in self.old.pool) (pool_in self.new.pool) [] [] }
+        ensures holds { self.new.pool.holds ≡ self.old.pool.holds }
+        ensures service { self.new.pool.service ≡ self.old.pool.service }
         ensures links { self.new.links.items ≡ self.old.links.items }
-        ensures stand { AllStand self.old.desk.service self.new.desk.service }
+        ensures stand { AllStand self.old.pool.service self.new.pool.service }
         ensures body { (goes : Body)
             → Starts Nowhere (body_in (get self.new.applications key) goes) }
         ensures closes { ClosesOnly Nobody (register_in self.old) (register_in self.new) }
@@ -84,7 +87,7 @@ impl Relay {
             → (goes : Body) → IsUnsent (body_in (get self.old.applications key) goes) }
         ensures opening { opens_in self.new.orders.items ≡ opens_in self.old.orders.items }
     {
-        self.desk.unwait(key);
+        self.pool.unwait(key);
         let Some(application) = self.applications.get_mut(key) else {
             return false;
         };
@@ -96,32 +99,32 @@ impl Relay {
     /// A request that was asked, and of which nothing has gone on, isn't asked any more.
     fn unask(&mut self, key: usize) -> Result<(), NoMemory>
         ensures goes { OnOk result (Goes (Application key)
-            (desk_in self.old.desk) (desk_in self.new.desk)) }
-        ensures kept { OnOk result (posts_in self.new.applications
-            ≡ posts_in self.old.applications) }
-        ensures moves { OnOk result (Moved (Application key) (hall_in self.old)
-            (hall_in self.new)) }
+            (pool_in self.old.pool) (pool_in self.new.pool)) }
+        ensures kept { OnOk result (queues_in self.new.applications
+            ≡ queues_in self.old.applications) }
+        ensures moves { OnOk result (Moved (Application key) (core_in self.old)
+            (core_in self.new)) }
         ensures read { OnOk result (Stays self.old.links.items self.new.links.items) }
-        ensures stand { OnOk result (AllStand self.old.desk.service
-            self.new.desk.service) }
+        ensures stand { OnOk result (AllStand self.old.pool.service
+            self.new.pool.service) }
         ensures asks { OnOk result (AskOn self.old.applications self.new.applications) }
-        ensures closes { OnOk result (ClosesOnly (ItselfFor key (IsUnheld key self.old.desk
-            ⊎ CannotUnask key (end_at (ends_in self.old.applications) key) self.old.desk
+        ensures closes { OnOk result (ClosesOnly (ItselfFor key (IsUnheld key self.old.pool
+            ⊎ CannotUnask key (end_at (ends_in self.old.applications) key) self.old.pool
             self.old.links.items)) (register_in self.old) (register_in self.new)) }
-        ensures others { IsReached (desk_in self.old.desk)
+        ensures others { IsReached (pool_in self.old.pool)
             → OnOk result (OthersRest key self.old self.new) }
         ensures seated { IsSeated self.old → OnOk result (IsSeated self.new) }
         ensures cancels { OnOk result (IsStoppedOnce (going_of key self.old)
             (standing_in key self.new)) }
         ensures opening { opens_in self.new.orders.items ≡ opens_in self.old.orders.items }
-        ensures aside { IsReached (desk_in self.old.desk)
+        ensures aside { IsReached (pool_in self.old.pool)
             → OnOk result (OthersKeepAt key self.old self.new) }
     {
         if !self.has_nothing_out(key) {
             return self.expel(key);
         }
         self.outbox.clear();
-        match self.desk.cancel(key, &mut self.outbox) {
+        match self.pool.cancel(key, &mut self.outbox) {
             Ok((hold, _)) => self.send_stop(key, hold.number),
             Err(refusal) => {
                 unless_memory(refusal)?;
@@ -134,27 +137,27 @@ impl Relay {
     /// too, and its acknowledgement is nobody's.
     pub(super) fn take_back(&mut self, key: usize) -> Result<(), NoMemory>
         ensures goes { OnOk result (Goes (Application key)
-            (desk_in self.old.desk) (desk_in self.new.desk)) }
-        ensures kept { OnOk result (posts_in self.new.applications
-            ≡ posts_in self.old.applications) }
+            (pool_in self.old.pool) (pool_in self.new.pool)) }
+        ensures kept { OnOk result (queues_in self.new.applications
+            ≡ queues_in self.old.applications) }
         ensures moves { OnOk result (IfOpen AsksNothing (end_at (ends_in self.old.applications) key)
-            → FedOn key (Forget true) (desk_in self.old.desk) (ends_in self.old.applications)
-            (hall_in self.new)) }
+            → FedOn key (Forget true) (pool_in self.old.pool) (ends_in self.old.applications)
+            (core_in self.new)) }
         ensures read { OnOk result (Stays self.old.links.items self.new.links.items) }
-        ensures stand { OnOk result (AllStand self.old.desk.service
-            self.new.desk.service) }
+        ensures stand { OnOk result (AllStand self.old.pool.service
+            self.new.pool.service) }
         ensures body { OnOk result ((goes : Body)
             → Starts Nowhere (body_in (get self.new.applications key) goes)) }
         ensures closes { OnOk result (ClosesOnly (ItselfFor key (CannotForget true key
-            (end_at (ends_in self.old.applications) key) self.old.desk self.old.links.items
+            (end_at (ends_in self.old.applications) key) self.old.pool self.old.links.items
             (body_of key self.old))) (register_in self.old) (register_in self.new)) }
-        ensures others { IsReached (desk_in self.old.desk)
+        ensures others { IsReached (pool_in self.old.pool)
             → OnOk result (OthersRest key self.old self.new) }
         ensures seated { IsSeated self.old → OnOk result (IsSeated self.new) }
         ensures cancels { OnOk result (IsStoppedOnce (body_of key self.old)
             (standing_in key self.new)) }
         ensures opening { opens_in self.new.orders.items ≡ opens_in self.old.orders.items }
-        ensures aside { IsReached (desk_in self.old.desk)
+        ensures aside { IsReached (pool_in self.old.pool)
             → OnOk result (OthersKeepAt key self.old self.new) }
     {
         let _ = self.forget_request(key);
@@ -169,31 +172,31 @@ impl Relay {
 
     /// An attention goes out for what an application has asked. Answers on which connection, if it does.
     fn stop(&mut self, key: usize) -> Result<Option<u64>, NoMemory>
-        ensures goes { Goes (Application key) (desk_in self.old.desk) (desk_in self.new.desk) }
-        ensures kept { posts_in self.new.applications ≡ posts_in self.old.applications }
+        ensures goes { Goes (Application key) (pool_in self.old.pool) (pool_in self.new.pool) }
+        ensures kept { queues_in self.new.applications ≡ queues_in self.old.applications }
         ensures ends { ends_in self.new.applications ≡ ends_in self.old.applications }
         ensures some { IfOk result (λ stopped. IfSome stopped (λ number. (before after : List ℕ)
-            × Turns (Does key Stops) (desk_in self.old.desk) (desk_in self.new.desk) before
+            × Turns (Does key Stops) (pool_in self.old.pool) (pool_in self.new.pool) before
             after)) }
         ensures moves { (ends : Ends) → IfOpen IsHere (end_at ends key) → Moved (Application key)
-            (hall_of_ends (desk_in self.old.desk) ends)
-            (hall_of_ends (desk_in self.new.desk) ends) }
+            (core_of_ends (pool_in self.old.pool) ends)
+            (core_of_ends (pool_in self.new.pool) ends) }
         ensures links { self.new.links.items ≡ self.old.links.items }
-        ensures stand { AllStand self.old.desk.service self.new.desk.service }
+        ensures stand { AllStand self.old.pool.service self.new.pool.service }
         ensures asks { AskAsBefore self.old.applications self.new.applications }
         ensures stops { IfOk result (λ stopped. IfSome stopped (λ number.
             IsHalting number key self.old self.new)) }
         ensures none { IfOk result (λ stopped. IfNone stopped
-            (IsUnstopped key self.old.desk)) }
+            (IsUnstopped key self.old.pool)) }
         ensures closes { ClosesOnly Nobody (register_in self.old) (register_in self.new) }
-        ensures others { IsReached (desk_in self.old.desk)
+        ensures others { IsReached (pool_in self.old.pool)
             → OthersRest key self.old self.new }
         ensures seated { IsSeated self.old → IsSeated self.new }
         ensures opening { opens_in self.new.orders.items ≡ opens_in self.old.orders.items }
-        ensures holds { self.new.desk.holds.items ≡ self.old.desk.holds.items }
+        ensures holds { self.new.pool.holds.items ≡ self.old.pool.holds.items }
     {
         self.outbox.clear();
-        match self.desk.cancel(key, &mut self.outbox) {
+        match self.pool.cancel(key, &mut self.outbox) {
             Ok((hold, how)) => {
                 if matches!(how, Cancelled::Asked) {
                     Ok(Some(hold.number))
@@ -210,8 +213,8 @@ impl Relay {
 
     /// An application waits for the acknowledgement of what it took back.
     fn withdraw(&mut self, key: usize)
-        ensures desk { self.new.desk ≡ self.old.desk }
-        ensures kept { posts_in self.new.applications ≡ posts_in self.old.applications }
+        ensures pool { self.new.pool ≡ self.old.pool }
+        ensures kept { queues_in self.new.applications ≡ queues_in self.old.applications }
         ensures ends { ends_in self.new.applications
             ≡ change_end key withdraws (ends_in self.old.applications) }
         ensures links { self.new.links.items ≡ self.old.links.items }
@@ -228,14 +231,14 @@ impl Relay {
 
     /// The relay acknowledges an attention.
     pub(super) fn acknowledge(&mut self, key: usize) -> Result<(), NoMemory>
-        ensures desk { self.new.desk ≡ self.old.desk }
-        ensures given { OnOk result (posts_in self.new.applications
-            ≡ give key acknowledgement (posts_in self.old.applications)) }
-        ensures moves { OnOk result (MovedOn (hall_in self.old) (hall_in self.new)) }
+        ensures pool { self.new.pool ≡ self.old.pool }
+        ensures given { OnOk result (queues_in self.new.applications
+            ≡ give key acknowledgement (queues_in self.old.applications)) }
+        ensures moves { OnOk result (MovedOn (core_in self.old) (core_in self.new)) }
         ensures links { OnOk result (self.new.links.items ≡ self.old.links.items) }
         ensures asks { OnOk result (AskOn self.old.applications self.new.applications) }
         ensures closes { OnOk result (ClosesOnly (ItselfFor key (IsOverfull
-            (post_at (give key acknowledgement (posts_in self.old.applications)) key)))
+            (queue_at (give key acknowledgement (queues_in self.old.applications)) key)))
             (register_in self.old) (register_in self.new)) }
         ensures opening { opens_in self.new.orders.items ≡ opens_in self.old.orders.items }
     {
@@ -251,24 +254,25 @@ impl Relay {
     /// The server acknowledges an attention.
     pub(super) fn hand_on(&mut self, key: usize) -> Result<(), NoMemory>
         ensures goes { OnOk result (Goes (Application key)
-            (desk_in self.old.desk) (desk_in self.new.desk)) }
-        ensures kept { OnOk result (posts_in self.new.applications
-            ≡ posts_in self.old.applications) }
-        ensures moves { OnOk result (FedOn key HandOn (desk_in self.old.desk)
-            (ends_in self.old.applications) (hall_in self.new)) }
+            (pool_in self.old.pool) (pool_in self.new.pool)) }
+        ensures kept { OnOk result (queues_in self.new.applications
+            ≡ queues_in self.old.applications) }
+        ensures moves { OnOk result (FedOn key HandOn (pool_in self.old.pool)
+            (ends_in self.old.applications) (core_in self.new)) }
         ensures read { OnOk result (Stays self.old.links.items self.new.links.items) }
-        ensures stand { OnOk result (AllStand self.old.desk.service
-            self.new.desk.service) }
+        ensures stand { OnOk result (AllStand self.old.pool.service
+            self.new.pool.service) }
         ensures body { OnOk result (Halts (body_of key self.old) (body_of key self.new)) }
         ensures closes { OnOk result (ClosesOnly (ItselfFor key
-            (CannotStop key self.old.desk self.old.links.items))
+            (CannotStop key self.old.pool self.old.links.items))
             (register_in self.old) (register_in self.new)) }
-        ensures others { IsReached (desk_in self.old.desk)
+        ensures others { IsReached (pool_in self.old.pool)
             → OnOk result (OthersRest key self.old self.new) }
         ensures seated { IsSeated self.old → OnOk result (IsSeated self.new) }
         ensures opening { opens_in self.new.orders.items ≡ opens_in self.old.orders.items }
-        ensures aside { IsReached (desk_in self.old.desk)
+        ensures aside { IsReached (pool_in self.old.pool)
             → OnOk result (OthersKeepAt key self.old self.new) }
+        ensures right { IsRightlyKept key self.old → OnOk result (IsRightlyKept key self.new) }
     {
         match self.stop(key)? {
             Some(number) => self.send_stop(key, number),
@@ -279,26 +283,27 @@ impl Relay {
     /// What a cancel puts out waits on the connection of this number, which the application holds. Where more
     /// would wait than may, both are closed.
     fn send_stop(&mut self, key: usize, number: u64) -> Result<(), NoMemory>
-        ensures goes { OnOk result (GoesOn (desk_in self.old.desk) (desk_in self.new.desk)) }
-        ensures kept { OnOk result (posts_in self.new.applications
-            ≡ posts_in self.old.applications) }
-        ensures moves { OnOk result (MovedOn (hall_in self.old) (hall_in self.new)) }
+        ensures goes { OnOk result (GoesOn (pool_in self.old.pool) (pool_in self.new.pool)) }
+        ensures kept { OnOk result (queues_in self.new.applications
+            ≡ queues_in self.old.applications) }
+        ensures moves { OnOk result (MovedOn (core_in self.old) (core_in self.new)) }
         ensures read { OnOk result (Stays self.old.links.items self.new.links.items) }
-        ensures stand { OnOk result (AllStand self.old.desk.service
-            self.new.desk.service) }
+        ensures stand { OnOk result (AllStand self.old.pool.service
+            self.new.pool.service) }
         ensures sends { OnOk result (StopsOn number key self.old self.new) }
         ensures closes { OnOk result (ClosesOnly (ItselfFor key
             (HasNoRoom number self.old.outbox.items self.old.links.items))
             (register_in self.old) (register_in self.new)) }
-        ensures others { IsReached (desk_in self.old.desk) → (hold : Hold)
-            → find_key key (desk_in self.old.desk).holds ≡ Some hold → hold.number ≡ number
+        ensures others { IsReached (pool_in self.old.pool) → (hold : Hold)
+            → find_key key (pool_in self.old.pool).holds ≡ Some hold → hold.number ≡ number
             → OnOk result (OthersRest key self.old self.new) }
         ensures seated { IsSeated self.old → OnOk result (IsSeated self.new) }
         ensures asks { OnOk result (AskOn self.old.applications self.new.applications) }
         ensures opening { opens_in self.new.orders.items ≡ opens_in self.old.orders.items }
-        ensures aside { IsReached (desk_in self.old.desk) → (hold : Hold)
-            → find_key key (desk_in self.old.desk).holds ≡ Some hold → hold.number ≡ number
+        ensures aside { IsReached (pool_in self.old.pool) → (hold : Hold)
+            → find_key key (pool_in self.old.pool).holds ≡ Some hold → hold.number ≡ number
             → OnOk result (OthersKeepAt key self.old self.new) }
+        ensures right { IsRightlyKept key self.old → OnOk result (IsRightlyKept key self.new) }
     {
         let fits = self.fits_on(number)?;
         if fits { Ok(()) } else { self.fail(key, number) }

@@ -7,26 +7,26 @@ ghost use Rattle.tds_relay.specs.Closings.{ClosesOnly, Nobody, register_in};
 ghost use Rattle.tds_relay.specs.Cleaning.{cleaned_in};
 ghost use Rattle.tds_relay.specs.Coming.{MayBeDone};
 ghost use Rattle.tds_relay.specs.Fronts.{ends_in};
-ghost use Rattle.tds_relay.specs.Hall.{change_end, change_whose, end_at, told};
-ghost use Rattle.tds_relay.specs.House.{is_said};
+ghost use Rattle.tds_relay.specs.Core.{change_end, change_whose, end_at, told};
+ghost use Rattle.tds_relay.specs.Machine.{is_said};
 ghost use Rattle.tds_relay.specs.Reasons.{HasTakenBack};
-ghost use Rattle.tds_relay.specs.Posts.{posts_in};
+ghost use Rattle.tds_relay.specs.Queues.{queues_in};
 ghost use Rattle.tds_relay.specs.Reads.{Stays};
 ghost use Rattle.tds_relay.specs.Ordering.{StayOrdered, opens_in};
 ghost use Rattle.tds_relay.specs.Waking.{HandsTo};
-ghost use Rattle.tds_relay.specs.declared.desk.coming.What.TheVariants as whats;
+ghost use Rattle.tds_relay.specs.declared.pool.coming.What.TheVariants as whats;
 
 use super::Relay;
 use crate::NoMemory;
-use crate::desk::{Heard, What};
+use crate::pool::{Heard, What};
 
 impl Relay {
     /// What came of a packet is told to its application's end. Answers whether this waited for the
     /// acknowledgement of what it had taken back.
     pub(super) fn tell(&mut self, heard: Heard) -> Result<bool, NoMemory>
-        ensures desk { self.new.desk ≡ self.old.desk }
-        ensures kept { OnOk result (posts_in self.new.applications
-            ≡ posts_in self.old.applications) }
+        ensures pool { self.new.pool ≡ self.old.pool }
+        ensures kept { OnOk result (queues_in self.new.applications
+            ≡ queues_in self.old.applications) }
         ensures ends { OnOk result (ends_in self.new.applications
             ≡ change_whose heard.key (told heard.what) (ends_in self.old.applications)) }
         ensures read { OnOk result (Stays self.old.links.items self.new.links.items) }
@@ -69,8 +69,8 @@ impl Relay {
 
     /// A packet of an answer has come for an application.
     fn goes_on(&mut self, key: usize)
-        ensures desk { self.new.desk ≡ self.old.desk }
-        ensures kept { posts_in self.new.applications ≡ posts_in self.old.applications }
+        ensures pool { self.new.pool ≡ self.old.pool }
+        ensures kept { queues_in self.new.applications ≡ queues_in self.old.applications }
         ensures ends { ends_in self.new.applications
             ≡ change_end key (told whats.Goes) (ends_in self.old.applications) }
         ensures links { self.new.links.items ≡ self.old.links.items }
@@ -88,8 +88,8 @@ impl Relay {
 
     /// An application's request has its answer.
     fn answered(&mut self, key: usize)
-        ensures desk { self.new.desk ≡ self.old.desk }
-        ensures kept { posts_in self.new.applications ≡ posts_in self.old.applications }
+        ensures pool { self.new.pool ≡ self.old.pool }
+        ensures kept { queues_in self.new.applications ≡ queues_in self.old.applications }
         ensures ends { ends_in self.new.applications
             ≡ change_end key (told whats.Finished) (ends_in self.old.applications) }
         ensures links { self.new.links.items ≡ self.old.links.items }
@@ -109,8 +109,8 @@ impl Relay {
 
     /// An application's attention has the acknowledgement; or what it took back has. Answers whether that.
     fn acknowledged(&mut self, key: usize) -> bool
-        ensures desk { self.new.desk ≡ self.old.desk }
-        ensures kept { posts_in self.new.applications ≡ posts_in self.old.applications }
+        ensures pool { self.new.pool ≡ self.old.pool }
+        ensures kept { queues_in self.new.applications ≡ queues_in self.old.applications }
         ensures ends { ends_in self.new.applications
             ≡ change_end key (told whats.Acknowledged) (ends_in self.old.applications) }
         ensures links { self.new.links.items ≡ self.old.links.items }

@@ -23,18 +23,18 @@ impl Connection {
         requires awaits { (cancelling : Bool)
             × ((line_in self.old).stage ≡ awaiting cancelling) }
         ensures ok { IfOk result (λ count. 0 < count → Hears
-            (part_of (next_token self.old.walker piece.now)) (line_in self.old)
+            (part_of (next_token self.old.parser piece.now)) (line_in self.old)
             (line_in self.new) line.More (told (items_of token.new))) }
         ensures fault { IfErr result (λ fault. Hears
-            (part_of (next_token self.old.walker piece.now)) (line_in self.old)
+            (part_of (next_token self.old.parser piece.now)) (line_in self.old)
             (line_in self.new) (line.Fault (ListenFault.Client fault)) []) }
         ensures stands { IfOk result (λ count. 0 < count
-            → Stands (next_token self.old.walker piece.now) self.new.walker
+            → Stands (next_token self.old.parser piece.now) self.new.parser
             (drop count piece.now)) }
         ensures within { IfOk result (λ count. count ≤ length piece.now) }
         ensures same { IfOk result (λ count. count ≡ 0 → self.new ≡ self.old) }
         ensures size { self.new.client.size ≡ self.old.client.size }
     {
-        next_whole(&mut self.client, &mut self.walker, piece, token)
+        next_whole(&mut self.client, &mut self.parser, piece, token)
     }
 }

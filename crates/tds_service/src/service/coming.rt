@@ -65,16 +65,16 @@ fn came_at(
         → (d : CodeSeat) × (seats.new ≡ slice_set seats.old index d) × (d.number ≡ c.number)
         × (place_of d.place ≡ drained (place_of c.place) (line_in d.connection).stage)
         × (came.lease ≡ lease_in (place_of c.place)) × (came.request ≡ c.connection.asked)
-        × Hears (packet_part c.connection.walker bytes.now ends) (line_in c.connection)
+        × Hears (packet_part c.connection.parser bytes.now ends) (line_in c.connection)
         (line_in d.connection) (outcome_answer came.request came.outcome)
         (told_of_part (line_in c.connection)
-        (packet_part c.connection.walker bytes.now ends))
+        (packet_part c.connection.parser bytes.now ends))
         × (told.new.items ≡ told.old.items ++ noted tells (told_of_part (line_in c.connection)
-        (packet_part c.connection.walker bytes.now ends)))) }
+        (packet_part c.connection.parser bytes.now ends)))) }
     ensures reads { IfOk result (λ came. (c : CodeSeat) → c ≡ slice_index_or seats.old index c
         → (d : CodeSeat) × (seats.new ≡ slice_set seats.old index d) × (d.number ≡ c.number)
-        × Reads came.outcome ends (tokens_in c.connection.walker bytes.now).stop
-        d.connection.walker) }
+        × Reads came.outcome ends (tokens_in c.connection.parser bytes.now).stop
+        d.connection.parser) }
     ensures others { (n : ℕ) (c : CodeSeat) → c ≡ slice_index_or seats.old index c → n ≢ c.number
         → reading_by (has_number n) seats.new ≡ reading_by (has_number n) seats.old }
     ensures refused { IfErr result (λ refusal. (refusal ≡ Refusal.Memory) × (tells ≡ true)

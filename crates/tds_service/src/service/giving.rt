@@ -28,7 +28,7 @@ fn cancel_any(connection: &mut Connection, out: &mut Vec<u8>) -> Result<(), Refu
     ensures stops { OnOk result (out.new.items
         ≡ out.old.items ++ cancel_out connection.old.client.stage) }
     ensures refused { IfErr result (λ refusal. refusal ≡ Refusal.Memory) }
-    ensures walker { connection.new.walker ≡ connection.old.walker }
+    ensures parser { connection.new.parser ≡ connection.old.parser }
     ensures err { OnErr result (connection.new ≡ connection.old) }
     ensures nothing { OnErr result (out.new.items ≡ out.old.items) }
     ensures size { connection.new.client.size ≡ connection.old.client.size }

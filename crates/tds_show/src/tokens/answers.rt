@@ -7,7 +7,7 @@ use crate::tokens::front::{Front, front_of};
 use crate::tokens::line::{put_packet_fault, put_refused};
 use crate::tokens::message::{Ending, put_tokens};
 use std::alloc::{AllocError, Global};
-use tds_wire::{Features, Walker};
+use tds_wire::{Features, TokenParser};
 
 /// The most columns of a result.
 const MOST_COLUMNS: u16 = 4096;
@@ -27,19 +27,19 @@ pub fn put_answers(alloc: Global, text: &mut String, bytes: &[u8]) -> Result<boo
         encryption: false,
         ranks: false,
     };
-    let mut walker = Walker::new(alloc, MOST_COLUMNS, features)?;
+    let mut parser = TokenParser::new(alloc, MOST_COLUMNS, features)?;
     let mut message = Vec::new(alloc);
-    put_packets(text, &mut walker, &mut message, bytes)
+    put_packets(text, &mut parser, &mut message, bytes)
 }
 
-/// The same, with a walker, and a message that has no byte yet.
+/// The same, with a parser, and a message that has no byte yet.
 fn put_packets(
     text: &mut String,
-    walker: &mut Walker,
+    parser: &mut TokenParser,
     message: &mut Vec<u8>,
     bytes: &[u8],
 ) -> Result<bool, AllocError>
-    requires plain { IsPlain walker.old }
+    requires plain { IsPlain parser.old }
     requires empty { message.old.items ≡ [] }
     ensures { IfOk result (λ is_well.
         record { text = string_bytes text.new; is_well = is_well }
@@ -52,35 +52,35 @@ fn put_packets(
         most -= 1;
         let front = front_of(rest);
         let Front::Packet(length, ends) = front else {
-            return put_message(text, walker, message.as_slice(), &front);
+            return put_message(text, parser, message.as_slice(), &front);
         };
         message.extend_from_slice(&rest[8..length])?;
         rest = &rest[length..];
         if ends {
-            if !put_message(text, walker, message.as_slice(), &front)? {
+            if !put_message(text, parser, message.as_slice(), &front)? {
                 return Ok(false);
             }
             message.clear();
         }
     }
-    put_message(text, walker, message.as_slice(), &Front::Nothing)
+    put_message(text, parser, message.as_slice(), &Front::Nothing)
 }
 
 /// Appends the lines of a message's data, and what is to be said of the packet that ends it, or of
 /// what stands in the place of one. Whether that is no fault.
 fn put_message(
     text: &mut String,
-    walker: &mut Walker,
+    parser: &mut TokenParser,
     data: &[u8],
     stop: &Front,
 ) -> Result<bool, AllocError>
-    requires plain { IsPlain walker.old }
+    requires plain { IsPlain parser.old }
     ensures shown { IfOk result (λ is_well.
         record { text = string_bytes text.new; is_well = is_well }
         ≡ shown_after (string_bytes text.old) (shown_message «data».now stop.now)) }
-    ensures plain { IfOk result (λ is_well. is_well ≡ true → IsPlain walker.new) }
+    ensures plain { IfOk result (λ is_well. is_well ≡ true → IsPlain parser.new) }
 {
-    let ending = put_tokens(text, walker, data)?;
+    let ending = put_tokens(text, parser, data)?;
     put_closing(text, ending, stop)
 }
 

@@ -33,11 +33,7 @@ far_in w conn number = far_on number (numbered w.connections conn)
 
 abbrev pub is_shown_finished : RequestStatus → Bool
 is_shown_finished status.Finished = true
-is_shown_finished status.Open = false
-is_shown_finished status.Cancelling = false
-is_shown_finished status.Acknowledged = false
-is_shown_finished status.Unsent = false
-is_shown_finished status.Lost = false
+is_shown_finished _ = false
 
 -- A request, and what came of it.
 abbrev pub exchange_shown : HowFar → Ask → RequestReport → Exchange

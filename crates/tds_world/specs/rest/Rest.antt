@@ -51,10 +51,8 @@ arriving n up down = event.ToServer n up ∷ event.ToClient n down ∷ []
 
 abbrev pub stopping : Standing → ℕ → ℕ → ℕ → List Event
 stopping (In (place.Leased lease)) n up down = event.Cancel lease ∷ arriving n up down
-stopping (In place.Free) n up down = arriving n up down
-stopping (In (place.Kept ticket)) n up down = arriving n up down
-stopping (In place.Draining) n up down = arriving n up down
 stopping Cut n up down = []
+stopping _ n up down = arriving n up down
 
 -- So many bytes are all that is underway to the server, and then all that is to the client.
 pub record AreAll (answers : Answers) (c : Connection) (up down : ℕ) : Type 0 where
@@ -93,10 +91,8 @@ answering n up steps down =
 abbrev pub finishing : Standing → ℕ → ℕ → ℕ → ℕ → ℕ → List Event
 finishing (In (place.Leased lease)) n packets up steps down =
     replicate packets (event.Send lease) ++ answering n up steps down
-finishing (In place.Free) n packets up steps down = answering n up steps down
-finishing (In (place.Kept ticket)) n packets up steps down = answering n up steps down
-finishing (In place.Draining) n packets up steps down = answering n up steps down
 finishing Cut n packets up steps down = []
+finishing _ n packets up steps down = answering n up steps down
 
 -- A change, so many times.
 abbrev pub times : {A : Type 0} → ℕ → (A → A) → A → A

@@ -6,7 +6,7 @@ use std::io;
 use tds_client::{Client, ClientRefusal, MessageKind, Taken};
 use tds_listen::{hear_end, next_to, next_whole};
 use tds_packet::{Direction, Header, PacketSize, Reset};
-use tds_wire::{Features, Token, Walker};
+use tds_wire::{Features, Token, TokenParser};
 
 /// The end of a reset, a status of 5, and a DONE that tells one row (MS-TDS 2.2.7.9, 2.2.7.18, 2.2.7.6), in a packet.
 const ANSWER: [u8; 32] = [
@@ -19,7 +19,7 @@ const ANSWER: [u8; 32] = [
 struct Asking {
     client: Client,
     size: PacketSize,
-    walker: Walker,
+    parser: TokenParser,
     out: Vec<u8>,
     told: Vec<Token>,
     /// How many bytes it asked with, and how many tokens were told.
@@ -51,7 +51,7 @@ fn begun(rt: &HostRuntime) -> Result<Asking, SceneFault> {
     Ok(Asking {
         client: Client::new(alloc, size),
         size,
-        walker: Walker::new(alloc, 64, features)?,
+        parser: TokenParser::new(alloc, 64, features)?,
         out: Vec::new(alloc),
         told: Vec::new(alloc),
         bytes: 0,
@@ -74,7 +74,7 @@ impl Asking {
         };
         self.hear(&answer[8..])?;
         if header.status.ends() {
-            match hear_end(&mut self.client, &mut self.walker) {
+            match hear_end(&mut self.client, &mut self.parser) {
                 Ok(Taken::Finished) => {}
                 _ => return Err(SceneFault::Step),
             }
@@ -110,12 +110,12 @@ impl Asking {
 
     /// Hears up to the end of one token.
     fn hear_one(&mut self, bytes: &[u8], token: &mut Option<Token>) -> Result<usize, SceneFault> {
-        match next_whole(&mut self.client, &mut self.walker, bytes, token) {
+        match next_whole(&mut self.client, &mut self.parser, bytes, token) {
             Ok(0) => {}
             Ok(count) => return Ok(count),
             Err(_) => return Err(SceneFault::Step),
         }
-        match next_to(&mut self.client, &mut self.walker, bytes, token) {
+        match next_to(&mut self.client, &mut self.parser, bytes, token) {
             Ok(count) => Ok(count),
             Err(_) => Err(SceneFault::Step),
         }

@@ -8,13 +8,13 @@ use tds_client::{Client, Sent};
 use tds_listen::{hear_end, next};
 use tds_packet::{PacketSize, Reset};
 use tds_request::Request;
-use tds_wire::{Features, Walker};
+use tds_wire::{Features, TokenParser};
 
-/// A client and a walker over what it is answered.
+/// A client and a parser over what it is answered.
 #[derive(Drop)]
 pub(crate) struct Player {
     client: Client,
-    walker: Walker,
+    parser: TokenParser,
     out: Vec<u8>,
 }
 
@@ -30,7 +30,7 @@ impl Player {
         };
         Ok(Player {
             client: Client::new(alloc, size),
-            walker: Walker::new(alloc, 64, features)?,
+            parser: TokenParser::new(alloc, 64, features)?,
             out: Vec::new(alloc),
         })
     }
@@ -87,7 +87,7 @@ impl Player {
     }
 
     fn end(&mut self, alloc: Global) -> Result<String, SceneFault> {
-        let text = match hear_end(&mut self.client, &mut self.walker) {
+        let text = match hear_end(&mut self.client, &mut self.parser) {
             Ok(taken) => String::from_str(alloc, taken_word(taken))?,
             Err(fault) => fault_text(alloc, &fault)?,
         };
@@ -135,7 +135,7 @@ impl Player {
                 break;
             }
             let space = if told.is_empty() { "" } else { " " };
-            match next(&mut self.client, &mut self.walker, left) {
+            match next(&mut self.client, &mut self.parser, left) {
                 Ok(heard) => {
                     if let Some(token) = heard.token {
                         write!(told, "{space}{:02X}@{}", token.kind, token.start)?;

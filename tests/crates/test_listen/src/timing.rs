@@ -7,7 +7,7 @@ use std::{fs, io};
 use tds_client::{Client, MessageKind};
 use tds_listen::{hear_end, next};
 use tds_packet::PacketSize;
-use tds_wire::{Features, Told, Walker};
+use tds_wire::{Features, TokenParser, Told};
 
 /// The most columns of a result.
 const MOST_COLUMNS: u16 = 4096;
@@ -39,7 +39,7 @@ pub(crate) fn time_hearing(rt: &HostRuntime, words: &[String]) -> io::Result<()>
         ranks: false,
     };
     let mut client = Client::new(rt.alloc(), size);
-    let mut walker = Walker::new(rt.alloc(), MOST_COLUMNS, features)?;
+    let mut parser = TokenParser::new(rt.alloc(), MOST_COLUMNS, features)?;
     let mut out = Vec::new(rt.alloc());
     let mut sums = Sums {
         tokens: 0,
@@ -49,8 +49,8 @@ pub(crate) fn time_hearing(rt: &HostRuntime, words: &[String]) -> io::Result<()>
     let start = rt.process_cpu_time()?;
     for _ in 0..times {
         ask(&mut client, &mut out)?;
-        hear_all(&mut client, &mut walker, bytes.as_slice(), piece, &mut sums);
-        if hear_end(&mut client, &mut walker).is_err() {
+        hear_all(&mut client, &mut parser, bytes.as_slice(), piece, &mut sums);
+        if hear_end(&mut client, &mut parser).is_err() {
             return Err(io::Error::from(io::ErrorKind::InvalidData));
         }
     }
@@ -76,11 +76,17 @@ fn ask(client: &mut Client, out: &mut Vec<u8>) -> Result<(), SceneFault> {
 }
 
 /// Hears one message in pieces of so many bytes.
-fn hear_all(client: &mut Client, walker: &mut Walker, bytes: &[u8], size: usize, sums: &mut Sums) {
+fn hear_all(
+    client: &mut Client,
+    parser: &mut TokenParser,
+    bytes: &[u8],
+    size: usize,
+    sums: &mut Sums,
+) {
     let mut rest = bytes;
     for _ in 0..bytes.len() {
         let (piece, others) = rest.split_at(size.min(rest.len()));
-        hear_piece(client, walker, piece, sums);
+        hear_piece(client, parser, piece, sums);
         rest = others;
         if rest.is_empty() {
             break;
@@ -89,10 +95,10 @@ fn hear_all(client: &mut Client, walker: &mut Walker, bytes: &[u8], size: usize,
 }
 
 /// Hears a piece. Nothing is added after a fault.
-fn hear_piece(client: &mut Client, walker: &mut Walker, piece: &[u8], sums: &mut Sums) {
+fn hear_piece(client: &mut Client, parser: &mut TokenParser, piece: &[u8], sums: &mut Sums) {
     let mut rest = piece;
     for _ in 0..piece.len() {
-        let Ok(heard) = next(client, walker, rest) else {
+        let Ok(heard) = next(client, parser, rest) else {
             break;
         };
         if let Some(token) = heard.token {

@@ -1,7 +1,7 @@
 //! What a server answers, by its session's state (MS-TDS 2.2.7). The same function says what a connection's
 //! server answers, and what an application would hear of a server of its own.
 
-use crate::request::{Deed, Request};
+use crate::request::{Action, Request};
 use std::alloc::AllocError;
 use tds_packet::Reset;
 
@@ -56,27 +56,27 @@ impl State {
         request: &Request,
         out: &mut Vec<u8>,
     ) -> Result<(), AllocError> {
-        match request.deed {
-            Deed::Get => {
+        match request.action {
+            Action::Get => {
                 out.extend_from_slice(&[0x79, self.setting, 0, 0, 0])?;
                 out.extend_from_slice(&DONE)
             }
-            Deed::Set(value) => {
+            Action::Set(value) => {
                 self.setting = value;
                 out.extend_from_slice(&DONE)
             }
-            Deed::Begin => self.begin(request, out),
-            Deed::Commit => self.commit(out),
-            Deed::Rows(count) => put_rows(request, u16::from(count), out),
-            Deed::Many(count) => put_rows(request, 64 * u16::from(count), out),
-            Deed::Renew => {
+            Action::Begin => self.begin(request, out),
+            Action::Commit => self.commit(out),
+            Action::Rows(count) => put_rows(request, u16::from(count), out),
+            Action::Many(count) => put_rows(request, 64 * u16::from(count), out),
+            Action::Renew => {
                 if self.transaction != 0 {
                     return put_error(out);
                 }
                 self.reset(Reset::Full, out)?;
                 out.extend_from_slice(&DONE)
             }
-            Deed::Use(name) => {
+            Action::Use(name) => {
                 let old = self.database;
                 self.database = name;
                 out.extend_from_slice(&[0xE3, 7, 0, 1, 1, name, 0, 1, old, 0])?;

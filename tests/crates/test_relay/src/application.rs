@@ -6,7 +6,7 @@ use crate::answers::{ACKNOWLEDGED, State, is_cut, is_part};
 use crate::packets::{ANSWER, ATTENTION, ENDS, IGNORED, Stream, packet_in, put_packet};
 use crate::random::Random;
 use crate::request::{
-    Deed, LONG, Request, any_deed, any_kind, any_padding, any_reset, any_size, message_data,
+    Action, LONG, Request, any_action, any_kind, any_padding, any_reset, any_size, message_data,
     put_data,
 };
 use crate::tally::{Tally, Wrong, raise};
@@ -157,13 +157,13 @@ impl Application {
     }
 
     /// The next request.
-    fn next(&mut self, random: &mut Random, deed: Deed) -> Request {
+    fn next(&mut self, random: &mut Random, action: Action) -> Request {
         self.asked = self.asked.saturating_add(1);
         raise(&mut self.messages);
         Request {
             session: self.session,
             number: self.asked,
-            deed,
+            action,
             kind: any_kind(random),
             padding: any_padding(random),
         }
@@ -172,7 +172,7 @@ impl Application {
     /// Some packets of a request that isn't whole. Sometimes it asks for a reset: nothing is to tell that
     /// this is done, and what it asks next finds a session that is reset.
     fn begin(&mut self, alloc: Global, random: &mut Random) -> Result<u8, AllocError> {
-        let mut request = self.next(random, Deed::Get);
+        let mut request = self.next(random, Action::Get);
         if random.once_in(2) {
             // Of some packets the server has something then.
             request.padding = random.below(3_000) as u16;
@@ -214,8 +214,8 @@ impl Application {
         random: &mut Random,
         tally: &mut Tally,
     ) -> Result<(), AllocError> {
-        let deed = any_deed(random);
-        let request = self.next(random, deed);
+        let action = any_action(random);
+        let request = self.next(random, action);
         let reset = match any_reset(self.is_unsure, random) {
             // By how the answer is cut the relay tells it in front of all else, or where the server does.
             Some(_) if request.tells_late() => None,
@@ -240,7 +240,7 @@ impl Application {
         self.state.answer(&request, &mut self.expected)?;
         self.phase = Phase::Asked;
         self.is_long = request.padding == LONG;
-        self.may_cancel = request.deed.only_reads() && reset.is_none();
+        self.may_cancel = request.action.only_reads() && reset.is_none();
         if self.may_cancel && random.once_in(8) {
             return self.cancel();
         }

@@ -11,7 +11,7 @@ use tds_packet::Reset;
 pub(crate) const LONG: u16 = 40_000;
 
 #[derive(Clone, Copy, Debug, PartialEq, Eq)]
-pub(crate) enum Deed {
+pub(crate) enum Action {
     /// A return status: the setting.
     Get,
     Set(u8),
@@ -26,35 +26,35 @@ pub(crate) enum Deed {
     Renew,
 }
 
-impl Deed {
+impl Action {
     /// Whether it leaves the session as it is.
     pub(crate) fn only_reads(self) -> bool {
-        matches!(self, Deed::Get | Deed::Rows(_) | Deed::Many(_))
+        matches!(self, Action::Get | Action::Rows(_) | Action::Many(_))
     }
 
     fn bytes(self) -> (u8, u8) {
         match self {
-            Deed::Get => (1, 0),
-            Deed::Set(value) => (2, value),
-            Deed::Begin => (3, 0),
-            Deed::Commit => (4, 0),
-            Deed::Rows(count) => (5, count),
-            Deed::Use(name) => (6, name),
-            Deed::Many(count) => (7, count),
-            Deed::Renew => (8, 0),
+            Action::Get => (1, 0),
+            Action::Set(value) => (2, value),
+            Action::Begin => (3, 0),
+            Action::Commit => (4, 0),
+            Action::Rows(count) => (5, count),
+            Action::Use(name) => (6, name),
+            Action::Many(count) => (7, count),
+            Action::Renew => (8, 0),
         }
     }
 
-    fn read(code: u8, value: u8) -> Option<Deed> {
+    fn read(code: u8, value: u8) -> Option<Action> {
         match code {
-            1 => Some(Deed::Get),
-            2 => Some(Deed::Set(value)),
-            3 => Some(Deed::Begin),
-            4 => Some(Deed::Commit),
-            5 => Some(Deed::Rows(value)),
-            6 => Some(Deed::Use(value)),
-            7 => Some(Deed::Many(value)),
-            8 => Some(Deed::Renew),
+            1 => Some(Action::Get),
+            2 => Some(Action::Set(value)),
+            3 => Some(Action::Begin),
+            4 => Some(Action::Commit),
+            5 => Some(Action::Rows(value)),
+            6 => Some(Action::Use(value)),
+            7 => Some(Action::Many(value)),
+            8 => Some(Action::Renew),
             _ => None,
         }
     }
@@ -65,7 +65,7 @@ impl Deed {
 pub(crate) struct Request {
     pub(crate) session: u32,
     pub(crate) number: u8,
-    pub(crate) deed: Deed,
+    pub(crate) action: Action,
     /// The type of its packets.
     pub(crate) kind: u8,
     /// How many bytes stand behind that, by which it is seen that all of a body comes, in order.
@@ -76,7 +76,7 @@ impl Request {
     /// Whether a server tells the news of a reset that is done with it behind the news of the database: MS-TDS
     /// says of no order.
     pub(crate) fn tells_late(&self) -> bool {
-        matches!(self.deed, Deed::Use(_)) && self.number % 2 == 1
+        matches!(self.action, Action::Use(_)) && self.number % 2 == 1
     }
 
     fn byte_at(&self, place: u16) -> u8 {
@@ -90,7 +90,7 @@ impl Request {
 
     /// Appends its body.
     pub(crate) fn put_body(&self, out: &mut Vec<u8>) -> Result<(), AllocError> {
-        let (code, value) = self.deed.bytes();
+        let (code, value) = self.action.bytes();
         out.extend_from_slice(&[code, value])?;
         out.extend_from_slice(&self.session.to_le_bytes())?;
         out.extend_from_slice(&[self.number, self.kind])?;
@@ -122,7 +122,7 @@ impl Request {
         let request = Request {
             session: u32::from_le_bytes([*a, *b, *c, *d]),
             number: *number,
-            deed: Deed::read(*code, *value)?,
+            action: Action::read(*code, *value)?,
             kind,
             padding: u16::from_le_bytes([*low, *high]),
         };
@@ -203,17 +203,17 @@ pub(crate) fn put_data(
 
 // ---- What an application asks next
 
-pub(crate) fn any_deed(random: &mut Random) -> Deed {
+pub(crate) fn any_action(random: &mut Random) -> Action {
     match random.below(12) {
-        0 | 1 => Deed::Get,
-        2 | 3 => Deed::Set((random.below(255) as u8).saturating_add(1)),
-        4 | 5 => Deed::Begin,
-        6 => Deed::Commit,
-        7 => Deed::Use((random.below(26) as u8).saturating_add(b'a')),
+        0 | 1 => Action::Get,
+        2 | 3 => Action::Set((random.below(255) as u8).saturating_add(1)),
+        4 | 5 => Action::Begin,
+        6 => Action::Commit,
+        7 => Action::Use((random.below(26) as u8).saturating_add(b'a')),
         // Of packets of 512 bytes more than may wait for it.
-        8 if random.once_in(4) => Deed::Many(random.up_to(100) as u8),
-        9 if random.once_in(3) => Deed::Renew,
-        _ => Deed::Rows(random.below(120) as u8),
+        8 if random.once_in(4) => Action::Many(random.up_to(100) as u8),
+        9 if random.once_in(3) => Action::Renew,
+        _ => Action::Rows(random.below(120) as u8),
     }
 }
 

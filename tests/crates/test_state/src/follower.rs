@@ -1,9 +1,9 @@
-//! A tracker, and a walker over what its server says; or a watch, which has both.
+//! A tracker, and a parser over what its server says; or a watch, which has both.
 
 use std::alloc::{AllocError, Global};
 use tds_packet::Reset;
 use tds_state::{Reason, Request, Tracker, Watch};
-use tds_wire::{Features, Walker};
+use tds_wire::{Features, TokenParser};
 
 /// A step that can't be read, or whose bytes are no answer.
 #[derive(Clone, Copy, Debug)]
@@ -12,7 +12,7 @@ pub(crate) struct StepFault;
 #[derive(Drop)]
 pub(crate) struct Follower {
     tracker: Tracker,
-    walker: Walker,
+    parser: TokenParser,
     watch: Watch,
     is_watched: bool,
 }
@@ -25,7 +25,7 @@ impl Follower {
         };
         Ok(Follower {
             tracker: Tracker::new(alloc)?,
-            walker: Walker::new(alloc, 64, features)?,
+            parser: TokenParser::new(alloc, 64, features)?,
             watch: Watch::new(alloc, features)?,
             is_watched: false,
         })
@@ -146,10 +146,10 @@ impl Follower {
             left = others;
         }
         if ends {
-            if !self.walker.is_between() {
+            if !self.parser.is_between() {
                 return Err(StepFault);
             }
-            self.walker.restart();
+            self.parser.restart();
             self.tracker.end();
         }
         Ok(())
@@ -162,7 +162,7 @@ impl Follower {
                 break;
             }
             let mut token = None;
-            let Ok(count) = self.walker.feed_to(left, &mut token) else {
+            let Ok(count) = self.parser.feed_to(left, &mut token) else {
                 return Err(StepFault);
             };
             let (front, behind) = left.split_at(count.min(left.len()));

@@ -4,7 +4,7 @@ use crate::altering::{Alteration, altered, is_covered};
 use crate::vector::{Change, Counted, Detail, Length, Vector};
 use crate::walk::{Pieces, put_told};
 use std::alloc::{AllocError, Global};
-use tds_wire::Walker;
+use tds_wire::TokenParser;
 
 /// How many answers of each form came out as they are to.
 #[derive(Clone, Copy)]
@@ -24,7 +24,7 @@ pub(crate) struct Counts {
 #[derive(Drop)]
 pub(crate) struct Judge {
     alloc: Global,
-    walker: Walker,
+    parser: TokenParser,
     /// What is compared of an answer as it stands.
     detail: Detail,
     found: String,
@@ -33,10 +33,10 @@ pub(crate) struct Judge {
 }
 
 impl Judge {
-    pub(crate) fn new(alloc: Global, walker: Walker, detail: Detail, counts: Counts) -> Judge {
+    pub(crate) fn new(alloc: Global, parser: TokenParser, detail: Detail, counts: Counts) -> Judge {
         Judge {
             alloc,
-            walker,
+            parser,
             detail,
             found: String::new(alloc),
             wanted: String::new(alloc),
@@ -61,7 +61,7 @@ impl Judge {
     /// Walks bytes, and leaves what is told.
     fn walk(&mut self, bytes: &[u8], pieces: Pieces, detail: Detail) -> Result<(), AllocError> {
         self.found.clear();
-        put_told(&mut self.walker, bytes, pieces, detail, &mut self.found)
+        put_told(&mut self.parser, bytes, pieces, detail, &mut self.found)
     }
 
     /// Leaves what is wanted of an answer, behind a change.

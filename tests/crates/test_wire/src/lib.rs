@@ -18,7 +18,7 @@ use lines::walk_lines;
 use parsing::read_vectors;
 use std::process::ExitCode;
 use std::{fs, io};
-use tds_wire::Walker;
+use tds_wire::TokenParser;
 use timing::time_walks;
 use vector::{Detail, Vector};
 
@@ -99,8 +99,8 @@ fn judge(
     detail: Detail,
     counts: &mut Counts,
 ) -> io::Result<bool> {
-    let walker = Walker::new(rt.alloc(), MOST_COLUMNS, vector.features)?;
-    let mut judge = Judge::new(rt.alloc(), walker, detail, *counts);
+    let parser = TokenParser::new(rt.alloc(), MOST_COLUMNS, vector.features)?;
+    let mut judge = Judge::new(rt.alloc(), parser, detail, *counts);
     let wrong = judge.first_wrong(vector)?;
     *counts = judge.counts;
     let Some(text) = wrong else {

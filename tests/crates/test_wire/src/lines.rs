@@ -5,7 +5,7 @@ use crate::vector::Detail;
 use crate::walk::{Pieces, put_told};
 use std::io;
 use std::io::{BufRead, BufReader, BufWriter, Write};
-use tds_wire::Walker;
+use tds_wire::TokenParser;
 
 /// The most columns of a result.
 const MOST_COLUMNS: u16 = 4096;
@@ -33,9 +33,9 @@ fn told_of(rt: &HostRuntime, line: &str) -> io::Result<String> {
         return Ok(text);
     };
     let size = size.parse::<usize>().unwrap_or(usize::MAX);
-    let mut walker = Walker::new(alloc, MOST_COLUMNS, features_of(agreed))?;
+    let mut parser = TokenParser::new(alloc, MOST_COLUMNS, features_of(agreed))?;
     put_told(
-        &mut walker,
+        &mut parser,
         bytes.as_slice(),
         Pieces::Each(size),
         Detail::All,

@@ -2,7 +2,7 @@
 
 use std::time::CpuClock;
 use std::{fs, io};
-use tds_wire::{Features, Told, Walker};
+use tds_wire::{Features, TokenParser, Told};
 
 /// The most columns of a result.
 const MOST_COLUMNS: u16 = 4096;
@@ -24,7 +24,7 @@ pub(crate) fn time_walks(rt: &HostRuntime, file: &str, piece: usize, times: u64)
         encryption: false,
         ranks: false,
     };
-    let mut walker = Walker::new(rt.alloc(), MOST_COLUMNS, features)?;
+    let mut parser = TokenParser::new(rt.alloc(), MOST_COLUMNS, features)?;
     let mut sums = Sums {
         tokens: 0,
         lengths: 0,
@@ -32,8 +32,8 @@ pub(crate) fn time_walks(rt: &HostRuntime, file: &str, piece: usize, times: u64)
     };
     let start = rt.process_cpu_time()?;
     for _ in 0..times {
-        walker.restart();
-        walk_all(&mut walker, bytes.as_slice(), piece, &mut sums);
+        parser.restart();
+        walk_all(&mut parser, bytes.as_slice(), piece, &mut sums);
     }
     let taken = rt.process_cpu_time()?.saturating_sub(start).as_nanos();
     let Sums {
@@ -45,11 +45,11 @@ pub(crate) fn time_walks(rt: &HostRuntime, file: &str, piece: usize, times: u64)
 }
 
 /// Walks one message in pieces of so many bytes.
-fn walk_all(walker: &mut Walker, bytes: &[u8], size: usize, sums: &mut Sums) {
+fn walk_all(parser: &mut TokenParser, bytes: &[u8], size: usize, sums: &mut Sums) {
     let mut rest = bytes;
     for _ in 0..bytes.len() {
         let (piece, others) = rest.split_at(size.min(rest.len()));
-        walk_piece(walker, piece, sums);
+        walk_piece(parser, piece, sums);
         rest = others;
         if rest.is_empty() {
             break;
@@ -58,10 +58,10 @@ fn walk_all(walker: &mut Walker, bytes: &[u8], size: usize, sums: &mut Sums) {
 }
 
 /// Walks a piece. Nothing is added behind a fault.
-fn walk_piece(walker: &mut Walker, piece: &[u8], sums: &mut Sums) {
+fn walk_piece(parser: &mut TokenParser, piece: &[u8], sums: &mut Sums) {
     let mut rest = piece;
     for _ in 0..piece.len() {
-        let Ok(fed) = walker.feed(rest) else {
+        let Ok(fed) = parser.feed(rest) else {
             break;
         };
         if let Some(token) = fed.token {

@@ -1,9 +1,9 @@
-//! An answer through the walker, and the lines that it tells.
+//! An answer through the parser, and the lines that it tells.
 
 use crate::values::put_values;
 use crate::vector::Detail;
 use std::alloc::AllocError;
-use tds_wire::{Change, Done, Refusal, Token, Told, Walker, WireFault};
+use tds_wire::{Change, Done, Refusal, Token, TokenParser, Told, WireFault};
 
 /// In which pieces an answer is handed in.
 #[derive(Clone, Copy)]
@@ -16,19 +16,19 @@ pub(crate) enum Pieces {
 
 /// Puts the lines of an answer, a message of its own.
 pub(crate) fn put_told(
-    walker: &mut Walker,
+    parser: &mut TokenParser,
     bytes: &[u8],
     pieces: Pieces,
     detail: Detail,
     text: &mut String,
 ) -> Result<(), AllocError> {
-    walker.restart();
+    parser.restart();
     let is_sound = match pieces {
-        Pieces::Two(count) => take_both(walker, bytes, count, detail, text)?,
-        Pieces::Each(size) => take_each(walker, bytes, size, detail, text)?,
+        Pieces::Two(count) => take_both(parser, bytes, count, detail, text)?,
+        Pieces::Each(size) => take_each(parser, bytes, size, detail, text)?,
     };
     if is_sound {
-        let is_whole = walker.is_between();
+        let is_whole = parser.is_between();
         text.push_str(if is_whole { "end\n" } else { "cut\n" })?;
     }
     Ok(())
@@ -36,19 +36,19 @@ pub(crate) fn put_told(
 
 /// Hands in two pieces. Whether no fault came.
 fn take_both(
-    walker: &mut Walker,
+    parser: &mut TokenParser,
     bytes: &[u8],
     count: usize,
     detail: Detail,
     text: &mut String,
 ) -> Result<bool, AllocError> {
     let (first, second) = bytes.split_at(count.min(bytes.len()));
-    Ok(take(walker, first, detail, text)? && take(walker, second, detail, text)?)
+    Ok(take(parser, first, detail, text)? && take(parser, second, detail, text)?)
 }
 
 /// Hands in pieces of so many bytes. Whether no fault came.
 fn take_each(
-    walker: &mut Walker,
+    parser: &mut TokenParser,
     bytes: &[u8],
     size: usize,
     detail: Detail,
@@ -57,7 +57,7 @@ fn take_each(
     let mut rest = bytes;
     for _ in 0..bytes.len() {
         let (piece, others) = rest.split_at(size.min(rest.len()));
-        if !take(walker, piece, detail, text)? {
+        if !take(parser, piece, detail, text)? {
             return Ok(false);
         }
         rest = others;
@@ -70,14 +70,14 @@ fn take_each(
 
 /// Hands in a piece. Whether no fault came.
 fn take(
-    walker: &mut Walker,
+    parser: &mut TokenParser,
     piece: &[u8],
     detail: Detail,
     text: &mut String,
 ) -> Result<bool, AllocError> {
     let mut rest = piece;
     for _ in 0..piece.len() {
-        match walker.feed(rest) {
+        match parser.feed(rest) {
             Ok(fed) => {
                 if let Some(token) = fed.token {
                     put_token(token, detail, text)?;

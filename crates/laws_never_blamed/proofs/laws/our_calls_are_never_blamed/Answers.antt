@@ -6,8 +6,8 @@ use Rattle.laws_never_blamed.proofs.Calls.{called_shows}
 use Rattle.laws_never_blamed.proofs.laws.our_calls_are_never_blamed.Goals as goal
 
 pub returns : goal.returns
-returns g c engine moves limits judge reading size calls sized called rules run plain new walker =
+returns g c engine moves limits judge reading size calls sized called rules run plain new parser =
     let all = called_shows size reading calls sized called in
     ap (λ (r : Run). has_breach r.told) (sym (all.handed (run_of judge [])))
-    ∙ c.our_bytes_are_never_blamed.ensures engine moves limits judge reading (acts_of (new_end size reading) calls) all.shown rules run plain new walker
+    ∙ c.our_bytes_are_never_blamed.ensures engine moves limits judge reading (acts_of (new_end size reading) calls) all.shown rules run plain new parser
     (record { done = all.done; spelled = all.spelled })

@@ -8,7 +8,7 @@ use Rattle.tds_listen.proofs.hearing.hear_data.Goals as goal
 pub tokens-preserved-then-rows-gt0 : goal.tokens-preserved-then-rows-gt0
 tokens-preserved-then-rows-gt0 c = record {
   does = c.tokens.invariant.does
-      ∙ rows_behind c.cuts_do_not_matter.ensures c.tokens.client c.tokens.walker c.pass_rows-rows.new.walker c.pass_rows-rows.result c.tokens.done c.args.bytes.now c.pass_rows-rows.ensures.exact;
+      ∙ rows_behind c.cuts_do_not_matter.ensures c.tokens.client c.tokens.parser c.pass_rows-rows.new.parser c.pass_rows-rows.result c.tokens.done c.args.bytes.now c.pass_rows-rows.ensures.exact;
   within = search rules;
 }
 
@@ -17,7 +17,7 @@ returns-in-Err-clause-exact c =
     let none : c.pass_rows-rows.result ≡ 0 = search rules in
     c.tokens.invariant.does
     ∙ (ap (λ (r : Reading). heard_data c.tokens.client r (drop c.tokens.done c.args.bytes.now)) (sym (c.pass_rows-rows.ensures.same none))
-    ∙ stops c.tokens.client c.pass_rows-rows.new.walker c.args.bytes.now c.tokens.done (search rules) c.in-Err.fault c.in-Err.ensures.exact)
+    ∙ stops c.tokens.client c.pass_rows-rows.new.parser c.args.bytes.now c.tokens.done (search rules) c.in-Err.fault c.in-Err.ensures.exact)
 
 pub tokens-preserved : goal.tokens-preserved
 tokens-preserved c =
@@ -25,9 +25,9 @@ tokens-preserved c =
     record {
       does = c.tokens.invariant.does
           ∙ (ap (λ (r : Reading). heard_data c.tokens.client r (drop c.tokens.done c.args.bytes.now)) (sym (c.pass_rows-rows.ensures.same none))
-          ∙ goes_on c.tokens.client c.pass_rows-rows.new.walker c.args.bytes.now c.tokens.done (search rules) c.in-Ok.heard.token _ _ c.in-Ok.heard.count c.in-Ok.ensures.exact);
+          ∙ goes_on c.tokens.client c.pass_rows-rows.new.parser c.args.bytes.now c.tokens.done (search rules) c.in-Ok.heard.token _ _ c.in-Ok.heard.count c.in-Ok.ensures.exact);
       within = search rules;
     }
 
 pub returns-clause-exact : goal.returns-clause-exact
-returns-clause-exact c = c.tokens.invariant.does ∙ heard_all c.tokens.client c.tokens.walker c.args.bytes.now c.tokens.done (search rules)
+returns-clause-exact c = c.tokens.invariant.does ∙ heard_all c.tokens.client c.tokens.parser c.args.bytes.now c.tokens.done (search rules)

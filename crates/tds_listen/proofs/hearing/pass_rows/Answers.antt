@@ -10,10 +10,10 @@ pub returns-in-Cancelling-clause-exact : goal.returns-in-Cancelling-clause-exact
 returns-in-Cancelling-clause-exact c = c.walk_rows-in-Cancelling.ensures.exact c.args.client.now (skips_on c.args.client.now.stage (sym c.state.ensures ∙ c.in-Cancelling.is))
 
 pub returns-in-Idle-clause-exact : goal.returns-in-Idle-clause-exact
-returns-in-Idle-clause-exact c = nothing_heard c.args.client.now c.args.walker.now
+returns-in-Idle-clause-exact c = nothing_heard c.args.client.now c.args.parser.now
 
 pub returns-in-Sending-clause-exact : goal.returns-in-Sending-clause-exact
-returns-in-Sending-clause-exact c = nothing_heard c.args.client.now c.args.walker.now
+returns-in-Sending-clause-exact c = nothing_heard c.args.client.now c.args.parser.now
 
 pub returns-in-Broken-clause-exact : goal.returns-in-Broken-clause-exact
-returns-in-Broken-clause-exact c = nothing_heard c.args.client.now c.args.walker.now
+returns-in-Broken-clause-exact c = nothing_heard c.args.client.now c.args.parser.now

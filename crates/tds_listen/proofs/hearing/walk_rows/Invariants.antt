@@ -10,11 +10,11 @@ use Rattle.tds_listen.proofs.hearing.walk_rows.Given as goal
 abbrev pub invariant-rows : goal.invariant-rows
 invariant-rows l = record {
   done : l.done ≤ length l.piece;
-  ready : IsReady l.walker;
-  same : l.done ≡ 0 → l.walker ≡ l.fn.walker;
-  heard : (s : ClientSession) → Listens s.stage → heard_data s l.fn.walker (take l.done l.piece) ≡ Ok (record { session = s; reading = l.walker });
-  most : l.walker.walk.most ≡ l.fn.walker.walk.most;
-  features : l.walker.walk.features ≡ l.fn.walker.walk.features;
+  ready : IsReady l.parser;
+  same : l.done ≡ 0 → l.parser ≡ l.fn.parser;
+  heard : (s : ClientSession) → Listens s.stage → heard_data s l.fn.parser (take l.done l.piece) ≡ Ok (record { session = s; reading = l.parser });
+  most : l.parser.walk.most ≡ l.fn.parser.walk.most;
+  features : l.parser.walk.features ≡ l.fn.parser.walk.features;
 }
 
 abbrev pub decreases-rows : goal.decreases-rows

@@ -2,9 +2,9 @@ use Rattle.std.proofs.Common.{Option, ap, drop, sym, ◌∙◌}
 use Rattle.std.specs.Prelude.{is_some}
 use Rattle.tds_relay.specs.declared.link.Link.{Link}
 use Rattle.tds_relay.specs.Linking.{Linked}
-use Rattle.tds_relay.specs.Posts.{Post, post_in, without_first}
+use Rattle.tds_relay.specs.Queues.{Queue, queue_in, without_first}
 use Rattle.tds_relay.specs.Reads.{place_of, seen_of}
-use Rattle.tds_relay.proofs.spared.Waits.{none_post, none_waits, one_post, one_waits, others_post, others_wait}
+use Rattle.tds_relay.proofs.spared.Waits.{none_queue, none_waits, one_queue, one_waits, others_queue, others_wait}
 use Rattle.tds_relay.proofs.spared.Begun.{answers_refl, answers_written}
 use Rattle.tds_relay.proofs.steps.Placed.{is_at, is_nowhere}
 use Rattle.tds_relay.proofs.steps.Staying.{sees_written}
@@ -35,7 +35,7 @@ returns-clause-fewer c = rw (← c.links.view_is) (
     one_waits (drop c.args.count) c.args.number c.links.inside.list.items c.in-Some.place c.index_mut-link.result.now _
     (ap (λ (v : Linked). place_of c.args.number v.items) c.links.view_is ∙ sym c.place_in.ensures.is ∙ c.in-Some.is)
     (ap (λ (l : Link). l.number) c.index_mut-link.ensures.value)
-    (ap (λ (p : Post). p.bytes) c.sent.ensures.post ∙ ap (λ (l : Link). drop c.args.count (post_in l.out).bytes) c.index_mut-link.ensures.value))
+    (ap (λ (p : Queue). p.bytes) c.sent.ensures.queue ∙ ap (λ (l : Link). drop c.args.count (queue_in l.out).bytes) c.index_mut-link.ensures.value))
 
 pub returns-in_default-clause-fewer : goal.returns-in_default-clause-fewer
 returns-in_default-clause-fewer c =
@@ -55,18 +55,18 @@ pub invariant_of-links : goal.invariant_of-links
 invariant_of-links c =
     placed_written c.links.inside.list.items c.links.inside.places.items c.in-Some.place c.index_mut-link.result.now _ c.links.invariant (ap (λ (l : Link). l.number) c.index_mut-link.ensures.value)
 
-pub returns-clause-posts : goal.returns-clause-posts
-returns-clause-posts c = rw (← c.links.view_is) (
-    one_post (without_first c.args.count) c.args.number c.links.inside.list.items c.in-Some.place c.index_mut-link.result.now _
+pub returns-clause-queues : goal.returns-clause-queues
+returns-clause-queues c = rw (← c.links.view_is) (
+    one_queue (without_first c.args.count) c.args.number c.links.inside.list.items c.in-Some.place c.index_mut-link.result.now _
     (ap (λ (v : Linked). place_of c.args.number v.items) c.links.view_is ∙ sym c.place_in.ensures.is ∙ c.in-Some.is)
     (ap (λ (l : Link). l.number) c.index_mut-link.ensures.value)
-    (c.sent.ensures.post ∙ ap (λ (l : Link). without_first c.args.count (post_in l.out)) c.index_mut-link.ensures.value))
+    (c.sent.ensures.queue ∙ ap (λ (l : Link). without_first c.args.count (queue_in l.out)) c.index_mut-link.ensures.value))
 
-pub returns-in_default-clause-posts : goal.returns-in_default-clause-posts
-returns-in_default-clause-posts c = none_post (without_first c.args.count) c.args.number c.args.links.now.items (sym c.place_in.ensures.is ∙ c.in_default.is)
+pub returns-in_default-clause-queues : goal.returns-in_default-clause-queues
+returns-in_default-clause-queues c = none_queue (without_first c.args.count) c.args.number c.args.links.now.items (sym c.place_in.ensures.is ∙ c.in_default.is)
 
 pub returns-clause-keeps : goal.returns-clause-keeps
 returns-clause-keeps c = rw (← c.links.view_is) (
-    others_post c.args.number c.links.inside.list.items c.in-Some.place c.index_mut-link.result.now _
+    others_queue c.args.number c.links.inside.list.items c.in-Some.place c.index_mut-link.result.now _
     (ap (λ (v : Linked). place_of c.args.number v.items) c.links.view_is ∙ sym c.place_in.ensures.is ∙ c.in-Some.is)
     (ap (λ (l : Link). l.number) c.index_mut-link.ensures.value))

@@ -1,9 +1,9 @@
 use Rattle.std.proofs.Common.{refl, None, Option, Some, ap, option_map, sym, ◌∙◌, ◌≡◌}
 use Rattle.tds_relay.specs.declared.link.Link.{Link}
 use Rattle.tds_relay.specs.Linking.{Linked}
-use Rattle.tds_relay.specs.Posts.{post_in}
+use Rattle.tds_relay.specs.Queues.{queue_in}
 use Rattle.tds_relay.specs.Cutting.{at_its_beginning}
-use Rattle.tds_relay.specs.Reads.{answer_on, bytes_on, link_at, place_of, seen_of}
+use Rattle.tds_relay.specs.Reads.{answer_on, bytes_on, fullness_of, link_at, place_of, seen_of}
 use Rattle.tds_relay.proofs.steps.Placed.{IsAt, is_at, is_nowhere}
 use Rattle.tds_relay.proofs.spared.Waits.{others_link, waits_same}
 use Rattle.tds_relay.proofs.steps.Staying.{fills_same, stays_restarted}
@@ -16,12 +16,13 @@ pub returns-clause-read : goal.returns-clause-read
 returns-clause-read c = rw (← c.links.view_is) (
     stays_restarted c.links.inside.list.items c.in-Some.place c.index_mut-link.result.now _
     (ap (λ (l : Link). l.number) c.index_mut-link.ensures.value) (ap seen_of c.index_mut-link.ensures.value)
-    (fills_same _ _ (ap bytes_on c.index_mut-link.ensures.value)) (c.restart.ensures ∙ ap (λ (l : Link). at_its_beginning l.answer) c.index_mut-link.ensures.value))
+    (fills_same _ _ (ap bytes_on c.index_mut-link.ensures.value)) (c.restart.ensures ∙ ap (λ (l : Link). at_its_beginning l.answer) c.index_mut-link.ensures.value)
+    (ap fullness_of c.index_mut-link.ensures.value))
 
 pub returns-clause-waits : goal.returns-clause-waits
 returns-clause-waits c = rw (← c.links.view_is) (
     waits_same c.links.inside.list.items c.in-Some.place c.index_mut-link.result.now _
-    (ap (λ (l : Link). l.number) c.index_mut-link.ensures.value) (ap (λ (l : Link). (post_in l.out).bytes) c.index_mut-link.ensures.value))
+    (ap (λ (l : Link). l.number) c.index_mut-link.ensures.value) (ap (λ (l : Link). (queue_in l.out).bytes) c.index_mut-link.ensures.value))
 
 pub returns-in_default-clause-begins : goal.returns-in_default-clause-begins
 returns-in_default-clause-begins c =
@@ -50,10 +51,10 @@ returns-clause-any c = rw (← c.links.view_is) (
     (ap (λ (v : Linked). place_of c.args.number v.items) c.links.view_is ∙ sym c.place_in.ensures.is ∙ c.in-Some.is) (ap (λ (l : Link). l.number) c.index_mut-link.ensures.value)
     (c.restart.ensures ∙ ap (λ (l : Link). at_its_beginning l.answer) c.index_mut-link.ensures.value))
 
-pub returns-clause-posts : goal.returns-clause-posts
-returns-clause-posts c = rw (← c.links.view_is) (
-    written_as (λ (l : Link). post_in l.out) c.links.inside.list.items c.in-Some.place c.index_mut-link.result.now _
-    (ap (λ (l : Link). l.number) c.index_mut-link.ensures.value) (ap (λ (l : Link). post_in l.out) c.index_mut-link.ensures.value))
+pub returns-clause-queues : goal.returns-clause-queues
+returns-clause-queues c = rw (← c.links.view_is) (
+    written_as (λ (l : Link). queue_in l.out) c.links.inside.list.items c.in-Some.place c.index_mut-link.result.now _
+    (ap (λ (l : Link). l.number) c.index_mut-link.ensures.value) (ap (λ (l : Link). queue_in l.out) c.index_mut-link.ensures.value))
 
 pub returns-in_default-clause-others : goal.returns-in_default-clause-others
 returns-in_default-clause-others c = λ other differs. refl

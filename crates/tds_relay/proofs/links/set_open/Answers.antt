@@ -1,7 +1,7 @@
 use Rattle.std.proofs.Common.{ap, refl, sym, true, ◌∙◌, length-set}
 use Rattle.tds_relay.specs.declared.link.Link.{Link}
 use Rattle.tds_relay.specs.Linking.{Linked}
-use Rattle.tds_relay.specs.Posts.{post_in}
+use Rattle.tds_relay.specs.Queues.{queue_in}
 use Rattle.tds_relay.specs.Reads.{place_of, Seen, with_open, answer_on}
 use Rattle.tds_relay.proofs.spared.Waits.{waits_same}
 use Rattle.tds_relay.proofs.steps.Placed.{opened_nowhere, opened_written, is_nowhere}
@@ -23,7 +23,7 @@ returns-clause-opens c = rw (← c.links.view_is) (
 pub returns-clause-waits : goal.returns-clause-waits
 returns-clause-waits c = rw (← c.links.view_is) (
     waits_same c.links.inside.list.items c.in-Some.place c.index_mut-link.result.now _
-    (ap (λ (l : Link). l.number) c.index_mut-link.ensures.value) (ap (λ (l : Link). (post_in l.out).bytes) c.index_mut-link.ensures.value))
+    (ap (λ (l : Link). l.number) c.index_mut-link.ensures.value) (ap (λ (l : Link). (queue_in l.out).bytes) c.index_mut-link.ensures.value))
 
 pub returns-in_default-clause-seen : goal.returns-in_default-clause-seen
 returns-in_default-clause-seen c =
@@ -48,7 +48,7 @@ returns-clause-answers c = rw (← c.links.view_is) (
     written_as answer_on c.links.inside.list.items c.in-Some.place c.index_mut-link.result.now _
     (ap (λ (l : Link). l.number) c.index_mut-link.ensures.value) (ap (λ (l : Link). l.answer) c.index_mut-link.ensures.value))
 
-pub returns-clause-posts : goal.returns-clause-posts
-returns-clause-posts c = rw (← c.links.view_is) (
-    written_as (λ (l : Link). post_in l.out) c.links.inside.list.items c.in-Some.place c.index_mut-link.result.now _
-    (ap (λ (l : Link). l.number) c.index_mut-link.ensures.value) (ap (λ (l : Link). post_in l.out) c.index_mut-link.ensures.value))
+pub returns-clause-queues : goal.returns-clause-queues
+returns-clause-queues c = rw (← c.links.view_is) (
+    written_as (λ (l : Link). queue_in l.out) c.links.inside.list.items c.in-Some.place c.index_mut-link.result.now _
+    (ap (λ (l : Link). l.number) c.index_mut-link.ensures.value) (ap (λ (l : Link). queue_in l.out) c.index_mut-link.ensures.value))

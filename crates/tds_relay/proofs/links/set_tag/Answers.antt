@@ -1,7 +1,7 @@
 use Rattle.std.proofs.Common.{Some, ap, sym, ◌∙◌}
 use Rattle.tds_relay.specs.declared.link.Link.{Link}
 use Rattle.tds_relay.specs.Linking.{Linked}
-use Rattle.tds_relay.specs.Posts.{post_in}
+use Rattle.tds_relay.specs.Queues.{queue_in}
 use Rattle.tds_relay.specs.Reads.{Seen, with_tag, place_of, answer_on}
 use Rattle.tds_relay.proofs.spared.Waits.{waits_same}
 use Rattle.tds_relay.proofs.steps.Placed.{is_nowhere}
@@ -24,7 +24,7 @@ returns-clause-named c = rw (← c.links.view_is) (
 pub returns-clause-waits : goal.returns-clause-waits
 returns-clause-waits c = rw (← c.links.view_is) (
     waits_same c.links.inside.list.items c.in-Some.place c.index_mut-link.result.now _
-    (ap (λ (l : Link). l.number) c.index_mut-link.ensures.value) (ap (λ (l : Link). (post_in l.out).bytes) c.index_mut-link.ensures.value))
+    (ap (λ (l : Link). l.number) c.index_mut-link.ensures.value) (ap (λ (l : Link). (queue_in l.out).bytes) c.index_mut-link.ensures.value))
 
 pub invariant_of-links : goal.invariant_of-links
 invariant_of-links c =

@@ -9,7 +9,7 @@ use Rattle.tds_service.proofs.hearing.hear_tokens.Given as goal
 abbrev pub invariant-tokens : goal.invariant-tokens
 invariant-tokens l = record {
   some : (cancelling : Bool) × (tokens : List Token)
-      × HeardSome cancelling (line_in l.fn.connection) l.fn.connection.walker l.bytes (line_in l.connection) l.connection.walker (drop l.done l.bytes) [] tokens
+      × HeardSome cancelling (line_in l.fn.connection) l.fn.connection.parser l.bytes (line_in l.connection) l.connection.parser (drop l.done l.bytes) [] tokens
       × (l.told.items ≡ l.fn.told.items ++ noted l.tells tokens);
   within : l.done ≤ length l.bytes;
   room : l.tells ≡ true → (line_in l.fn.connection).stage ≡ line.Reading → vec_len l.told + (length l.bytes - l.done) ≤ vec_capacity l.told;

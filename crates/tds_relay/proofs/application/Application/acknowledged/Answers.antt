@@ -1,6 +1,6 @@
 use Rattle.std.proofs.Common.{◌≡◌, ◌∙◌, None, ap, false, if◌then◌else◌, rules}
 use Rattle.tds_front.specs.declared.front.Front.{Front}
-use Rattle.tds_relay.specs.Hall.{End, Open, Over}
+use Rattle.tds_relay.specs.Core.{End, Open, Over}
 use Rattle.tds_relay.proofs.steps.Fed.{acked_if}
 use Rattle.tds_relay.proofs.application.Application.acknowledged.Goals as goal
 

@@ -7,8 +7,8 @@ decreases-tokens l = length l.rest
 
 abbrev pub invariant-tokens : goal.invariant-tokens
 invariant-tokens l = record {
-  kept : l.kept.items ++ (left_of l.self.known l.self.walker l.rest).bytes ≡ l.fn.kept.items ++ (left_of l.fn.self.known l.fn.self.walker l.fn.bytes).bytes;
-  known : (left_of l.self.known l.self.walker l.rest).known ≡ (left_of l.fn.self.known l.fn.self.walker l.fn.bytes).known;
-  stands : (left_of l.self.known l.self.walker l.rest).stands ≡ (left_of l.fn.self.known l.fn.self.walker l.fn.bytes).stands;
+  kept : l.kept.items ++ (left_of l.self.known l.self.parser l.rest).bytes ≡ l.fn.kept.items ++ (left_of l.fn.self.known l.fn.self.parser l.fn.bytes).bytes;
+  known : (left_of l.self.known l.self.parser l.rest).known ≡ (left_of l.fn.self.known l.fn.self.parser l.fn.bytes).known;
+  stands : (left_of l.self.known l.self.parser l.rest).stands ≡ (left_of l.fn.self.known l.fn.self.parser l.fn.bytes).stands;
   size : l.self.size ≡ l.fn.self.size;
 }

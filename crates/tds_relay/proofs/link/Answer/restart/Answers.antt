@@ -4,4 +4,4 @@ use Rattle.tds_relay.specs.declared.news.Known.TheVariants as knowns
 use Rattle.tds_relay.proofs.link.Answer.restart.Goals as goal
 
 pub returns : goal.returns
-returns c = ap (λ (r : Reading). record c.args.self.now { walker = r; known = knowns.None }) c.restart.ensures.state
+returns c = ap (λ (r : Reading). record c.args.self.now { parser = r; known = knowns.None }) c.restart.ensures.state

@@ -1,7 +1,7 @@
-use Rattle.tds_relay.specs.declared.desk.coming.What.TheVariants as whats
-use Rattle.tds_relay.specs.Hall.{told}
+use Rattle.tds_relay.specs.declared.pool.coming.What.TheVariants as whats
+use Rattle.tds_relay.specs.Core.{told}
 use Rattle.tds_relay.proofs.steps.Fronts.{ends_moved}
-use Rattle.tds_relay.proofs.steps.Posting.{posts_kept}
+use Rattle.tds_relay.proofs.steps.Queueing.{queues_kept}
 use Rattle.std.proofs.Common.{refl}
 use Rattle.tds_relay.specs.Closings.{Nobody}
 use Rattle.tds_relay.proofs.spared.Sending.{kept_refl}
@@ -11,7 +11,7 @@ use Rattle.tds_relay.proofs.steps.Doing.{done_kept}
 use Rattle.tds_relay.proofs.relay.Relay.acknowledged.Goals as goal
 
 pub returns-in-Some-clause-kept : goal.returns-in-Some-clause-kept
-returns-in-Some-clause-kept c = posts_kept c.args.self.now.applications c.args.key c.in-Some.application.now c.acknowledged.new.self c.in-Some.ensures.value c.acknowledged.ensures.post
+returns-in-Some-clause-kept c = queues_kept c.args.self.now.applications c.args.key c.in-Some.application.now c.acknowledged.new.self c.in-Some.ensures.value c.acknowledged.ensures.queue
 
 pub returns-in-Some-clause-ends : goal.returns-in-Some-clause-ends
 returns-in-Some-clause-ends c = ends_moved c.args.self.now.applications c.args.key c.in-Some.application.now c.acknowledged.new.self (told whats.Acknowledged) c.in-Some.ensures.value c.acknowledged.ensures.end
@@ -21,7 +21,7 @@ returns-in-Some-clause-closes c =
     let s = c.args.self.now.applications in
     let a = c.in-Some.application.now in
     closes_moved Nobody c.args.key (told whats.Acknowledged) _ _ keeps_acknowledged (ends_moved s c.args.key a c.acknowledged.new.self (told whats.Acknowledged) c.in-Some.ensures.value c.acknowledged.ensures.end)
-    (posts_kept s c.args.key a c.acknowledged.new.self c.in-Some.ensures.value c.acknowledged.ensures.post) refl (kept_refl c.args.self.now.links.items) (unclosed _ _ refl)
+    (queues_kept s c.args.key a c.acknowledged.new.self c.in-Some.ensures.value c.acknowledged.ensures.queue) refl (kept_refl c.args.self.now.links.items) (unclosed _ _ refl)
 
 pub returns-in-Some-clause-resumes : goal.returns-in-Some-clause-resumes
 returns-in-Some-clause-resumes c = λ resumes. (c.args.key, refl, taken_or_deaf c.args.self.now.applications c.args.key c.in-Some.application.now c.in-Some.ensures.value (c.acknowledged.ensures.resumes resumes))

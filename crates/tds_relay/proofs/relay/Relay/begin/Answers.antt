@@ -1,21 +1,21 @@
-use Rattle.std.proofs.Common.{◌≡◌, Option, Some, None, ap, false, inl, refl, rules, subst, sym, ◌⊎◌, inr, []}
+use Rattle.std.proofs.Common.{◌≡◌, Option, Some, None, ap, false, inl, refl, rules, subst, sym, ◌⊎◌, inr, [], ℕ, ◌∙◌}
 use Rattle.tds_packet.specs.declared.status.Reset.{Reset}
 use Rattle.tds_packet.specs.declared.status.Reset.TheVariants.{Full, KeepTransaction}
-use Rattle.tds_relay.specs.Fronts.{ends_in, hall_of_ends}
-use Rattle.tds_relay.specs.Hall.{AsksFor, AsksToPart, Ends, IfAsked, IsReset, change_end, closes, end_at, IfOpen, IsBegun}
-use Rattle.tds_relay.specs.Ties.{Application, desk_in}
+use Rattle.tds_relay.specs.Fronts.{ends_in, core_of_ends}
+use Rattle.tds_relay.specs.Core.{AsksFor, AsksToPart, Ends, IfAsked, IsReset, change_end, closes, end_at, IfOpen, IsBegun}
+use Rattle.tds_relay.specs.Ties.{Application, pool_in}
 use Rattle.tds_relay.proofs.steps.Fronts.{ends_kept, moves_closes, moves_same, none_reset}
 use Rattle.tds_relay.proofs.steps.Reaching.{ok_if, ok_more}
 use Rattle.tds_relay.proofs.steps.Staying.{stays_refl, stays_same}
-use Rattle.tds_relay.specs.Bodies.{Closed, Refuses, Stays, body_of, going_of, Kept}
+use Rattle.tds_relay.specs.Bodies.{Closed, Refuses, Stays, body_of, going_of, Kept, body_in, standing_in}
 use Rattle.slab.specs.Slab.{get, with_value}
-use Rattle.tds_relay.proofs.steps.Bodied.{none_closed, same_starts, shut_starts}
+use Rattle.tds_relay.proofs.steps.Bodied.{none_closed, same_starts, shut_starts, shut}
 use Rattle.tds_relay.proofs.steps.Going.{begun}
 use Rattle.tds_relay.proofs.steps.Underway.{waits_written, written_there}
-use Rattle.tds_relay.proofs.steps.Posting.{posts_kept}
+use Rattle.tds_relay.proofs.steps.Queueing.{queues_kept}
 use Rattle.std.specs.Prelude.{IsSome}
 use Rattle.tds_relay.specs.Closings.{IsNoRequest}
-use Rattle.tds_relay.specs.Desk.{find_key}
+use Rattle.tds_relay.specs.Pool.{find_key}
 use Rattle.tds_relay.specs.Reasons.{CannotBegin, CannotPart, ItselfFor, CannotAsk, HasTransaction, IsReadyThere, IsUnrenewed}
 use Rattle.tds_relay.proofs.spared.Reasons.{for_reason, for_that, no_request, begun_asks}
 use Rattle.tds_relay.proofs.spared.Closings.{closes_both, closes_nobody, closes_on}
@@ -27,6 +27,10 @@ use Rattle.tds_relay.specs.Asking.{IsTakenBack}
 use Rattle.tds_relay.specs.Places.{HasNoTransaction}
 use Rattle.tds_relay.proofs.spared.Turned.{as_refl, begun_kept, held_asks, renewed_as}
 use Rattle.tds_relay.proofs.spared.Elsewhere.{aside_own, aside_refl, aside_waits, keeps_own, keeps_waited}
+use Rattle.tds_relay.specs.Reads.{waits_on}
+use Rattle.tds_relay.proofs.steps.Still.{none_shut, put_refl, put_same, put_shut}
+use Rattle.tds_relay.proofs.spared.Rightly.{deaf_right_on, held_right_on, unkept_right, waits_right_on}
+use Rattle.tds_relay.proofs.spared.Starting.{unkept_none}
 use Rattle.tds_relay.proofs.relay.Relay.begin.Goals as goal
 
 pub returns-in-false-default-clause-goes : goal.returns-in-false-default-clause-goes
@@ -44,8 +48,8 @@ returns-in-true-None-clause-moves c =
     let kept = ends_kept c.args.self.now.applications c.args.key c.in-Some.application.now c.forget.new.self c.in-Some.ensures.value c.forget.ensures.end in
     let none : c.args.reset ≡ None = search rules in
     ok_more c.start.result _ _
-    (λ m asks begun from h. m (subst (λ (es : Ends). IsReset (desk_in c.args.self.now.desk) c.args.key (end_at es c.args.key)) (sym kept)
-    (none_reset (desk_in c.args.self.now.desk) c.args.key _ (subst (λ (r : Option Reset). IfAsked r (end_at (ends_in c.args.self.now.applications) c.args.key)) none asks)))
+    (λ m asks begun from h. m (subst (λ (es : Ends). IsReset (pool_in c.args.self.now.pool) c.args.key (end_at es c.args.key)) (sym kept)
+    (none_reset (pool_in c.args.self.now.pool) c.args.key _ (subst (λ (r : Option Reset). IfAsked r (end_at (ends_in c.args.self.now.applications) c.args.key)) none asks)))
     (λ hold its. subst (λ (es : Ends). IfOpen IsBegun (end_at es c.args.key)) (sym kept) begun)
     (Application c.args.key) from (moves_same (Application c.args.key) from _ _ _ _ refl kept h))
     c.start.ensures.moves
@@ -55,7 +59,7 @@ returns-in-true-Some-Full-clause-moves c =
     let kept = ends_kept c.args.self.now.applications c.args.key c.in-Some.application.now c.forget.new.self c.in-Some.ensures.value c.forget.ensures.end in
     let full : c.args.reset ≡ Some Full = search rules in
     ok_more c.change.result _ _
-    (λ m asks begun from h. m (subst (λ (es : Ends). AsksToPart (hall_of_ends (desk_in c.args.self.now.desk) es) c.args.key) (sym kept) (inl (subst (λ (r : Option Reset). IfAsked r (end_at (ends_in c.args.self.now.applications) c.args.key)) full asks))) (subst (λ (es : Ends). IfOpen IsBegun (end_at es c.args.key)) (sym kept) begun) from (moves_same (Application c.args.key) from _ _ _ _ refl kept h))
+    (λ m asks begun from h. m (subst (λ (es : Ends). AsksToPart (core_of_ends (pool_in c.args.self.now.pool) es) c.args.key) (sym kept) (inl (subst (λ (r : Option Reset). IfAsked r (end_at (ends_in c.args.self.now.applications) c.args.key)) full asks))) (subst (λ (es : Ends). IfOpen IsBegun (end_at es c.args.key)) (sym kept) begun) from (moves_same (Application c.args.key) from _ _ _ _ refl kept h))
     c.change.ensures.moves
 
 pub returns-else-may_keep_later-clause-moves : goal.returns-else-may_keep_later-clause-moves
@@ -106,48 +110,48 @@ returns-in-false-default-clause-body c = ok_if c.wait.result _ (_, begun (get (w
 pub returns-in_default-message_kind-clause-closes : goal.returns-in_default-message_kind-clause-closes
 returns-in_default-message_kind-clause-closes c =
     let none : IsNoRequest c.args.kind = search rules in
-    closes_on c.expel.result (ItselfFor c.args.key (CannotBegin c.args.kind c.args.reset c.args.key (end_at (ends_in c.args.self.now.applications) c.args.key) c.args.self.now.desk c.args.self.now.links.items)) _ _ _ (for_reason c.expel.result c.args.key _ _ _ (no_request c.args.kind c.args.reset c.args.key _ c.args.self.now.desk c.args.self.now.links.items none) c.expel.ensures.closes)
-    (closes_kept _ _ _ (ends_kept c.args.self.now.applications c.args.key c.in-Some.application.now c.in-Some.application.now c.in-Some.ensures.value refl) (posts_kept c.args.self.now.applications c.args.key c.in-Some.application.now c.in-Some.application.now c.in-Some.ensures.value refl) refl (kept_refl c.args.self.now.links.items) (unclosed _ _ refl))
+    closes_on c.expel.result (ItselfFor c.args.key (CannotBegin c.args.kind c.args.reset c.args.key (end_at (ends_in c.args.self.now.applications) c.args.key) c.args.self.now.pool c.args.self.now.links.items)) _ _ _ (for_reason c.expel.result c.args.key _ _ _ (no_request c.args.kind c.args.reset c.args.key _ c.args.self.now.pool c.args.self.now.links.items none) c.expel.ensures.closes)
+    (closes_kept _ _ _ (ends_kept c.args.self.now.applications c.args.key c.in-Some.application.now c.in-Some.application.now c.in-Some.ensures.value refl) (queues_kept c.args.self.now.applications c.args.key c.in-Some.application.now c.in-Some.application.now c.in-Some.ensures.value refl) refl (kept_refl c.args.self.now.links.items) (unclosed _ _ refl))
 
 pub returns-in-false-default-clause-closes : goal.returns-in-false-default-clause-closes
-returns-in-false-default-clause-closes c = ok_if c.wait.result _ (closes_both (ItselfFor c.args.key (CannotBegin c.args.kind c.args.reset c.args.key (end_at (ends_in c.args.self.now.applications) c.args.key) c.args.self.now.desk c.args.self.now.links.items)) _ _ _
-    (closes_kept _ _ _ (ends_kept c.args.self.now.applications c.args.key c.in-Some.application.now c.forget.new.self c.in-Some.ensures.value c.forget.ensures.end) (posts_kept c.args.self.now.applications c.args.key c.in-Some.application.now c.forget.new.self c.in-Some.ensures.value c.forget.ensures.post) refl (kept_refl c.args.self.now.links.items) (unclosed _ _ refl)) (closes_nobody _ _ _ c.wait.ensures.closes))
+returns-in-false-default-clause-closes c = ok_if c.wait.result _ (closes_both (ItselfFor c.args.key (CannotBegin c.args.kind c.args.reset c.args.key (end_at (ends_in c.args.self.now.applications) c.args.key) c.args.self.now.pool c.args.self.now.links.items)) _ _ _
+    (closes_kept _ _ _ (ends_kept c.args.self.now.applications c.args.key c.in-Some.application.now c.forget.new.self c.in-Some.ensures.value c.forget.ensures.end) (queues_kept c.args.self.now.applications c.args.key c.in-Some.application.now c.forget.new.self c.in-Some.ensures.value c.forget.ensures.queue) refl (kept_refl c.args.self.now.links.items) (unclosed _ _ refl)) (closes_nobody _ _ _ c.wait.ensures.closes))
 
 pub returns-then-may_keep_later-clause-closes : goal.returns-then-may_keep_later-clause-closes
-returns-then-may_keep_later-clause-closes c = (closes_kept _ _ _ (ends_kept c.args.self.now.applications c.args.key c.in-Some.application.now c.forget.new.self c.in-Some.ensures.value c.forget.ensures.end) (posts_kept c.args.self.now.applications c.args.key c.in-Some.application.now c.forget.new.self c.in-Some.ensures.value c.forget.ensures.post) refl (kept_refl c.args.self.now.links.items) (unclosed _ _ refl))
+returns-then-may_keep_later-clause-closes c = (closes_kept _ _ _ (ends_kept c.args.self.now.applications c.args.key c.in-Some.application.now c.forget.new.self c.in-Some.ensures.value c.forget.ensures.end) (queues_kept c.args.self.now.applications c.args.key c.in-Some.application.now c.forget.new.self c.in-Some.ensures.value c.forget.ensures.queue) refl (kept_refl c.args.self.now.links.items) (unclosed _ _ refl))
 
 pub returns-else-may_keep_later-clause-closes : goal.returns-else-may_keep_later-clause-closes
 returns-else-may_keep_later-clause-closes c =
     let keeps : c.args.reset ≡ Some KeepTransaction = search rules in
-    let held : IsSome (find_key c.args.key (desk_in c.args.self.now.desk).holds) = search rules in
+    let held : IsSome (find_key c.args.key (pool_in c.args.self.now.pool).holds) = search rules in
     let r = c.args.self.now in
     let key = c.args.key in
     let s = r.applications in
     let a = c.in-Some.application.now in
     let b = c.forget.new.self in
-    let d = r.desk in
+    let d = r.pool in
     let same = ends_kept s key a b c.in-Some.ensures.value c.forget.ensures.end in
     closes_on c.renew.result (ItselfFor key (CannotBegin c.args.kind c.args.reset key (end_at (ends_in s) key) d r.links.items)) _ _ _
     (for_that c.renew.result key _ _ _ _
     (λ why. subst (λ (o : Option Reset). CannotBegin c.args.kind o key (end_at (ends_in s) key) d r.links.items) (sym keeps)
     (inr (
       held,
-      subst (λ (es : Ends). IsTakenBack (end_at es key) → HasNoTransaction (desk_in d) key) same (c.may_keep_later.ensures.not (search rules)),
+      subst (λ (es : Ends). IsTakenBack (end_at es key) → HasNoTransaction (pool_in d) key) same (c.may_keep_later.ensures.not (search rules)),
       c.in-Some-message_kind.kind,
       search rules,
-      subst (λ (es : Ends). IsUnrenewed (HasTransaction (desk_in d) key ⊎ CannotPart key (end_at es key) d) key (end_at es key) d r.links.items (Kept c.in-Some-message_kind.kind [] false)) same
+      subst (λ (es : Ends). IsUnrenewed (HasTransaction (pool_in d) key ⊎ CannotPart key (end_at es key) d) key (end_at es key) d r.links.items (Kept c.in-Some-message_kind.kind [] false)) same
           (renewed_as _ key _ d r.links.items r.links.items _ (Kept c.in-Some-message_kind.kind [] false) (as_refl r.links.items)
           (begun_kept (get (with_value s key b) key) b c.in-Some-message_kind.kind _ (written_there s key a b c.in-Some.ensures.value) c.forget.ensures.asking c.forget.ensures.body.1) why),
     ))) c.renew.ensures.closes)
-    (closes_kept _ _ _ same (posts_kept s key a b c.in-Some.ensures.value c.forget.ensures.post) refl (kept_refl r.links.items) (unclosed _ _ refl))
+    (closes_kept _ _ _ same (queues_kept s key a b c.in-Some.ensures.value c.forget.ensures.queue) refl (kept_refl r.links.items) (unclosed _ _ refl))
 
 pub returns-in-true-Some-Full-clause-closes : goal.returns-in-true-Some-Full-clause-closes
 returns-in-true-Some-Full-clause-closes c =
     let full : c.args.reset ≡ Some Full = search rules in
     let same = ends_kept c.args.self.now.applications c.args.key c.in-Some.application.now c.forget.new.self c.in-Some.ensures.value c.forget.ensures.end in
-    closes_on c.change.result (ItselfFor c.args.key (CannotBegin c.args.kind c.args.reset c.args.key (end_at (ends_in c.args.self.now.applications) c.args.key) c.args.self.now.desk c.args.self.now.links.items)) _ _ _
-    (for_that c.change.result c.args.key _ _ _ _ (λ why. subst (λ (r : Option Reset). CannotBegin c.args.kind r c.args.key (end_at (ends_in c.args.self.now.applications) c.args.key) c.args.self.now.desk c.args.self.now.links.items) (sym full) (inr (subst (λ (es : Ends). CannotPart c.args.key (end_at es c.args.key) c.args.self.now.desk) same why))) c.change.ensures.closes)
-    (closes_kept _ _ _ (ends_kept c.args.self.now.applications c.args.key c.in-Some.application.now c.forget.new.self c.in-Some.ensures.value c.forget.ensures.end) (posts_kept c.args.self.now.applications c.args.key c.in-Some.application.now c.forget.new.self c.in-Some.ensures.value c.forget.ensures.post) refl (kept_refl c.args.self.now.links.items) (unclosed _ _ refl))
+    closes_on c.change.result (ItselfFor c.args.key (CannotBegin c.args.kind c.args.reset c.args.key (end_at (ends_in c.args.self.now.applications) c.args.key) c.args.self.now.pool c.args.self.now.links.items)) _ _ _
+    (for_that c.change.result c.args.key _ _ _ _ (λ why. subst (λ (r : Option Reset). CannotBegin c.args.kind r c.args.key (end_at (ends_in c.args.self.now.applications) c.args.key) c.args.self.now.pool c.args.self.now.links.items) (sym full) (inr (subst (λ (es : Ends). CannotPart c.args.key (end_at es c.args.key) c.args.self.now.pool) same why))) c.change.ensures.closes)
+    (closes_kept _ _ _ (ends_kept c.args.self.now.applications c.args.key c.in-Some.application.now c.forget.new.self c.in-Some.ensures.value c.forget.ensures.end) (queues_kept c.args.self.now.applications c.args.key c.in-Some.application.now c.forget.new.self c.in-Some.ensures.value c.forget.ensures.queue) refl (kept_refl c.args.self.now.links.items) (unclosed _ _ refl))
 
 pub returns-in_default-clause-others : goal.returns-in_default-clause-others
 returns-in_default-clause-others c = λ reached. others_refl c.args.key c.args.self.now
@@ -177,20 +181,20 @@ returns-in-true-None-clause-closes c =
     let a = c.in-Some.application.now in
     let b = c.forget.new.self in
     let same = ends_kept s c.args.key a b c.in-Some.ensures.value c.forget.ensures.end in
-    closes_on c.start.result (ItselfFor c.args.key (CannotBegin c.args.kind c.args.reset c.args.key (end_at (ends_in c.args.self.now.applications) c.args.key) c.args.self.now.desk c.args.self.now.links.items)) _ _ _
+    closes_on c.start.result (ItselfFor c.args.key (CannotBegin c.args.kind c.args.reset c.args.key (end_at (ends_in c.args.self.now.applications) c.args.key) c.args.self.now.pool c.args.self.now.links.items)) _ _ _
     (for_that c.start.result c.args.key _ _ _ _
-    (λ why. subst (λ (r : Option Reset). CannotBegin c.args.kind r c.args.key (end_at (ends_in c.args.self.now.applications) c.args.key) c.args.self.now.desk c.args.self.now.links.items) (sym none)
+    (λ why. subst (λ (r : Option Reset). CannotBegin c.args.kind r c.args.key (end_at (ends_in c.args.self.now.applications) c.args.key) c.args.self.now.pool c.args.self.now.links.items) (sym none)
     (let m = c.in-Some-message_kind.kind in
     let key = c.args.key in
-    let d = c.args.self.now.desk in
+    let d = c.args.self.now.pool in
     let links = c.args.self.now.links.items in
     let end = end_at (ends_in (with_value s key b)) key in
-    let held : IsSome (find_key key (desk_in d).holds) = search rules in
+    let held : IsSome (find_key key (pool_in d).holds) = search rules in
     let asked : IsReadyThere key (end_at (ends_in s) key) d links × CannotAsk m [] false key (end_at (ends_in s) key) d links =
     subst (λ (es : Ends). IsReadyThere key (end_at es key) d links × CannotAsk m [] false key (end_at es key) d links) same
     (begun_asks key end d links (get (with_value s key b) key) _ b m (written_there s key a b c.in-Some.ensures.value) c.forget.ensures.asking c.forget.ensures.body.1 (held_asks key d _ held why)) in
     inr (asked.0, c.in-Some-message_kind.kind, search rules, asked.1))) c.start.ensures.closes)
-    (closes_kept _ _ _ same (posts_kept s c.args.key a b c.in-Some.ensures.value c.forget.ensures.post) refl (kept_refl c.args.self.now.links.items) (unclosed _ _ refl))
+    (closes_kept _ _ _ same (queues_kept s c.args.key a b c.in-Some.ensures.value c.forget.ensures.queue) refl (kept_refl c.args.self.now.links.items) (unclosed _ _ refl))
 
 pub returns-then-may_keep_later-clause-underway : goal.returns-then-may_keep_later-clause-underway
 returns-then-may_keep_later-clause-underway c = c.may_keep_later.ensures.later (search rules)
@@ -202,10 +206,10 @@ pub returns-in_default-message_kind-clause-aside : goal.returns-in_default-messa
 returns-in_default-message_kind-clause-aside c = λ reached. c.expel.ensures.aside reached
 
 pub returns-in-false-default-clause-aside : goal.returns-in-false-default-clause-aside
-returns-in-false-default-clause-aside c = λ reached. keeps_waited c.wait.result c.args.key c.args.self.now.desk.holds.items c.wait.new.self.desk.holds.items c.args.self.now.links.items c.wait.new.self.links.items c.wait.ensures.holds c.wait.ensures.links
+returns-in-false-default-clause-aside c = λ reached. keeps_waited c.wait.result c.args.key c.args.self.now.pool.holds.items c.wait.new.self.pool.holds.items c.args.self.now.links.items c.wait.new.self.links.items c.wait.ensures.holds c.wait.ensures.links
 
 pub returns-in-true-None-clause-aside : goal.returns-in-true-None-clause-aside
-returns-in-true-None-clause-aside c = λ reached. keeps_own c.start.result c.args.key c.args.self.now.desk.holds.items c.start.new.self.desk.holds.items c.args.self.now.links.items c.start.new.self.links.items (c.start.ensures.own reached)
+returns-in-true-None-clause-aside c = λ reached. keeps_own c.start.result c.args.key c.args.self.now.pool.holds.items c.start.new.self.pool.holds.items c.args.self.now.links.items c.start.new.self.links.items (c.start.ensures.own reached)
 
 pub returns-then-may_keep_later-clause-aside : goal.returns-then-may_keep_later-clause-aside
 returns-then-may_keep_later-clause-aside c = λ reached. aside_refl c.args.key c.args.self.now
@@ -215,3 +219,49 @@ returns-else-may_keep_later-clause-aside c = λ reached. c.renew.ensures.aside r
 
 pub returns-in-true-Some-Full-clause-aside : goal.returns-in-true-Some-Full-clause-aside
 returns-in-true-Some-Full-clause-aside c = λ reached. c.change.ensures.aside reached
+
+pub returns-in_default-clause-puts : goal.returns-in_default-clause-puts
+returns-in_default-clause-puts c = λ none. (Closed, Refuses, put_shut _ Closed (standing_in c.args.key c.args.self.now) (none_shut c.args.self.now.applications c.args.key (going_of c.args.key c.args.self.now) (search rules)))
+
+pub returns-in_default-message_kind-clause-puts : goal.returns-in_default-message_kind-clause-puts
+returns-in_default-message_kind-clause-puts c = ok_more c.expel.result _ _ (λ d none. (Closed, Refuses, put_shut _ Closed (standing_in c.args.key c.expel.new.self) (shut c.expel.new.self.applications c.args.key (going_of c.args.key c.expel.new.self) d))) c.expel.ensures.over
+
+pub returns-in-true-None-clause-puts : goal.returns-in-true-None-clause-puts
+returns-in-true-None-clause-puts c = ok_more c.start.result _ _ (λ s none. (_, begun (get (with_value c.args.self.now.applications c.args.key c.forget.new.self) c.args.key) _ c.forget.new.self c.args.kind c.in-Some-message_kind.kind (written_there c.args.self.now.applications c.args.key c.in-Some.application.now c.forget.new.self c.in-Some.ensures.value) c.forget.ensures.asking c.forget.ensures.body.1 (search rules), s)) c.start.ensures.puts
+
+pub returns-then-may_keep_later-clause-puts : goal.returns-then-may_keep_later-clause-puts
+returns-then-may_keep_later-clause-puts c = λ none. (_, begun (get (with_value c.args.self.now.applications c.args.key c.forget.new.self) c.args.key) _ c.forget.new.self c.args.kind c.in-Some-message_kind.kind (written_there c.args.self.now.applications c.args.key c.in-Some.application.now c.forget.new.self c.in-Some.ensures.value) c.forget.ensures.asking c.forget.ensures.body.1 (search rules), put_refl (body_in (get (with_value c.args.self.now.applications c.args.key c.forget.new.self) c.args.key) (going_of c.args.key c.args.self.now), λ (number : ℕ). waits_on number c.args.self.now.links.items))
+
+pub returns-else-may_keep_later-clause-puts : goal.returns-else-may_keep_later-clause-puts
+returns-else-may_keep_later-clause-puts c =
+    let keeps : c.args.reset ≡ Some KeepTransaction = search rules in
+    ok_if c.renew.result _ (λ none. absurd (let u : Some KeepTransaction ≡ None = sym keeps ∙ none in let v : ⊥ = cc in v))
+
+pub returns-in-true-Some-Full-clause-puts : goal.returns-in-true-Some-Full-clause-puts
+returns-in-true-Some-Full-clause-puts c =
+    let full : c.args.reset ≡ Some Full = search rules in
+    ok_if c.change.result _ (λ none. absurd (let u : Some Full ≡ None = sym full ∙ none in let v : ⊥ = cc in v))
+
+pub returns-in-false-default-clause-puts : goal.returns-in-false-default-clause-puts
+returns-in-false-default-clause-puts c =
+    ok_if c.wait.result _ (λ none. (
+      _,
+      begun (get (with_value c.args.self.now.applications c.args.key c.forget.new.self) c.args.key) _ c.forget.new.self c.args.kind c.in-Some-message_kind.kind (written_there c.args.self.now.applications c.args.key c.in-Some.application.now c.forget.new.self c.in-Some.ensures.value) c.forget.ensures.asking c.forget.ensures.body.1 (search rules),
+      put_same (body_in (get (with_value c.args.self.now.applications c.args.key c.forget.new.self) c.args.key) (going_of c.args.key c.args.self.now), λ (number : ℕ). waits_on number c.args.self.now.links.items) (standing_in c.args.key c.wait.new.self)
+          (c.wait.ensures.body c.args.key) (λ number. ap (waits_on number) c.wait.ensures.links),
+    ))
+
+pub returns-in_default-clause-right : goal.returns-in_default-clause-right
+returns-in_default-clause-right c = unkept_right c.args.key c.args.self.now (unkept_none c.args.self.now.applications c.args.key (going_of c.args.key c.args.self.now) (search rules))
+
+pub returns-in_default-message_kind-clause-right : goal.returns-in_default-message_kind-clause-right
+returns-in_default-message_kind-clause-right c = deaf_right_on c.expel.result c.args.key c.expel.new.self c.expel.ensures.over
+
+pub returns-in-false-default-clause-right : goal.returns-in-false-default-clause-right
+returns-in-false-default-clause-right c = waits_right_on c.wait.result c.args.key c.args.self.now c.wait.new.self c.wait.ensures.holds (search rules)
+
+pub returns-in-true-None-clause-right : goal.returns-in-true-None-clause-right
+returns-in-true-None-clause-right c = held_right_on c.start.result c.args.key c.start.new.self c.start.ensures.placed
+
+pub returns-then-may_keep_later-clause-right : goal.returns-then-may_keep_later-clause-right
+returns-then-may_keep_later-clause-right c = c.may_keep_later.ensures.right (search rules)

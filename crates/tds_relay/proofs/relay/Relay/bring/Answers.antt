@@ -1,13 +1,13 @@
 use Rattle.std.proofs.Common.{◌≡◌, ◌∙◌, ap, refl, rules, sym, true, inl, inr, false, arith, ◌≤◌, subst}
-use Rattle.tds_relay.specs.Fronts.{ends_in, hall_in, hall_of_ends, house_in}
-use Rattle.tds_relay.specs.Ties.{Neither, desk_in, IsReached}
+use Rattle.tds_relay.specs.Fronts.{ends_in, core_in, core_of_ends, machine_in}
+use Rattle.tds_relay.specs.Ties.{Neither, pool_in, IsReached}
 use Rattle.tds_relay.proofs.steps.Fronts.{moves_does}
 use Rattle.tds_relay.proofs.steps.Reaching.{reaches_turn, reached_on}
 use Rattle.tds_relay.proofs.steps.Stepping.{no_steps, steps_moved}
 use Rattle.tds_relay.proofs.steps.Placed.{first_opens, none_there}
 use Rattle.tds_relay.proofs.spared.Resting.{go_both, none_go, go_refl}
 use Rattle.tds_relay.proofs.steps.Renaming.{first_called}
-use Rattle.tds_relay.specs.Posts.{names_of}
+use Rattle.tds_relay.specs.Queues.{names_of}
 use Rattle.tds_relay.proofs.spared.Ordered.{ordered_both}
 use Rattle.tds_relay.proofs.spared.Lines.{brought_line, waited}
 use Rattle.tds_relay.proofs.spared.Apart.{lends_at, lends_none}
@@ -18,8 +18,8 @@ use Rattle.tds_relay.proofs.seats.Relays.{brought_none, brought_one, none_brough
 use Rattle.tds_relay.proofs.spared.Opening.{on_last, opens_new_both, opens_none, opens_same, turn_last}
 use Rattle.std.specs.Prelude.{IfSome, IsSome, None, Option}
 use Rattle.tds_relay.specs.Cleaning.{IsLentBy, CountsOnce, cleaned_in}
-use Rattle.tds_relay.specs.Desk.{find_number}
-use Rattle.tds_relay.specs.declared.desk.leaving.Left.{Left}
+use Rattle.tds_relay.specs.Pool.{find_number}
+use Rattle.tds_relay.specs.declared.pool.leaving.Left.{Left}
 use Rattle.tds_relay.proofs.spared.Brought.{brought_holds, first_served, if_some, first_waits, lent_unheld}
 use Rattle.tds_relay.proofs.spared.Freeing.{forget_none}
 use Rattle.tds_relay.proofs.spared.Cleaned.{since_brought}
@@ -39,17 +39,17 @@ returns-clause-goes c = λ from h.
 
 pub returns-in_default-clause-steps : goal.returns-in_default-clause-steps
 returns-in_default-clause-steps c =
-    steps_moved Neither (house_in c.args.self.now) _ _ _ _ (λ from h. moves_does Neither from _ _ _ _ _ _ _ c.in_ok-left.ensures.turns.2 tt refl refl h) refl (no_steps Neither (house_in c.args.self.now))
+    steps_moved Neither (machine_in c.args.self.now) _ _ _ _ (λ from h. moves_does Neither from _ _ _ _ _ _ _ c.in_ok-left.ensures.turns.2 tt refl refl h) refl (no_steps Neither (machine_in c.args.self.now))
 
 pub returns-then-not-left-clause-steps : goal.returns-then-not-left-clause-steps
 returns-then-not-left-clause-steps c =
-    steps_moved Neither (house_in c.args.self.now) _ _ _ _ (λ from h. moves_does Neither from _ _ _ _ _ _ _ c.in_ok-left.ensures.turns.2 tt refl refl h) refl (no_steps Neither (house_in c.args.self.now))
+    steps_moved Neither (machine_in c.args.self.now) _ _ _ _ (λ from h. moves_does Neither from _ _ _ _ _ _ _ c.in_ok-left.ensures.turns.2 tt refl refl h) refl (no_steps Neither (machine_in c.args.self.now))
 
 pub returns-clause-steps : goal.returns-clause-steps
 returns-clause-steps c =
-    steps_moved Neither (house_in c.args.self.now) _ _ _ _ (c.in_ok-serve_line.ensures.moves Neither) c.in_ok-serve_line.ensures.kept
-    (steps_moved Neither (house_in c.args.self.now) _ _ _ _ (c.in_ok-send_unheld.ensures.moves Neither) c.in_ok-send_unheld.ensures.kept
-    (steps_moved Neither (house_in c.args.self.now) _ _ _ _ (λ from h. moves_does Neither from _ _ _ _ _ _ _ c.in_ok-left.ensures.turns.2 tt refl refl h) refl (no_steps Neither (house_in c.args.self.now))))
+    steps_moved Neither (machine_in c.args.self.now) _ _ _ _ (c.in_ok-serve_line.ensures.moves Neither) c.in_ok-serve_line.ensures.kept
+    (steps_moved Neither (machine_in c.args.self.now) _ _ _ _ (c.in_ok-send_unheld.ensures.moves Neither) c.in_ok-send_unheld.ensures.kept
+    (steps_moved Neither (machine_in c.args.self.now) _ _ _ _ (λ from h. moves_does Neither from _ _ _ _ _ _ _ c.in_ok-left.ensures.turns.2 tt refl refl h) refl (no_steps Neither (machine_in c.args.self.now))))
 
 pub returns-clause-opens : goal.returns-clause-opens
 returns-clause-opens c =
@@ -98,8 +98,8 @@ returns-clause-kept c = c.in_ok-serve_line.ensures.kept ∙ c.in_ok-send_unheld.
 
 pub returns-clause-closes : goal.returns-clause-closes
 returns-clause-closes c =
-    let old = desk_in c.args.self.now.desk in
-    let mid = desk_in c.send_unheld.new.self.desk in (
+    let old = pool_in c.args.self.now.pool in
+    let mid = pool_in c.send_unheld.new.self.pool in (
       c.push.new.self.items,
       inr (_, c.in_ok-push.ensures.items, refl, refl, c.in_ok-link.ensures.nothing, c.in_ok-link.ensures.made),
       closes_both (IsWaiting old.line) _ _ _ (closes_nobody (IsWaiting old.line) _ _ c.in_ok-send_unheld.ensures.closes)
@@ -109,13 +109,13 @@ returns-clause-closes c =
     )
 
 pub returns-then-not-is_empty-clause-closes : goal.returns-then-not-is_empty-clause-closes
-returns-then-not-is_empty-clause-closes c = (c.args.self.now.links.items, inl refl, closes_refl (IsWaiting (desk_in c.args.self.now.desk).line) (register_in c.args.self.now))
+returns-then-not-is_empty-clause-closes c = (c.args.self.now.links.items, inl refl, closes_refl (IsWaiting (pool_in c.args.self.now.pool).line) (register_in c.args.self.now))
 
 pub returns-in_default-clause-closes : goal.returns-in_default-clause-closes
-returns-in_default-clause-closes c = (c.args.self.now.links.items, inl refl, closes_refl (IsWaiting (desk_in c.args.self.now.desk).line) (register_in c.args.self.now))
+returns-in_default-clause-closes c = (c.args.self.now.links.items, inl refl, closes_refl (IsWaiting (pool_in c.args.self.now.pool).line) (register_in c.args.self.now))
 
 pub returns-then-not-left-clause-closes : goal.returns-then-not-left-clause-closes
-returns-then-not-left-clause-closes c = (c.args.self.now.links.items, inl refl, closes_refl (IsWaiting (desk_in c.args.self.now.desk).line) (register_in c.args.self.now))
+returns-then-not-left-clause-closes c = (c.args.self.now.links.items, inl refl, closes_refl (IsWaiting (pool_in c.args.self.now.pool).line) (register_in c.args.self.now))
 
 pub returns-then-not-is_empty-clause-tries : goal.returns-then-not-is_empty-clause-tries
 returns-then-not-is_empty-clause-tries c =
@@ -123,60 +123,60 @@ returns-then-not-is_empty-clause-tries c =
     inl (sym c.is_empty.ensures ∙ some)
 
 pub returns-in_default-clause-tries : goal.returns-in_default-clause-tries
-returns-in_default-clause-tries c = inr (c.in_ok-left.ensures.turns.0, c.in_ok-left.ensures.turns.1, c.in_ok-left.ensures.turns.2.desk_is)
+returns-in_default-clause-tries c = inr (c.in_ok-left.ensures.turns.0, c.in_ok-left.ensures.turns.1, c.in_ok-left.ensures.turns.2.pool_is)
 
 pub returns-then-not-left-clause-tries : goal.returns-then-not-left-clause-tries
-returns-then-not-left-clause-tries c = inr (c.in_ok-left.ensures.turns.0, c.in_ok-left.ensures.turns.1, c.in_ok-left.ensures.turns.2.desk_is)
+returns-then-not-left-clause-tries c = inr (c.in_ok-left.ensures.turns.0, c.in_ok-left.ensures.turns.1, c.in_ok-left.ensures.turns.2.pool_is)
 
 pub returns-in_default-clause-seated : goal.returns-in_default-clause-seated
-returns-in_default-clause-seated c = λ s. brought_none c.in_ok-left.ensures.turns.0 c.in_ok-left.ensures.turns.1 c.args.self.now.desk c.bring.new.self _ _ c.args.self.now.links.items c.in_ok-left.field-0 c.in_ok-left.ensures.turns.2 c.in_ok-left.ensures.seats s c.in_default.is
+returns-in_default-clause-seated c = λ s. brought_none c.in_ok-left.ensures.turns.0 c.in_ok-left.ensures.turns.1 c.args.self.now.pool c.bring.new.self _ _ c.args.self.now.links.items c.in_ok-left.field-0 c.in_ok-left.ensures.turns.2 c.in_ok-left.ensures.seats s c.in_default.is
 
 pub returns-then-not-left-clause-seated : goal.returns-then-not-left-clause-seated
 returns-then-not-left-clause-seated c = λ s.
     let empty : c.is_empty.result ≡ true = search rules in
-    none_brought c.in-Some.left.number (desk_in c.bring.new.self) c.args.self.now.links.items (none_there c.args.self.now.links.items (sym c.is_empty.ensures ∙ empty))
-    (brought_one c.in_ok-left.ensures.turns.0 c.in_ok-left.ensures.turns.1 c.args.self.now.desk c.bring.new.self _ _ c.args.self.now.links.items c.in_ok-left.field-0 c.in_ok-left.ensures.turns.2 c.in_ok-left.ensures.seats s c.in-Some.left false c.in-Some.is (search rules))
+    none_brought c.in-Some.left.number (pool_in c.bring.new.self) c.args.self.now.links.items (none_there c.args.self.now.links.items (sym c.is_empty.ensures ∙ empty))
+    (brought_one c.in_ok-left.ensures.turns.0 c.in_ok-left.ensures.turns.1 c.args.self.now.pool c.bring.new.self _ _ c.args.self.now.links.items c.in_ok-left.field-0 c.in_ok-left.ensures.turns.2 c.in_ok-left.ensures.seats s c.in-Some.left false c.in-Some.is (search rules))
 
 pub returns-clause-seated : goal.returns-clause-seated
 returns-clause-seated c = λ s.
     c.in_ok-serve_line.ensures.seated (c.in_ok-send_unheld.ensures.seated
-    (seated_pushed c.in-Some.left.number (desk_in c.bring.new.self) _ c.args.self.now.links.items c.push.new.self.items c.in_ok-push.ensures.items c.in_ok-link.ensures.number
-    (brought_one c.in_ok-left.ensures.turns.0 c.in_ok-left.ensures.turns.1 c.args.self.now.desk c.bring.new.self _ _ c.args.self.now.links.items c.in_ok-left.field-0 c.in_ok-left.ensures.turns.2 c.in_ok-left.ensures.seats s c.in-Some.left true c.in-Some.is (search rules))))
+    (seated_pushed c.in-Some.left.number (pool_in c.bring.new.self) _ c.args.self.now.links.items c.push.new.self.items c.in_ok-push.ensures.items c.in_ok-link.ensures.number
+    (brought_one c.in_ok-left.ensures.turns.0 c.in_ok-left.ensures.turns.1 c.args.self.now.pool c.bring.new.self _ _ c.args.self.now.links.items c.in_ok-left.field-0 c.in_ok-left.ensures.turns.2 c.in_ok-left.ensures.seats s c.in-Some.left true c.in-Some.is (search rules))))
 
 pub returns-then-not-is_empty-clause-opening : goal.returns-then-not-is_empty-clause-opening
 returns-then-not-is_empty-clause-opening c = opens_none c.args.self.now
 
 pub returns-in_default-clause-opening : goal.returns-in_default-clause-opening
-returns-in_default-clause-opening c = opens_same c.args.self.now _ refl (turn_last _ (desk_in c.args.self.now.desk) (desk_in c.bring.new.self) _ _ c.in_ok-left.ensures.turns.2)
+returns-in_default-clause-opening c = opens_same c.args.self.now _ refl (turn_last _ (pool_in c.args.self.now.pool) (pool_in c.bring.new.self) _ _ c.in_ok-left.ensures.turns.2)
 
 pub returns-then-not-left-clause-opening : goal.returns-then-not-left-clause-opening
-returns-then-not-left-clause-opening c = opens_same c.args.self.now _ refl (turn_last _ (desk_in c.args.self.now.desk) (desk_in c.bring.new.self) _ _ c.in_ok-left.ensures.turns.2)
+returns-then-not-left-clause-opening c = opens_same c.args.self.now _ refl (turn_last _ (pool_in c.args.self.now.pool) (pool_in c.bring.new.self) _ _ c.in_ok-left.ensures.turns.2)
 
 pub returns-clause-opening : goal.returns-clause-opening
 returns-clause-opening c =
-    let one : (desk_in c.args.self.now.desk).service.last ≤ (desk_in c.bring.new.self).service.last = turn_last _ (desk_in c.args.self.now.desk) (desk_in c.bring.new.self) _ _ c.in_ok-left.ensures.turns.2 in
-    let two : (desk_in c.bring.new.self).service.last ≤ (desk_in c.send_unheld.new.self.desk).service.last = on_last (desk_in c.bring.new.self) (desk_in c.send_unheld.new.self.desk) c.in_ok-send_unheld.ensures.goes in
+    let one : (pool_in c.args.self.now.pool).service.last ≤ (pool_in c.bring.new.self).service.last = turn_last _ (pool_in c.args.self.now.pool) (pool_in c.bring.new.self) _ _ c.in_ok-left.ensures.turns.2 in
+    let two : (pool_in c.bring.new.self).service.last ≤ (pool_in c.send_unheld.new.self.pool).service.last = on_last (pool_in c.bring.new.self) (pool_in c.send_unheld.new.self.pool) c.in_ok-send_unheld.ensures.goes in
     opens_new_both c.args.self.now c.send_unheld.new.self c.serve_line.new.self (opens_same c.args.self.now c.send_unheld.new.self c.send_unheld.ensures.opening (omega (arith, one, two))) c.in_ok-serve_line.ensures.opening
 
 pub returns-then-not-is_empty-clause-lends : goal.returns-then-not-is_empty-clause-lends
-returns-then-not-is_empty-clause-lends c = lends_none (hall_in c.args.self.now)
+returns-then-not-is_empty-clause-lends c = lends_none (core_in c.args.self.now)
 
 pub returns-in_default-clause-lends : goal.returns-in_default-clause-lends
 returns-in_default-clause-lends c =
-    let line : (desk_in c.bring.new.self).line ≡ (desk_in c.args.self.now.desk).line =
-    brought_line (desk_in c.args.self.now.desk) (desk_in c.bring.new.self) c.in_ok-left.ensures.turns.0 c.in_ok-left.ensures.turns.1 c.in_ok-left.ensures.turns.2.desk_is in
-    lends_at _ _ _ _ (hall_of_ends (desk_in c.bring.new.self) (ends_in c.args.self.now.applications)) line refl (lends_none (hall_of_ends (desk_in c.bring.new.self) (ends_in c.args.self.now.applications)))
+    let line : (pool_in c.bring.new.self).line ≡ (pool_in c.args.self.now.pool).line =
+    brought_line (pool_in c.args.self.now.pool) (pool_in c.bring.new.self) c.in_ok-left.ensures.turns.0 c.in_ok-left.ensures.turns.1 c.in_ok-left.ensures.turns.2.pool_is in
+    lends_at _ _ _ _ (core_of_ends (pool_in c.bring.new.self) (ends_in c.args.self.now.applications)) line refl (lends_none (core_of_ends (pool_in c.bring.new.self) (ends_in c.args.self.now.applications)))
 
 pub returns-then-not-left-clause-lends : goal.returns-then-not-left-clause-lends
 returns-then-not-left-clause-lends c =
-    let line : (desk_in c.bring.new.self).line ≡ (desk_in c.args.self.now.desk).line =
-    brought_line (desk_in c.args.self.now.desk) (desk_in c.bring.new.self) c.in_ok-left.ensures.turns.0 c.in_ok-left.ensures.turns.1 c.in_ok-left.ensures.turns.2.desk_is in
-    lends_at _ _ _ _ (hall_of_ends (desk_in c.bring.new.self) (ends_in c.args.self.now.applications)) line refl (lends_none (hall_of_ends (desk_in c.bring.new.self) (ends_in c.args.self.now.applications)))
+    let line : (pool_in c.bring.new.self).line ≡ (pool_in c.args.self.now.pool).line =
+    brought_line (pool_in c.args.self.now.pool) (pool_in c.bring.new.self) c.in_ok-left.ensures.turns.0 c.in_ok-left.ensures.turns.1 c.in_ok-left.ensures.turns.2.pool_is in
+    lends_at _ _ _ _ (core_of_ends (pool_in c.bring.new.self) (ends_in c.args.self.now.applications)) line refl (lends_none (core_of_ends (pool_in c.bring.new.self) (ends_in c.args.self.now.applications)))
 
 pub returns-clause-lends : goal.returns-clause-lends
 returns-clause-lends c =
-    let line : (desk_in c.bring.new.self).line ≡ (desk_in c.args.self.now.desk).line =
-    brought_line (desk_in c.args.self.now.desk) (desk_in c.bring.new.self) c.in_ok-left.ensures.turns.0 c.in_ok-left.ensures.turns.1 c.in_ok-left.ensures.turns.2.desk_is in
+    let line : (pool_in c.bring.new.self).line ≡ (pool_in c.args.self.now.pool).line =
+    brought_line (pool_in c.args.self.now.pool) (pool_in c.bring.new.self) c.in_ok-left.ensures.turns.0 c.in_ok-left.ensures.turns.1 c.in_ok-left.ensures.turns.2.pool_is in
     lends_at _ _ _ _ _ (c.in_ok-send_unheld.ensures.line ∙ line) c.in_ok-send_unheld.ensures.ends c.in_ok-serve_line.ensures.lends
 
 pub returns-clause-cleans : goal.returns-clause-cleans
@@ -186,17 +186,17 @@ returns-clause-cleans c = λ reached.
     let left = c.in-Some.left in
     let empty : c.is_empty.result ≡ true = search rules in
     let there : left.is_there ≡ true = search rules in
-    let lent : IsLentBy left.number (desk_in old.desk).service =
-    subst (λ (o : Option Left). IfSome o (λ (it : Left). IsLentBy it.number (desk_in old.desk).service)) c.in-Some.is c.in_ok-left.ensures.lent in
+    let lent : IsLentBy left.number (pool_in old.pool).service =
+    subst (λ (o : Option Left). IfSome o (λ (it : Left). IsLentBy it.number (pool_in old.pool).service)) c.in-Some.is c.in_ok-left.ensures.lent in
     let puts = if_some _ c.in_ok-left.field-0 left c.in-Some.is (c.in_ok-left.ensures.cleans reached) there in
-    let unheld : find_number left.number (desk_in c.bring.new.self).holds ≡ None =
-    ap (find_number left.number) (brought_holds (desk_in old.desk) (desk_in c.bring.new.self) c.in_ok-left.ensures.turns.0 c.in_ok-left.ensures.turns.1 c.in_ok-left.ensures.turns.2.desk_is)
-    ∙ lent_unheld (desk_in old.desk) lent.0 left.number lent.1 reached lent.2 in
-    let led : IsReached (desk_in mid.desk) =
+    let unheld : find_number left.number (pool_in c.bring.new.self).holds ≡ None =
+    ap (find_number left.number) (brought_holds (pool_in old.pool) (pool_in c.bring.new.self) c.in_ok-left.ensures.turns.0 c.in_ok-left.ensures.turns.1 c.in_ok-left.ensures.turns.2.pool_is)
+    ∙ lent_unheld (pool_in old.pool) lent.0 left.number lent.1 reached lent.2 in
+    let led : IsReached (pool_in mid.pool) =
     reached_on Neither _ _ (λ from h. c.in_ok-send_unheld.ensures.goes Neither from (reaches_turn Neither from _ _ _ _ _ c.in_ok-left.ensures.turns.2 refl h)) reached in
     first_served left.number mid c.serve_line.new.self _ c.bring.new.out.items _ (search rules)
     (first_waits left.number old.links.items c.push.new.self.items _ (none_there old.links.items (sym c.is_empty.ensures ∙ empty)) c.in_ok-push.ensures.items c.in_ok-link.ensures.number c.in_ok-link.ensures.nothing)
-    puts (c.in_ok-send_unheld.ensures.puts unheld) (forget_none left.number left.number c.bring.new.self.holds.items mid.desk.holds.items c.in_ok-send_unheld.ensures.holds unheld)
+    puts (c.in_ok-send_unheld.ensures.puts unheld) (forget_none left.number left.number c.bring.new.self.holds.items mid.pool.holds.items c.in_ok-send_unheld.ensures.holds unheld)
     c.in_ok-serve_line.ensures.opens (c.in_ok-serve_line.ensures.fills led)
 
 pub returns-clause-counts : goal.returns-clause-counts
@@ -208,14 +208,14 @@ returns-clause-cleaned c = λ reached.
     let mid = c.send_unheld.new.self in
     let left = c.in-Some.left in
     let empty : c.is_empty.result ≡ true = search rules in
-    let lent : IsLentBy left.number (desk_in old.desk).service =
-    subst (λ (o : Option Left). IfSome o (λ (it : Left). IsLentBy it.number (desk_in old.desk).service)) c.in-Some.is c.in_ok-left.ensures.lent in
-    let unheld : find_number left.number (desk_in c.bring.new.self).holds ≡ None =
-    ap (find_number left.number) (brought_holds (desk_in old.desk) (desk_in c.bring.new.self) c.in_ok-left.ensures.turns.0 c.in_ok-left.ensures.turns.1 c.in_ok-left.ensures.turns.2.desk_is)
-    ∙ lent_unheld (desk_in old.desk) lent.0 left.number lent.1 reached lent.2 in
+    let lent : IsLentBy left.number (pool_in old.pool).service =
+    subst (λ (o : Option Left). IfSome o (λ (it : Left). IsLentBy it.number (pool_in old.pool).service)) c.in-Some.is c.in_ok-left.ensures.lent in
+    let unheld : find_number left.number (pool_in c.bring.new.self).holds ≡ None =
+    ap (find_number left.number) (brought_holds (pool_in old.pool) (pool_in c.bring.new.self) c.in_ok-left.ensures.turns.0 c.in_ok-left.ensures.turns.1 c.in_ok-left.ensures.turns.2.pool_is)
+    ∙ lent_unheld (pool_in old.pool) lent.0 left.number lent.1 reached lent.2 in
     let waits = first_waits left.number old.links.items c.push.new.self.items _ (none_there old.links.items (sym c.is_empty.ensures ∙ empty)) c.in_ok-push.ensures.items c.in_ok-link.ensures.number c.in_ok-link.ensures.nothing in
     since_brought left.number old mid c.serve_line.new.self (c.in_ok-send_unheld.ensures.cleaned unheld (subst IsSome (sym waits) refl)) c.in_ok-serve_line.ensures.opens c.serve_line.ensures.counts
     c.in_ok-send_unheld.ensures.closes.were_open
-    (last_more (IsWaiting (desk_in mid.desk).line) (IsWaiting (desk_in old.desk).line) _ _
-    (λ key. waited Neither (desk_in old.desk) (desk_in mid.desk) key (λ none. none) (λ from h. c.in_ok-send_unheld.ensures.goes Neither from (reaches_turn Neither from _ _ _ _ _ c.in_ok-left.ensures.turns.2 refl h)))
+    (last_more (IsWaiting (pool_in mid.pool).line) (IsWaiting (pool_in old.pool).line) _ _
+    (λ key. waited Neither (pool_in old.pool) (pool_in mid.pool) key (λ none. none) (λ from h. c.in_ok-send_unheld.ensures.goes Neither from (reaches_turn Neither from _ _ _ _ _ c.in_ok-left.ensures.turns.2 refl h)))
     c.in_ok-serve_line.ensures.lasts)

@@ -1,10 +1,10 @@
-use Rattle.tds_relay.specs.Fronts.{house_in, hall_in}
-use Rattle.tds_relay.specs.Ties.{Connection, desk_in, Neither}
+use Rattle.tds_relay.specs.Fronts.{machine_in, core_in}
+use Rattle.tds_relay.specs.Ties.{Connection, pool_in, Neither}
 use Rattle.tds_relay.proofs.steps.Stepping.{steps_on_ok}
 use Rattle.tds_relay.proofs.bytes.Streaming.{comes, streams_steps}
 use Rattle.tds_relay.proofs.steps.Faults.{refused_served}
 use Rattle.tds_relay.proofs.steps.Staying.{others_served}
-use Rattle.tds_relay.specs.Posts.{names_in, posts_in}
+use Rattle.tds_relay.specs.Queues.{names_in, queues_in}
 use Rattle.tds_relay.proofs.steps.Renaming.{names_on}
 use Rattle.tds_relay.proofs.spared.Coming.{along_on, go_along}
 use Rattle.tds_relay.proofs.spared.Ordered.{ordered_on}
@@ -12,7 +12,7 @@ use Rattle.tds_relay.proofs.spared.Waking.{wakes_on}
 use Rattle.tds_relay.proofs.steps.Reaching.{ok_more, reached_on}
 use Rattle.tds_relay.proofs.steps.Told.{deaf_led_on}
 use Rattle.tds_relay.specs.Closings.{IsWaiting, register_in}
-use Rattle.tds_relay.specs.Reasons.{HeardFor, InLine, IsLentInVain}
+use Rattle.tds_relay.specs.Waiting.{HeardFor, InLine, IsLentInVain}
 use Rattle.tds_relay.proofs.spared.Closings.{closes_done_on}
 use Rattle.tds_relay.proofs.spared.Few.{few_behind, most_kept}
 use Rattle.tds_relay.proofs.spared.Only.{only_on}
@@ -24,7 +24,7 @@ use Rattle.tds_relay.proofs.relay.Relay.came.Goals as goal
 
 pub returns-clause-steps : goal.returns-clause-steps
 returns-clause-steps c =
-    steps_on_ok c.serve_line.result (Connection c.args.number) (house_in c.args.self.now) _ _ _ _
+    steps_on_ok c.serve_line.result (Connection c.args.number) (machine_in c.args.self.now) _ _ _ _
     (streams_steps c.args.number _ _ _ _ _ _ _ _ c.in_ok-hear_all.ensures.streams.streams) c.serve_line.ensures.moves c.serve_line.ensures.kept
 
 pub returns-clause-comes : goal.returns-clause-comes
@@ -48,8 +48,8 @@ returns-clause-ordered c = ordered_on c.serve_line.result _ _ _ c.serve_line.ens
 
 pub returns-clause-wakes : goal.returns-clause-wakes
 returns-clause-wakes c =
-    wakes_on c.serve_line.result (posts_in c.args.self.now.applications) c.hear_all.new.self.applications c.serve_line.new.self.applications _ _ c.in_ok-hear_all.ensures.wakes c.serve_line.ensures.kept c.serve_line.ensures.ordered
-    (λ key d. deaf_led_on c.serve_line.result Neither key (hall_in c.hear_all.new.self) (hall_in c.serve_line.new.self) (ok_more c.serve_line.result _ _ (λ m. m Neither) c.serve_line.ensures.moves) d)
+    wakes_on c.serve_line.result (queues_in c.args.self.now.applications) c.hear_all.new.self.applications c.serve_line.new.self.applications _ _ c.in_ok-hear_all.ensures.wakes c.serve_line.ensures.kept c.serve_line.ensures.ordered
+    (λ key d. deaf_led_on c.serve_line.result Neither key (core_in c.hear_all.new.self) (core_in c.serve_line.new.self) (ok_more c.serve_line.result _ _ (λ m. m Neither) c.serve_line.ensures.moves) d)
 
 pub returns-clause-closes : goal.returns-clause-closes
 returns-clause-closes c =
@@ -61,12 +61,12 @@ returns-clause-few c = few_behind c.serve_line.result _ _ _ _ _ (most_kept _ _ (
 
 pub returns-clause-refused : goal.returns-clause-refused
 returns-clause-refused c =
-    refused_served c.serve_line.result c.args.number (IsWaiting (desk_in c.hear_all.new.self.desk).line) c.args.self.now.refused (register_in c.hear_all.new.self) (register_in c.serve_line.new.self)
+    refused_served c.serve_line.result c.args.number (IsWaiting (pool_in c.hear_all.new.self.pool).line) c.args.self.now.refused (register_in c.hear_all.new.self) (register_in c.serve_line.new.self)
     c.in_ok-hear_all.ensures.refused c.serve_line.ensures.closes
 
 pub returns-clause-only : goal.returns-clause-only
 returns-clause-only c = λ reached.
-    only_on c.serve_line.result c.args.number (hall_in c.args.self.now) (hall_in c.hear_all.new.self) (hall_in c.serve_line.new.self) (c.in_ok-hear_all.ensures.spares reached) c.serve_line.ensures.apart
+    only_on c.serve_line.result c.args.number (core_in c.args.self.now) (core_in c.hear_all.new.self) (core_in c.serve_line.new.self) (c.in_ok-hear_all.ensures.spares reached) c.serve_line.ensures.apart
 
 pub returns-clause-anew : goal.returns-clause-anew
 returns-clause-anew c =
@@ -77,7 +77,7 @@ pub returns-clause-seated : goal.returns-clause-seated
 returns-clause-seated c = λ s. c.serve_line.ensures.seated (c.in_ok-hear_all.ensures.seated s)
 
 pub returns-clause-opening : goal.returns-clause-opening
-returns-clause-opening c = opens_new_on c.serve_line.result c.args.self.now c.hear_all.new.self c.serve_line.new.self (opens_same c.args.self.now c.hear_all.new.self c.hear_all.ensures.opening (goes_last (Connection c.args.number) (desk_in c.args.self.now.desk) (desk_in c.hear_all.new.self.desk) c.in_ok-hear_all.ensures.goes)) c.serve_line.ensures.opening
+returns-clause-opening c = opens_new_on c.serve_line.result c.args.self.now c.hear_all.new.self c.serve_line.new.self (opens_same c.args.self.now c.hear_all.new.self c.hear_all.ensures.opening (goes_last (Connection c.args.number) (pool_in c.args.self.now.pool) (pool_in c.hear_all.new.self.pool) c.in_ok-hear_all.ensures.goes)) c.serve_line.ensures.opening
 
 pub returns-clause-apart : goal.returns-clause-apart
 returns-clause-apart c = served_off c.serve_line.result c.args.number c.args.self.now c.hear_all.new.self c.serve_line.new.self c.in_ok-hear_all.ensures.goes c.in_ok-hear_all.ensures.apart c.serve_line.ensures.goes_on

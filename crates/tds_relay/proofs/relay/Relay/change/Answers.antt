@@ -15,10 +15,11 @@ use Rattle.tds_relay.proofs.spared.Reasons.{for_reason}
 use Rattle.tds_relay.proofs.spared.Closings.{closes_both, closes_first, closes_nobody}
 use Rattle.tds_relay.proofs.spared.Speaking.{reached_left, waited_rest}
 use Rattle.tds_relay.proofs.spared.Resting.{others_both, others_on}
-use Rattle.tds_relay.specs.Hall.{Ends, IfOpen, IsBegun, end_at}
+use Rattle.tds_relay.specs.Core.{Ends, IfOpen, IsBegun, end_at}
 use Rattle.tds_relay.specs.Fronts.{ends_in}
 use Rattle.tds_relay.proofs.steps.Quieting.{open_lets_go}
 use Rattle.tds_relay.proofs.spared.Elsewhere.{aside_on, aside_waits}
+use Rattle.tds_relay.proofs.spared.Rightly.{deaf_right_on, waits_right_on}
 use Rattle.tds_relay.proofs.relay.Relay.change.Goals as goal
 
 pub returns-then-not-has_nothing_out-clause-moves : goal.returns-then-not-has_nothing_out-clause-moves
@@ -79,7 +80,7 @@ pub returns-then-not-has_nothing_out-clause-closes : goal.returns-then-not-has_n
 returns-then-not-has_nothing_out-clause-closes c = for_reason c.expel.result c.args.key _ _ _ (Out (c.has_nothing_out.ensures.out (search rules))) c.expel.ensures.closes
 
 pub returns-then-is_some-clause-closes : goal.returns-then-is_some-clause-closes
-returns-then-is_some-clause-closes c = for_reason c.expel-then-is_some.result c.args.key _ _ _ (Held c.release.new.self.desk c.in_ok-release.ensures.leaving (search rules))
+returns-then-is_some-clause-closes c = for_reason c.expel-then-is_some.result c.args.key _ _ _ (Held c.release.new.self.pool c.in_ok-release.ensures.leaving (search rules))
     (closes_first c.expel-then-is_some.result (Itself c.args.key) _ _ _ c.expel-then-is_some.ensures.closes c.in_ok-release.ensures.closes)
 
 pub returns-clause-closes : goal.returns-clause-closes
@@ -96,7 +97,7 @@ returns-then-not-has_nothing_out-clause-others c = c.expel.ensures.others
 
 pub returns-then-is_some-clause-others : goal.returns-then-is_some-clause-others
 returns-then-is_some-clause-others c = λ reached.
-    others_on c.expel-then-is_some.result c.args.key c.args.self.now c.release.new.self c.expel-then-is_some.new.self (c.expel-then-is_some.ensures.others (reached_left c.args.key c.args.self.now.desk c.release.new.self.desk c.in_ok-release.ensures.leaving reached)) (c.in_ok-release.ensures.others reached)
+    others_on c.expel-then-is_some.result c.args.key c.args.self.now c.release.new.self c.expel-then-is_some.new.self (c.expel-then-is_some.ensures.others (reached_left c.args.key c.args.self.now.pool c.release.new.self.pool c.in_ok-release.ensures.leaving reached)) (c.in_ok-release.ensures.others reached)
 
 pub returns-clause-others : goal.returns-clause-others
 returns-clause-others c = λ reached.
@@ -108,8 +109,17 @@ returns-then-not-has_nothing_out-clause-aside c = c.expel.ensures.aside
 pub returns-then-is_some-clause-aside : goal.returns-then-is_some-clause-aside
 returns-then-is_some-clause-aside c = λ reached.
     aside_on c.expel-then-is_some.result c.args.key c.args.self.now c.release.new.self c.expel-then-is_some.new.self (c.in_ok-release.ensures.keeps reached)
-    (c.expel-then-is_some.ensures.aside (reached_left c.args.key c.args.self.now.desk c.release.new.self.desk c.in_ok-release.ensures.leaving reached))
+    (c.expel-then-is_some.ensures.aside (reached_left c.args.key c.args.self.now.pool c.release.new.self.pool c.in_ok-release.ensures.leaving reached))
 
 pub returns-clause-aside : goal.returns-clause-aside
 returns-clause-aside c = λ reached.
     aside_waits c.wait.result c.args.key c.args.self.now c.release.new.self c.wait.new.self (c.in_ok-release.ensures.keeps reached) c.wait.ensures.holds c.wait.ensures.links
+
+pub returns-then-not-has_nothing_out-clause-right : goal.returns-then-not-has_nothing_out-clause-right
+returns-then-not-has_nothing_out-clause-right c = deaf_right_on c.expel.result c.args.key c.expel.new.self c.expel.ensures.over
+
+pub returns-then-is_some-clause-right : goal.returns-then-is_some-clause-right
+returns-then-is_some-clause-right c = deaf_right_on c.expel-then-is_some.result c.args.key c.expel-then-is_some.new.self c.expel-then-is_some.ensures.over
+
+pub returns-clause-right : goal.returns-clause-right
+returns-clause-right c = waits_right_on c.wait.result c.args.key c.release.new.self c.wait.new.self c.wait.ensures.holds (search rules)

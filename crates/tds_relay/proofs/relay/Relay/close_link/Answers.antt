@@ -1,8 +1,8 @@
 use Rattle.std.proofs.Common.{List, Option, Some, subst, sym, ap, ℕ, ◌∙◌, ◌≡◌, refl}
 use Rattle.tds_relay.specs.declared.link.Link.{Link}
-use Rattle.tds_relay.specs.Reads.{Stays, waits_on, post_on}
+use Rattle.tds_relay.specs.Reads.{Stays, waits_on, queue_on}
 use Rattle.tds_relay.proofs.steps.Staying.{stays_without}
-use Rattle.tds_relay.proofs.spared.Waits.{left_wait, left_post}
+use Rattle.tds_relay.proofs.spared.Waits.{left_wait, left_queue}
 use Rattle.tds_relay.specs.Sending.{called_at}
 use Rattle.tds_relay.specs.Closings.{Nobody}
 use Rattle.tds_relay.proofs.spared.Ended.{closes_removed, cutting}
@@ -48,8 +48,8 @@ returns-in-None-clause-answers c = answers_without c.args.number _ _ c.remove_li
 pub returns-in_ok-push-in-Some-clause-opening : goal.returns-in_ok-push-in-Some-clause-opening
 returns-in_ok-push-in-Some-clause-opening c = opens_pushed (orders.Close c.in-Some.tag) c.args.self.now.orders.items c.push.new.self.items c.in_ok-push-in-Some.ensures.items refl
 
-pub returns-in_ok-push-in-Some-clause-posts : goal.returns-in_ok-push-in-Some-clause-posts
-returns-in_ok-push-in-Some-clause-posts c = λ other differs. ap (post_on other) c.remove_link.ensures ∙ left_post c.args.number other c.args.self.now.links.items differs
+pub returns-in_ok-push-in-Some-clause-queues : goal.returns-in_ok-push-in-Some-clause-queues
+returns-in_ok-push-in-Some-clause-queues c = λ other differs. ap (queue_on other) c.remove_link.ensures ∙ left_queue c.args.number other c.args.self.now.links.items differs
 
-pub returns-in-None-clause-posts : goal.returns-in-None-clause-posts
-returns-in-None-clause-posts c = λ other differs. ap (post_on other) c.remove_link.ensures ∙ left_post c.args.number other c.args.self.now.links.items differs
+pub returns-in-None-clause-queues : goal.returns-in-None-clause-queues
+returns-in-None-clause-queues c = λ other differs. ap (queue_on other) c.remove_link.ensures ∙ left_queue c.args.number other c.args.self.now.links.items differs

@@ -1,6 +1,6 @@
-use Rattle.tds_relay.specs.Hall.{closes_for}
+use Rattle.tds_relay.specs.Core.{closes_for}
 use Rattle.tds_relay.proofs.steps.Fronts.{ends_moved, ends_kept}
-use Rattle.tds_relay.proofs.steps.Posting.{posts_kept}
+use Rattle.tds_relay.proofs.steps.Queueing.{queues_kept}
 use Rattle.std.proofs.Common.{ap, refl, ℕ, ◌++◌, ◌∷◌, [], ◌∙◌, rules}
 use Rattle.tds_relay.specs.Closings.{register_in, Itself}
 use Rattle.tds_relay.specs.declared.order.Order.TheVariants as orders
@@ -11,20 +11,20 @@ use Rattle.tds_relay.proofs.spared.Opening.{opens_pushed}
 use Rattle.tds_relay.proofs.relay.Relay.end_for.Goals as goal
 
 pub returns-in_ok-push-in-Some-clause-kept : goal.returns-in_ok-push-in-Some-clause-kept
-returns-in_ok-push-in-Some-clause-kept c = posts_kept c.args.self.now.applications c.args.key c.in-Some.application.now c.close.new.self c.in-Some.ensures.value c.close.ensures.post
+returns-in_ok-push-in-Some-clause-kept c = queues_kept c.args.self.now.applications c.args.key c.in-Some.application.now c.close.new.self c.in-Some.ensures.value c.close.ensures.queue
 
 pub returns-in_ok-push-in-Some-clause-ends : goal.returns-in_ok-push-in-Some-clause-ends
 returns-in_ok-push-in-Some-clause-ends c = ends_moved c.args.self.now.applications c.args.key c.in-Some.application.now c.close.new.self (closes_for c.args.why) c.in-Some.ensures.value c.close.ensures.end
 
 pub returns-then-application-clause-closes : goal.returns-then-application-clause-closes
-returns-then-application-clause-closes c = closes_kept (Itself c.args.key) _ _ (ends_kept c.args.self.now.applications c.args.key c.in-Some.application.now c.in-Some.application.now c.in-Some.ensures.value refl) (posts_kept c.args.self.now.applications c.args.key c.in-Some.application.now c.in-Some.application.now c.in-Some.ensures.value refl) refl (kept_refl c.args.self.now.links.items) (unclosed _ _ refl)
+returns-then-application-clause-closes c = closes_kept (Itself c.args.key) _ _ (ends_kept c.args.self.now.applications c.args.key c.in-Some.application.now c.in-Some.application.now c.in-Some.ensures.value refl) (queues_kept c.args.self.now.applications c.args.key c.in-Some.application.now c.in-Some.application.now c.in-Some.ensures.value refl) refl (kept_refl c.args.self.now.links.items) (unclosed _ _ refl)
 
 pub returns-in_ok-push-in-Some-clause-closes : goal.returns-in_ok-push-in-Some-clause-closes
 returns-in_ok-push-in-Some-clause-closes c =
     let old = c.args.self.now in
     let a = c.in-Some.application.now in
     closes_ended c.args.key a.tag (closes_for c.args.why) (register_in old) _ (over_closes c.args.why) (ends_moved old.applications c.args.key a c.close.new.self (closes_for c.args.why) c.in-Some.ensures.value c.close.ensures.end)
-    (posts_kept old.applications c.args.key a c.close.new.self c.in-Some.ensures.value c.close.ensures.post) (its_name old c.args.key a c.in-Some.ensures.value (search rules)) (its_end old c.args.key a c.in-Some.ensures.value)
+    (queues_kept old.applications c.args.key a c.close.new.self c.in-Some.ensures.value c.close.ensures.queue) (its_name old c.args.key a c.in-Some.ensures.value (search rules)) (its_end old c.args.key a c.in-Some.ensures.value)
     (c.in_ok-push-in-Some.ensures.items ∙ ap (λ (n : ℕ). old.orders.items ++ orders.Close n ∷ []) c.close.ensures.tag) refl refl
 
 pub returns-in_ok-push-in-Some-clause-opening : goal.returns-in_ok-push-in-Some-clause-opening

@@ -1,8 +1,8 @@
 use Rattle.std.proofs.Common.{ap, subst, sym}
-use Rattle.tds_relay.specs.declared.desk.Desk as code
-use Rattle.tds_relay.specs.Ties.{Application, Reaches, desk_in, IsReached}
-use Rattle.tds_relay.specs.Fronts.{ends_in, hall_in, hall_of_ends}
-use Rattle.tds_relay.specs.Hall.{Ends, MayPart, end_at}
+use Rattle.tds_relay.specs.declared.pool.Pool as code
+use Rattle.tds_relay.specs.Ties.{Application, Reaches, pool_in, IsReached}
+use Rattle.tds_relay.specs.Fronts.{ends_in, core_in, core_of_ends}
+use Rattle.tds_relay.specs.Core.{Ends, MayPart, end_at}
 use Rattle.tds_relay.proofs.steps.Fronts.{closed_parts, moves_lets_go, moves_same}
 use Rattle.tds_relay.proofs.steps.Reaching.{ok_more, reaches_left}
 use Rattle.tds_relay.proofs.steps.Staying.{stays_from}
@@ -20,15 +20,15 @@ pub returns-clause-goes : goal.returns-clause-goes
 returns-clause-goes c =
     ok_more c.release.result _ _
     (λ l from h. reaches_left c.args.key from _ _ l
-    (subst (λ (d : code.Desk). Reaches (Application c.args.key) from (desk_in d)) (sym c.in_ok-end_for.ensures.desk) h))
+    (subst (λ (d : code.Pool). Reaches (Application c.args.key) from (pool_in d)) (sym c.in_ok-end_for.ensures.pool) h))
     c.release.ensures.leaving
 
 pub returns-clause-moves : goal.returns-clause-moves
 returns-clause-moves c =
     ok_more c.release.result _ _
     (λ l from h. moves_lets_go c.args.key from _ _ _
-    (subst (λ (es : Ends). MayPart (hall_of_ends (desk_in c.end_for.new.self.desk) es) c.args.key) (sym c.in_ok-end_for.ensures.ends) (closed_parts c.args.why (desk_in c.end_for.new.self.desk) (ends_in c.args.self.now.applications) c.args.key)) l
-    (moves_same (Application c.args.key) from _ _ _ _ (ap desk_in c.in_ok-end_for.ensures.desk) c.in_ok-end_for.ensures.ends h))
+    (subst (λ (es : Ends). MayPart (core_of_ends (pool_in c.end_for.new.self.pool) es) c.args.key) (sym c.in_ok-end_for.ensures.ends) (closed_parts c.args.why (pool_in c.end_for.new.self.pool) (ends_in c.args.self.now.applications) c.args.key)) l
+    (moves_same (Application c.args.key) from _ _ _ _ (ap pool_in c.in_ok-end_for.ensures.pool) c.in_ok-end_for.ensures.ends h))
     c.release.ensures.lets_go
 
 pub returns-clause-read : goal.returns-clause-read
@@ -37,25 +37,25 @@ returns-clause-read c = stays_from c.release.result _ _ _ c.in_ok-end_for.ensure
 pub returns-clause-over : goal.returns-clause-over
 returns-clause-over c =
     ok_more c.release.result _ _
-    (λ l. lets_go_deaf c.args.key (desk_in c.end_for.new.self.desk) (ends_in c.end_for.new.self.applications) (hall_in c.release.new.self) (subst (λ (es : Ends). IsDeaf (end_at es c.args.key)) (sym c.in_ok-end_for.ensures.ends) (deaf_for c.args.why c.args.key (ends_in c.args.self.now.applications))) l)
+    (λ l. lets_go_deaf c.args.key (pool_in c.end_for.new.self.pool) (ends_in c.end_for.new.self.applications) (core_in c.release.new.self) (subst (λ (es : Ends). IsDeaf (end_at es c.args.key)) (sym c.in_ok-end_for.ensures.ends) (deaf_for c.args.why c.args.key (ends_in c.args.self.now.applications))) l)
     c.release.ensures.lets_go
 
 pub returns-clause-stand : goal.returns-clause-stand
-returns-clause-stand c = stand_from c.release.result _ _ _ c.in_ok-end_for.ensures.desk c.release.ensures.stand
+returns-clause-stand c = stand_from c.release.result _ _ _ c.in_ok-end_for.ensures.pool c.release.ensures.stand
 
 pub returns-clause-others : goal.returns-clause-others
 returns-clause-others c = λ reached.
-    others_on c.release.result c.args.key c.args.self.now c.end_for.new.self c.release.new.self (c.release.ensures.others (subst (λ (d : code.Desk). IsReached (desk_in d)) (sym c.end_for.ensures.desk) reached))
-    (all_others c.args.key c.args.self.now c.end_for.new.self (all_rest c.args.self.now c.end_for.new.self c.end_for.ensures.desk c.in_ok-end_for.ensures.links c.in_ok-end_for.ensures.asks))
+    others_on c.release.result c.args.key c.args.self.now c.end_for.new.self c.release.new.self (c.release.ensures.others (subst (λ (d : code.Pool). IsReached (pool_in d)) (sym c.end_for.ensures.pool) reached))
+    (all_others c.args.key c.args.self.now c.end_for.new.self (all_rest c.args.self.now c.end_for.new.self c.end_for.ensures.pool c.in_ok-end_for.ensures.links c.in_ok-end_for.ensures.asks))
 
 pub returns-clause-closes : goal.returns-clause-closes
 returns-clause-closes c = closes_behind c.release.result (Itself c.args.key) _ _ _ c.release.ensures.closes c.in_ok-end_for.ensures.closes
 
 pub returns-clause-seated : goal.returns-clause-seated
-returns-clause-seated c = λ s. c.release.ensures.seated (kept_seated c.args.self.now c.end_for.new.self c.in_ok-end_for.ensures.desk c.in_ok-end_for.ensures.links s)
+returns-clause-seated c = λ s. c.release.ensures.seated (kept_seated c.args.self.now c.end_for.new.self c.in_ok-end_for.ensures.pool c.in_ok-end_for.ensures.links s)
 
 pub returns-clause-aside : goal.returns-clause-aside
 returns-clause-aside c = λ reached.
     aside_on c.release.result c.args.key c.args.self.now c.end_for.new.self c.release.new.self
-    (aside_same c.args.key c.args.self.now c.end_for.new.self (ap (λ (d : code.Desk). d.holds.items) c.end_for.ensures.desk) c.in_ok-end_for.ensures.links)
-    (c.release.ensures.keeps (subst (λ (d : code.Desk). IsReached (desk_in d)) (sym c.end_for.ensures.desk) reached))
+    (aside_same c.args.key c.args.self.now c.end_for.new.self (ap (λ (d : code.Pool). d.holds.items) c.end_for.ensures.pool) c.in_ok-end_for.ensures.links)
+    (c.release.ensures.keeps (subst (λ (d : code.Pool). IsReached (pool_in d)) (sym c.end_for.ensures.pool) reached))

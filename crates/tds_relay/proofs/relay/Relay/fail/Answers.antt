@@ -1,15 +1,15 @@
 use Rattle.std.proofs.Common.{◌∙◌, ap, subst, sym}
-use Rattle.tds_relay.specs.declared.desk.Desk as code
-use Rattle.tds_relay.specs.Hall.{Ends, closes, end_at}
+use Rattle.tds_relay.specs.declared.pool.Pool as code
+use Rattle.tds_relay.specs.Core.{Ends, closes, end_at}
 use Rattle.tds_relay.specs.Taking.{IsDeaf}
-use Rattle.tds_relay.specs.Ties.{Reaches, desk_in}
+use Rattle.tds_relay.specs.Ties.{Reaches, pool_in}
 use Rattle.tds_relay.proofs.steps.Fronts.{moves_closes}
 use Rattle.tds_relay.proofs.steps.Reaching.{ok_if, ok_more}
 use Rattle.tds_relay.proofs.steps.Staying.{stays_same}
 use Rattle.tds_relay.proofs.steps.Told.{deaf_closed}
 use Rattle.tds_relay.proofs.bytes.Calls.{stand_at}
 use Rattle.tds_relay.proofs.spared.Resting.{all_on, same_on}
-use Rattle.tds_relay.specs.Fronts.{hall_in}
+use Rattle.tds_relay.specs.Fronts.{core_in}
 use Rattle.tds_relay.proofs.spared.Apart.{alone_both, alone_changed}
 use Rattle.tds_relay.proofs.spared.Ordered.{ordered_closing}
 use Rattle.tds_relay.specs.Closings.{Itself}
@@ -20,14 +20,14 @@ use Rattle.tds_relay.proofs.spared.Filling.{own_behind, own_end}
 use Rattle.tds_relay.proofs.relay.Relay.fail.Goals as goal
 
 pub returns-clause-goes : goal.returns-clause-goes
-returns-clause-goes c = ok_if c.end.result _ (λ by from h. subst (λ (d : code.Desk). Reaches by from (desk_in d)) (sym c.end.ensures.desk) (c.in_ok-lose_own.ensures.goes by from h))
+returns-clause-goes c = ok_if c.end.result _ (λ by from h. subst (λ (d : code.Pool). Reaches by from (pool_in d)) (sym c.end.ensures.pool) (c.in_ok-lose_own.ensures.goes by from h))
 
 pub returns-clause-kept : goal.returns-clause-kept
 returns-clause-kept c = ok_more c.end.result _ _ (λ k. k ∙ c.in_ok-lose_own.ensures.kept) c.end.ensures.kept
 
 pub returns-clause-moves : goal.returns-clause-moves
 returns-clause-moves c =
-    ok_more c.end.result _ _ (λ e by from h. moves_closes by from _ _ _ _ c.args.key (ap desk_in c.end.ensures.desk) e (c.in_ok-lose_own.ensures.moves by from h)) c.end.ensures.ends
+    ok_more c.end.result _ _ (λ e by from h. moves_closes by from _ _ _ _ c.args.key (ap pool_in c.end.ensures.pool) e (c.in_ok-lose_own.ensures.moves by from h)) c.end.ensures.ends
 
 pub returns-clause-over : goal.returns-clause-over
 returns-clause-over c = ok_more c.end.result _ _ (λ e. subst (λ (es : Ends). IsDeaf (end_at es c.args.key)) (sym e) (deaf_closed c.args.key _)) c.end.ensures.ends
@@ -36,16 +36,16 @@ pub returns-clause-read : goal.returns-clause-read
 returns-clause-read c = stays_same c.end.result _ _ _ c.in_ok-lose_own.ensures.read c.end.ensures.links
 
 pub returns-clause-stand : goal.returns-clause-stand
-returns-clause-stand c = ok_if c.end.result _ (stand_at _ _ _ c.in_ok-lose_own.ensures.stand c.end.ensures.desk)
+returns-clause-stand c = ok_if c.end.result _ (stand_at _ _ _ c.in_ok-lose_own.ensures.stand c.end.ensures.pool)
 
 pub returns-clause-rests : goal.returns-clause-rests
 returns-clause-rests c = λ reached.
     all_on c.end.result c.args.self.now c.lose_own.new.self c.end.new.self (c.in_ok-lose_own.ensures.rests reached)
-    (same_on c.end.result c.lose_own.new.self c.end.new.self c.end.ensures.desk c.end.ensures.links c.end.ensures.asks)
+    (same_on c.end.result c.lose_own.new.self c.end.new.self c.end.ensures.pool c.end.ensures.links c.end.ensures.asks)
 
 pub returns-clause-alone : goal.returns-clause-alone
-returns-clause-alone c = ok_more c.end.result _ _ (λ e. alone_both c.args.key (hall_in c.args.self.now) (hall_in c.lose_own.new.self) (hall_in c.end.new.self) c.in_ok-lose_own.ensures.alone
-    (alone_changed c.args.key closes (hall_in c.lose_own.new.self) (hall_in c.end.new.self) e (ap (λ (d : code.Desk). (desk_in d).line) c.end.ensures.desk))) c.end.ensures.ends
+returns-clause-alone c = ok_more c.end.result _ _ (λ e. alone_both c.args.key (core_in c.args.self.now) (core_in c.lose_own.new.self) (core_in c.end.new.self) c.in_ok-lose_own.ensures.alone
+    (alone_changed c.args.key closes (core_in c.lose_own.new.self) (core_in c.end.new.self) e (ap (λ (d : code.Pool). (pool_in d).line) c.end.ensures.pool))) c.end.ensures.ends
 
 pub returns-clause-ordered : goal.returns-clause-ordered
 returns-clause-ordered c = ordered_closing c.end.result _ _ _ _ c.end.ensures.ordered c.in_ok-lose_own.ensures.ordered
@@ -57,7 +57,7 @@ pub returns-clause-answers : goal.returns-clause-answers
 returns-clause-answers c = answers_then c.end.result _ _ _ c.in_ok-lose_own.ensures.answers c.end.ensures.links
 
 pub returns-clause-seated : goal.returns-clause-seated
-returns-clause-seated c = λ s. kept_end c.end.result c.lose_own.new.self c.end.new.self c.end.ensures.desk c.end.ensures.links (c.in_ok-lose_own.ensures.seated s)
+returns-clause-seated c = λ s. kept_end c.end.result c.lose_own.new.self c.end.new.self c.end.ensures.pool c.end.ensures.links (c.in_ok-lose_own.ensures.seated s)
 
 pub returns-clause-own : goal.returns-clause-own
-returns-clause-own c = own_behind c.end.result c.args.key c.args.self.now c.lose_own.new.self c.end.new.self c.in_ok-lose_own.ensures.own (own_end c.end.result c.args.key c.lose_own.new.self c.end.new.self c.end.ensures.desk c.end.ensures.links)
+returns-clause-own c = own_behind c.end.result c.args.key c.args.self.now c.lose_own.new.self c.end.new.self c.in_ok-lose_own.ensures.own (own_end c.end.result c.args.key c.lose_own.new.self c.end.new.self c.end.ensures.pool c.end.ensures.links)

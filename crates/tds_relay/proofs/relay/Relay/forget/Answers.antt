@@ -1,24 +1,26 @@
 use Rattle.tds_relay.specs.Ties.{Application}
 use Rattle.tds_relay.proofs.steps.Fronts.{moves_does}
-use Rattle.tds_relay.proofs.steps.Reaching.{ok_more}
+use Rattle.tds_relay.proofs.steps.Reaching.{ok_more, ok_if}
 use Rattle.tds_relay.proofs.steps.Staying.{stays_from, stays_refl, stays_then}
 use Rattle.tds_relay.proofs.bytes.Calls.{stand_on}
 use Rattle.tds_relay.proofs.steps.Bodied.{forgot_on}
 use Rattle.tds_relay.specs.declared.link.Link.{Link}
 use Rattle.tds_relay.specs.Fronts.{ends_in}
-use Rattle.tds_relay.specs.Hall.{Ends, end_at}
+use Rattle.tds_relay.specs.Core.{Ends, end_at}
 use Rattle.tds_relay.specs.Reasons.{CannotUnask, IsUnheld}
 use Rattle.tds_relay.proofs.spared.Reasons.{for_that, forgotten}
 use Rattle.tds_relay.proofs.spared.Closings.{closes_first, closes_nobody}
 use Rattle.tds_relay.proofs.seats.Relays.{unwaited}
-use Rattle.std.proofs.Common.{ap, List, refl, rules, subst, ◌⊎◌}
+use Rattle.std.proofs.Common.{ap, inl, List, refl, rules, subst, ◌⊎◌}
 use Rattle.tds_relay.proofs.spared.Speaking.{reached_by}
 use Rattle.tds_relay.proofs.spared.Resting.{others_on}
 use Rattle.slab.specs.Slab.{get}
 use Rattle.tds_relay.proofs.spared.Elsewhere.{aside_on, aside_same}
-use Rattle.tds_relay.specs.Desk.{Desk}
+use Rattle.tds_relay.specs.Pool.{Pool, find_key}
 use Rattle.tds_relay.specs.Bodies.{body_of, going_of, standing_in}
 use Rattle.tds_relay.proofs.steps.Halting.{cancelled_unsent, forgot_cancelled}
+use Rattle.tds_relay.proofs.steps.Tied.{stays_closed}
+use Rattle.tds_relay.proofs.steps.Still.{asked_moves, links_same, moves}
 use Rattle.tds_relay.proofs.relay.Relay.forget.Goals as goal
 
 pub returns-then-was_asked-clause-moves : goal.returns-then-was_asked-clause-moves
@@ -52,9 +54,9 @@ returns-then-was_asked-clause-closes c =
     let end = (end_at (ends_in c.args.self.now.applications) c.args.key) in
     closes_first c.unask.result _ _ _ _
     (for_that c.unask.result c.args.key _ _ _ _
-    (λ why. forgotten c.args.key end c.args.self.now.desk mid.desk c.args.self.now.links.items (get c.args.self.now.applications c.args.key) (c.forget_request-was_asked.ensures.asked (search rules)) c.forget_request-was_asked.ensures.holds c.forget_request-was_asked.ensures.service
-    (subst (λ (ls : List Link). IsUnheld c.args.key mid.desk ⊎ CannotUnask c.args.key end mid.desk ls) c.forget_request-was_asked.ensures.links
-    (subst (λ (es : Ends). IsUnheld c.args.key mid.desk ⊎ CannotUnask c.args.key (end_at es c.args.key) mid.desk mid.links.items) c.forget_request-was_asked.ensures.ends why)))
+    (λ why. forgotten c.args.key end c.args.self.now.pool mid.pool c.args.self.now.links.items (get c.args.self.now.applications c.args.key) (c.forget_request-was_asked.ensures.asked (search rules)) c.forget_request-was_asked.ensures.holds c.forget_request-was_asked.ensures.service
+    (subst (λ (ls : List Link). IsUnheld c.args.key mid.pool ⊎ CannotUnask c.args.key end mid.pool ls) c.forget_request-was_asked.ensures.links
+    (subst (λ (es : Ends). IsUnheld c.args.key mid.pool ⊎ CannotUnask c.args.key (end_at es c.args.key) mid.pool mid.links.items) c.forget_request-was_asked.ensures.ends why)))
     c.unask.ensures.closes)
     c.forget_request-was_asked.ensures.closes
 
@@ -62,32 +64,42 @@ pub returns-else-was_asked-clause-closes : goal.returns-else-was_asked-clause-cl
 returns-else-was_asked-clause-closes c = closes_nobody _ _ _ c.forget_request-was_asked.ensures.closes
 
 pub returns-then-was_asked-clause-seated : goal.returns-then-was_asked-clause-seated
-returns-then-was_asked-clause-seated c = λ s. c.unask.ensures.seated (unwaited c.args.key c.args.self.now.desk c.forget_request-was_asked.new.self c.args.self.now.links.items c.forget_request-was_asked.ensures.turns c.forget_request-was_asked.ensures.service c.forget_request-was_asked.ensures.links s)
+returns-then-was_asked-clause-seated c = λ s. c.unask.ensures.seated (unwaited c.args.key c.args.self.now.pool c.forget_request-was_asked.new.self c.args.self.now.links.items c.forget_request-was_asked.ensures.turns c.forget_request-was_asked.ensures.service c.forget_request-was_asked.ensures.links s)
 
 pub returns-else-was_asked-clause-seated : goal.returns-else-was_asked-clause-seated
-returns-else-was_asked-clause-seated c = λ s. unwaited c.args.key c.args.self.now.desk c.forget_request-was_asked.new.self c.args.self.now.links.items c.forget_request-was_asked.ensures.turns c.forget_request-was_asked.ensures.service c.forget_request-was_asked.ensures.links s
+returns-else-was_asked-clause-seated c = λ s. unwaited c.args.key c.args.self.now.pool c.forget_request-was_asked.new.self c.args.self.now.links.items c.forget_request-was_asked.ensures.turns c.forget_request-was_asked.ensures.service c.forget_request-was_asked.ensures.links s
 
 pub returns-then-was_asked-clause-others : goal.returns-then-was_asked-clause-others
 returns-then-was_asked-clause-others c = λ reached.
-    others_on c.unask.result c.args.key c.args.self.now c.forget_request-was_asked.new.self c.unask.new.self (c.unask.ensures.others (reached_by c.args.key c.args.self.now.desk c.forget_request-was_asked.new.self.desk c.forget_request-was_asked.ensures.goes reached)) c.forget_request-was_asked.ensures.others
+    others_on c.unask.result c.args.key c.args.self.now c.forget_request-was_asked.new.self c.unask.new.self (c.unask.ensures.others (reached_by c.args.key c.args.self.now.pool c.forget_request-was_asked.new.self.pool c.forget_request-was_asked.ensures.goes reached)) c.forget_request-was_asked.ensures.others
 
 pub returns-else-was_asked-clause-others : goal.returns-else-was_asked-clause-others
 returns-else-was_asked-clause-others c = λ reached. c.forget_request-was_asked.ensures.others
 
 pub returns-then-was_asked-clause-aside : goal.returns-then-was_asked-clause-aside
 returns-then-was_asked-clause-aside c = λ reached.
-    aside_on c.unask.result c.args.key c.args.self.now c.forget_request-was_asked.new.self c.unask.new.self (aside_same c.args.key c.args.self.now c.forget_request-was_asked.new.self (ap (λ (d : Desk). d.holds) c.forget_request-was_asked.ensures.turns.desk_is) c.forget_request-was_asked.ensures.links)
-    (c.unask.ensures.aside (reached_by c.args.key c.args.self.now.desk c.forget_request-was_asked.new.self.desk c.forget_request-was_asked.ensures.goes reached))
+    aside_on c.unask.result c.args.key c.args.self.now c.forget_request-was_asked.new.self c.unask.new.self (aside_same c.args.key c.args.self.now c.forget_request-was_asked.new.self (ap (λ (d : Pool). d.holds) c.forget_request-was_asked.ensures.turns.pool_is) c.forget_request-was_asked.ensures.links)
+    (c.unask.ensures.aside (reached_by c.args.key c.args.self.now.pool c.forget_request-was_asked.new.self.pool c.forget_request-was_asked.ensures.goes reached))
 
 pub returns-else-was_asked-clause-aside : goal.returns-else-was_asked-clause-aside
-returns-else-was_asked-clause-aside c = λ reached. (aside_same c.args.key c.args.self.now c.forget_request-was_asked.new.self (ap (λ (d : Desk). d.holds) c.forget_request-was_asked.ensures.turns.desk_is) c.forget_request-was_asked.ensures.links)
+returns-else-was_asked-clause-aside c = λ reached. (aside_same c.args.key c.args.self.now c.forget_request-was_asked.new.self (ap (λ (d : Pool). d.holds) c.forget_request-was_asked.ensures.turns.pool_is) c.forget_request-was_asked.ensures.links)
 
 pub returns-then-was_asked-clause-cancels : goal.returns-then-was_asked-clause-cancels
 returns-then-was_asked-clause-cancels c =
     forgot_cancelled c.unask.result c.args.key c.args.self.now c.forget_request-was_asked.new.self c.unask.new.self c.forget_request-was_asked.ensures.holds c.forget_request-was_asked.ensures.service
-    c.forget_request-was_asked.ensures.links c.unask.ensures.cancels
+    c.forget_request-was_asked.ensures.links c.forget_request-was_asked.ensures.ends c.unask.ensures.asks c.unask.ensures.cancels
 
 pub returns-else-was_asked-clause-cancels : goal.returns-else-was_asked-clause-cancels
 returns-else-was_asked-clause-cancels c =
-    cancelled_unsent (body_of c.args.key c.args.self.now) (standing_in c.args.key c.forget_request-was_asked.new.self)
+    let mid = c.forget_request-was_asked.new.self in
+    cancelled_unsent (body_of c.args.key c.args.self.now) (standing_in c.args.key mid) (stays_closed c.args.key c.args.self.now mid mid c.forget_request-was_asked.ensures.ends (λ k goes. inl refl))
     (c.forget_request-was_asked.ensures.unasked (search rules) (going_of c.args.key c.args.self.now))
+
+pub returns-then-was_asked-clause-puts : goal.returns-then-was_asked-clause-puts
+returns-then-was_asked-clause-puts c =
+    let r = c.args.self.now in
+    let goes = going_of c.args.key r in
+    ok_if c.unask.result _ (λ still number. absurd (asked_moves (body_of c.args.key r) goes (moves r.pool.service r.links.items (find_key c.args.key r.pool.holds.items)) (c.forget_request-was_asked.ensures.asked (search rules) goes) still))
+
+pub returns-else-was_asked-clause-puts : goal.returns-else-was_asked-clause-puts
+returns-else-was_asked-clause-puts c = λ still number. links_same number c.args.self.now.links.items c.forget_request-was_asked.new.self.links.items c.forget_request-was_asked.ensures.links

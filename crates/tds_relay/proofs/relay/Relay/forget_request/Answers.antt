@@ -1,7 +1,7 @@
 use Rattle.std.proofs.Common.{refl, rules, ◌≡◌}
 use Rattle.tds_relay.specs.Ties.{Application}
 use Rattle.tds_relay.proofs.steps.Fronts.{ends_kept}
-use Rattle.tds_relay.proofs.steps.Posting.{posts_kept}
+use Rattle.tds_relay.proofs.steps.Queueing.{queues_kept}
 use Rattle.tds_relay.proofs.steps.Reaching.{reaches_turn}
 use Rattle.tds_relay.proofs.steps.Bodied.{none_starts, nothing_starts}
 use Rattle.tds_relay.specs.Closings.{Nobody}
@@ -20,7 +20,7 @@ pub returns-clause-goes : goal.returns-clause-goes
 returns-clause-goes c = λ from h. reaches_turn (Application c.args.key) from _ _ _ _ _ c.unwait.ensures.turns refl h
 
 pub returns-clause-kept : goal.returns-clause-kept
-returns-clause-kept c = posts_kept c.args.self.now.applications c.args.key c.in-Some.application.now _ c.in-Some.ensures.value c.forget.ensures.post
+returns-clause-kept c = queues_kept c.args.self.now.applications c.args.key c.in-Some.application.now _ c.in-Some.ensures.value c.forget.ensures.queue
 
 pub returns-clause-ends : goal.returns-clause-ends
 returns-clause-ends c = ends_kept c.args.self.now.applications c.args.key c.in-Some.application.now _ c.in-Some.ensures.value c.forget.ensures.end
@@ -32,7 +32,7 @@ pub returns-clause-body : goal.returns-clause-body
 returns-clause-body c = λ goes. nothing_starts c.args.self.now.applications c.args.key c.in-Some.application.now _ goes c.in-Some.ensures.value c.forget.ensures.asking
 
 pub returns-clause-closes : goal.returns-clause-closes
-returns-clause-closes c = closes_kept Nobody _ _ (ends_kept c.args.self.now.applications c.args.key c.in-Some.application.now _ c.in-Some.ensures.value c.forget.ensures.end) (posts_kept c.args.self.now.applications c.args.key c.in-Some.application.now _ c.in-Some.ensures.value c.forget.ensures.post) refl (kept_refl c.args.self.now.links.items) (unclosed _ _ refl)
+returns-clause-closes c = closes_kept Nobody _ _ (ends_kept c.args.self.now.applications c.args.key c.in-Some.application.now _ c.in-Some.ensures.value c.forget.ensures.end) (queues_kept c.args.self.now.applications c.args.key c.in-Some.application.now _ c.in-Some.ensures.value c.forget.ensures.queue) refl (kept_refl c.args.self.now.links.items) (unclosed _ _ refl)
 
 pub returns-in_default-clause-others : goal.returns-in_default-clause-others
 returns-in_default-clause-others c = unwaited_rest c.args.key c.args.self.now _ (search rules) c.unwait.ensures.service refl refl

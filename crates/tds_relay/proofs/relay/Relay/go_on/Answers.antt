@@ -1,19 +1,19 @@
-use Rattle.std.proofs.Common.{ap, refl, ◌≡◌, ◌∙◌, Option, rules, subst, sym, false}
+use Rattle.std.proofs.Common.{ap, refl, ◌≡◌, ◌∙◌, Option, rules, subst, sym, false, ℕ}
 use Rattle.tds_relay.specs.declared.application.Asking.TheVariants as asking
 use Rattle.tds_relay.specs.Fronts.{ends_in}
-use Rattle.tds_relay.specs.Hall.{Ends, change_end, closes, end_at, IfOpen, IsBegun}
+use Rattle.tds_relay.specs.Core.{Ends, change_end, closes, end_at, IfOpen, IsBegun}
 use Rattle.tds_relay.specs.Reasons.{CannotGoOn, CannotPut, ItselfFor, room_left, IsUnbegun}
 use Rattle.tds_relay.proofs.spared.Turned.{turned_goes}
 use Rattle.tds_relay.proofs.spared.Reasons.{for_reason, for_that, nothing_goes, put_goes, too_long, unbegun_goes}
 use Rattle.tds_relay.specs.Ties.{Application}
 use Rattle.tds_relay.proofs.steps.Fronts.{ends_kept, moves_closes, moves_same}
 use Rattle.tds_relay.proofs.steps.Reaching.{ok_if, ok_more}
-use Rattle.tds_relay.specs.Bodies.{Closed, Shuts, Stays, body_of, going_of}
+use Rattle.tds_relay.specs.Bodies.{Closed, Shuts, Stays, body_of, going_of, standing_in}
 use Rattle.slab.specs.Slab.{get, with_value}
-use Rattle.tds_relay.proofs.steps.Bodied.{none_closed, shut_starts}
+use Rattle.tds_relay.proofs.steps.Bodied.{none_closed, shut_starts, shut}
 use Rattle.tds_relay.proofs.steps.Going.{grows_going, grows_kept, grows_then}
 use Rattle.tds_relay.proofs.steps.Underway.{written_there}
-use Rattle.tds_relay.proofs.steps.Posting.{posts_kept}
+use Rattle.tds_relay.proofs.steps.Queueing.{queues_kept}
 use Rattle.tds_relay.specs.Closings.{Itself}
 use Rattle.tds_relay.proofs.spared.Closings.{closes_on}
 use Rattle.tds_relay.proofs.spared.Sending.{kept_refl}
@@ -24,6 +24,10 @@ use Rattle.tds_relay.proofs.spared.Lined.{fits_not, goes_waits, kept_more, no_ap
 use Rattle.tds_relay.proofs.spared.Resting.{others_on, others_refl, written_rest}
 use Rattle.tds_relay.proofs.steps.Fed.{end_there}
 use Rattle.tds_relay.proofs.spared.Elsewhere.{aside_refl, keeps_own}
+use Rattle.tds_relay.specs.Reads.{waits_on}
+use Rattle.tds_relay.proofs.steps.Still.{none_shut, put_going, put_shut}
+use Rattle.tds_relay.proofs.spared.Rightly.{deaf_right_on, unkept_right}
+use Rattle.tds_relay.proofs.spared.Starting.{put_unkept_on, unkept_none}
 use Rattle.tds_relay.proofs.relay.Relay.go_on.Goals as goal
 
 pub returns-then-not-branch-clause-moves : goal.returns-then-not-branch-clause-moves
@@ -110,15 +114,15 @@ returns-else-not-branch-clause-keeps c = λ none.
 
 pub returns-in-Nothing-clause-closes : goal.returns-in-Nothing-clause-closes
 returns-in-Nothing-clause-closes c = for_reason c.expel.result c.args.key _ _ _
-    (nothing_goes c.args.whole c.args.bytes.now c.args.key _ _ c.args.self.now.desk c.args.self.now.links.items (get c.args.self.now.applications c.args.key) c.in-Some.application.now (going_of c.args.key c.args.self.now) c.in-Some.ensures.value (search rules))
+    (nothing_goes c.args.whole c.args.bytes.now c.args.key _ _ c.args.self.now.pool c.args.self.now.links.items (get c.args.self.now.applications c.args.key) c.in-Some.application.now (going_of c.args.key c.args.self.now) c.in-Some.ensures.value (search rules))
     (closes_on c.expel.result (Itself c.args.key) _ _ _ c.expel.ensures.closes
-    (closes_kept (Itself c.args.key) _ _ (ends_kept c.args.self.now.applications c.args.key c.in-Some.application.now c.in-Some.application.now c.in-Some.ensures.value refl) (posts_kept c.args.self.now.applications c.args.key c.in-Some.application.now c.in-Some.application.now c.in-Some.ensures.value refl) refl (kept_refl c.args.self.now.links.items) (unclosed _ _ refl)))
+    (closes_kept (Itself c.args.key) _ _ (ends_kept c.args.self.now.applications c.args.key c.in-Some.application.now c.in-Some.application.now c.in-Some.ensures.value refl) (queues_kept c.args.self.now.applications c.args.key c.in-Some.application.now c.in-Some.application.now c.in-Some.ensures.value refl) refl (kept_refl c.args.self.now.links.items) (unclosed _ _ refl)))
 
 pub returns-then-not-branch-clause-closes : goal.returns-then-not-branch-clause-closes
 returns-then-not-branch-clause-closes c = for_reason c.expel-then-not-branch.result c.args.key _ _ _
-    (too_long c.args.whole c.args.bytes.now c.args.key _ c.args.self.now.desk c.args.self.now.links.items (get c.args.self.now.applications c.args.key) c.in-Some.application.now (going_of c.args.key c.args.self.now) c.in-Waits.kind _ c.in-Some.ensures.value c.in-Waits.is (c.in_ok-keep-in-Waits.ensures.long (search rules)))
+    (too_long c.args.whole c.args.bytes.now c.args.key _ c.args.self.now.pool c.args.self.now.links.items (get c.args.self.now.applications c.args.key) c.in-Some.application.now (going_of c.args.key c.args.self.now) c.in-Waits.kind _ c.in-Some.ensures.value c.in-Waits.is (c.in_ok-keep-in-Waits.ensures.long (search rules)))
     (closes_on c.expel-then-not-branch.result (Itself c.args.key) _ _ _ c.expel-then-not-branch.ensures.closes
-    (closes_kept (Itself c.args.key) _ _ (ends_kept c.args.self.now.applications c.args.key c.in-Some.application.now c.keep.new.self c.in-Some.ensures.value c.keep.ensures.end) (posts_kept c.args.self.now.applications c.args.key c.in-Some.application.now c.keep.new.self c.in-Some.ensures.value c.keep.ensures.post) refl (kept_refl c.args.self.now.links.items) (unclosed _ _ refl)))
+    (closes_kept (Itself c.args.key) _ _ (ends_kept c.args.self.now.applications c.args.key c.in-Some.application.now c.keep.new.self c.in-Some.ensures.value c.keep.ensures.end) (queues_kept c.args.self.now.applications c.args.key c.in-Some.application.now c.keep.new.self c.in-Some.ensures.value c.keep.ensures.queue) refl (kept_refl c.args.self.now.links.items) (unclosed _ _ refl)))
 
 pub returns-else-not-branch-clause-closes : goal.returns-else-not-branch-clause-closes
 returns-else-not-branch-clause-closes c =
@@ -130,12 +134,12 @@ returns-else-not-branch-clause-closes c =
     let r = c.args.self.now in
     let same = ends_kept s key a b c.in-Some.ensures.value c.keep.ensures.end in
     let kept = c.in_ok-keep-in-Waits.ensures.body (search rules) in
-    closes_on c.seek.result (ItselfFor key (CannotGoOn whole c.args.bytes.now key (end_at (ends_in s) key) (room_left (get s key)) r.desk r.links.items (body_of key r))) _ _ _
+    closes_on c.seek.result (ItselfFor key (CannotGoOn whole c.args.bytes.now key (end_at (ends_in s) key) (room_left (get s key)) r.pool r.links.items (body_of key r))) _ _ _
     (for_that c.seek.result key _ _ _ _
-    (λ why. subst (λ (es : Ends). CannotGoOn whole c.args.bytes.now key (end_at es key) (room_left (get s key)) r.desk r.links.items (body_of key r)) same
-    (turned_goes whole _ c.args.bytes.now key _ _ r.desk r.links.items (get s key) (get (with_value s key b) key) a b (going_of key r) _ c.in-Waits.kind c.in-Some.ensures.value (written_there s key a b c.in-Some.ensures.value) c.in-Waits.is kept.0 kept.1
+    (λ why. subst (λ (es : Ends). CannotGoOn whole c.args.bytes.now key (end_at es key) (room_left (get s key)) r.pool r.links.items (body_of key r)) same
+    (turned_goes whole _ c.args.bytes.now key _ _ r.pool r.links.items (get s key) (get (with_value s key b) key) a b (going_of key r) _ c.in-Waits.kind c.in-Some.ensures.value (written_there s key a b c.in-Some.ensures.value) c.in-Waits.is kept.0 kept.1
     (c.in_ok-keep-in-Waits.ensures.asks (search rules)) why)) c.seek.ensures.closes)
-    (closes_kept _ _ _ same (posts_kept s key a b c.in-Some.ensures.value c.keep.ensures.post) refl (kept_refl r.links.items) (unclosed _ _ refl))
+    (closes_kept _ _ _ same (queues_kept s key a b c.in-Some.ensures.value c.keep.ensures.queue) refl (kept_refl r.links.items) (unclosed _ _ refl))
 
 pub returns-in-Goes-clause-closes : goal.returns-in-Goes-clause-closes
 returns-in-Goes-clause-closes c =
@@ -143,11 +147,11 @@ returns-in-Goes-clause-closes c =
     let a = c.in-Some.application.now in
     let s = c.args.self.now.applications in
     let same = ends_kept s c.args.key a a c.in-Some.ensures.value refl in
-    closes_on c.put.result (ItselfFor c.args.key (CannotGoOn whole c.args.bytes.now c.args.key (end_at (ends_in s) c.args.key) (room_left (get s c.args.key)) c.args.self.now.desk c.args.self.now.links.items (body_of c.args.key c.args.self.now))) _ _ _
+    closes_on c.put.result (ItselfFor c.args.key (CannotGoOn whole c.args.bytes.now c.args.key (end_at (ends_in s) c.args.key) (room_left (get s c.args.key)) c.args.self.now.pool c.args.self.now.links.items (body_of c.args.key c.args.self.now))) _ _ _
     (for_that c.put.result c.args.key _ _ _ _
-    (λ why. put_goes whole c.args.bytes.now c.args.key _ _ c.args.self.now.desk c.args.self.now.links.items (get s c.args.key) a c.in-Some.ensures.value (search rules)
-    (subst (λ (es : Ends). CannotPut whole c.args.bytes.now c.args.key (end_at es c.args.key) c.args.self.now.desk c.args.self.now.links.items) same why)) c.put.ensures.closes)
-    (closes_kept _ _ _ (ends_kept c.args.self.now.applications c.args.key c.in-Some.application.now c.in-Some.application.now c.in-Some.ensures.value refl) (posts_kept c.args.self.now.applications c.args.key c.in-Some.application.now c.in-Some.application.now c.in-Some.ensures.value refl) refl (kept_refl c.args.self.now.links.items) (unclosed _ _ refl))
+    (λ why. put_goes whole c.args.bytes.now c.args.key _ _ c.args.self.now.pool c.args.self.now.links.items (get s c.args.key) a c.in-Some.ensures.value (search rules)
+    (subst (λ (es : Ends). CannotPut whole c.args.bytes.now c.args.key (end_at es c.args.key) c.args.self.now.pool c.args.self.now.links.items) same why)) c.put.ensures.closes)
+    (closes_kept _ _ _ (ends_kept c.args.self.now.applications c.args.key c.in-Some.application.now c.in-Some.application.now c.in-Some.ensures.value refl) (queues_kept c.args.self.now.applications c.args.key c.in-Some.application.now c.in-Some.application.now c.in-Some.ensures.value refl) refl (kept_refl c.args.self.now.links.items) (unclosed _ _ refl))
 
 pub returns-in_default-clause-others : goal.returns-in_default-clause-others
 returns-in_default-clause-others c = λ reached. others_refl c.args.key c.args.self.now
@@ -185,10 +189,10 @@ returns-then-not-may_put-clause-others c = λ reached. others_on c.expel-then-no
 
 pub returns-then-not-may_put-clause-closes : goal.returns-then-not-may_put-clause-closes
 returns-then-not-may_put-clause-closes c = for_reason c.expel-then-not-may_put.result c.args.key _ _ _
-    (unbegun_goes c.args.whole c.args.bytes.now c.args.key _ _ c.args.self.now.desk c.args.self.now.links.items (get c.args.self.now.applications c.args.key) c.in-Some.application.now (going_of c.args.key c.args.self.now) c.in-Waits.kind _ c.in-Some.ensures.value c.in-Waits.is
+    (unbegun_goes c.args.whole c.args.bytes.now c.args.key _ _ c.args.self.now.pool c.args.self.now.links.items (get c.args.self.now.applications c.args.key) c.in-Some.application.now (going_of c.args.key c.args.self.now) c.in-Waits.kind _ c.in-Some.ensures.value c.in-Waits.is
     (subst (IfOpen (IsUnbegun false)) (sym (end_there c.args.self.now.applications c.args.key c.in-Some.application.now c.in-Some.ensures.value)) (c.may_put.ensures.unbegun (search rules))))
     (closes_on c.expel-then-not-may_put.result (Itself c.args.key) _ _ _ c.expel-then-not-may_put.ensures.closes
-    (closes_kept (Itself c.args.key) _ _ (ends_kept c.args.self.now.applications c.args.key c.in-Some.application.now c.in-Some.application.now c.in-Some.ensures.value refl) (posts_kept c.args.self.now.applications c.args.key c.in-Some.application.now c.in-Some.application.now c.in-Some.ensures.value refl) refl (kept_refl c.args.self.now.links.items) (unclosed _ _ refl)))
+    (closes_kept (Itself c.args.key) _ _ (ends_kept c.args.self.now.applications c.args.key c.in-Some.application.now c.in-Some.application.now c.in-Some.ensures.value refl) (queues_kept c.args.self.now.applications c.args.key c.in-Some.application.now c.in-Some.application.now c.in-Some.ensures.value refl) refl (kept_refl c.args.self.now.links.items) (unclosed _ _ refl)))
 
 pub returns-then-not-may_put-clause-keeps : goal.returns-then-not-may_put-clause-keeps
 returns-then-not-may_put-clause-keeps c = λ none.
@@ -212,4 +216,62 @@ pub returns-then-not-may_put-clause-aside : goal.returns-then-not-may_put-clause
 returns-then-not-may_put-clause-aside c = λ reached. c.expel-then-not-may_put.ensures.aside reached
 
 pub returns-in-Goes-clause-aside : goal.returns-in-Goes-clause-aside
-returns-in-Goes-clause-aside c = λ reached. keeps_own c.put.result c.args.key c.args.self.now.desk.holds.items c.put.new.self.desk.holds.items c.args.self.now.links.items c.put.new.self.links.items (c.put.ensures.own reached)
+returns-in-Goes-clause-aside c = λ reached. keeps_own c.put.result c.args.key c.args.self.now.pool.holds.items c.put.new.self.pool.holds.items c.args.self.now.links.items c.put.new.self.links.items (c.put.ensures.own reached)
+
+pub returns-in_default-clause-puts : goal.returns-in_default-clause-puts
+returns-in_default-clause-puts c = (Closed, Shuts, put_shut _ Closed (standing_in c.args.key c.args.self.now) (none_shut c.args.self.now.applications c.args.key (going_of c.args.key c.args.self.now) (search rules)))
+
+pub returns-in-Nothing-clause-puts : goal.returns-in-Nothing-clause-puts
+returns-in-Nothing-clause-puts c = ok_more c.expel.result _ _ (λ d. (Closed, Shuts, put_shut _ Closed (standing_in c.args.key c.expel.new.self) (shut c.expel.new.self.applications c.args.key (going_of c.args.key c.expel.new.self) d))) c.expel.ensures.over
+
+pub returns-then-not-branch-clause-puts : goal.returns-then-not-branch-clause-puts
+returns-then-not-branch-clause-puts c = ok_more c.expel-then-not-branch.result _ _ (λ d. (Closed, Shuts, put_shut _ Closed (standing_in c.args.key c.expel-then-not-branch.new.self) (shut c.expel-then-not-branch.new.self.applications c.args.key (going_of c.args.key c.expel-then-not-branch.new.self) d))) c.expel-then-not-branch.ensures.over
+
+pub returns-then-not-may_put-clause-puts : goal.returns-then-not-may_put-clause-puts
+returns-then-not-may_put-clause-puts c = ok_more c.expel-then-not-may_put.result _ _ (λ d. (Closed, Shuts, put_shut _ Closed (standing_in c.args.key c.expel-then-not-may_put.new.self) (shut c.expel-then-not-may_put.new.self.applications c.args.key (going_of c.args.key c.expel-then-not-may_put.new.self) d))) c.expel-then-not-may_put.ensures.over
+
+pub returns-else-not-branch-clause-puts : goal.returns-else-not-branch-clause-puts
+returns-else-not-branch-clause-puts c =
+    let s = c.args.self.now.applications in
+    let a = c.in-Some.application.now in
+    let there = c.in-Some.ensures.value in
+    let kept = c.in_ok-keep-in-Waits.ensures.body (search rules) in
+    let asked = c.in_ok-keep-in-Waits.ensures.asks (search rules) in
+    ok_more c.seek.result _ _
+    (λ t. (
+      _,
+      grows_kept c.args.whole c.args.bytes.now (get s c.args.key) _ (going_of c.args.key c.args.self.now) _ a _ c.in-Waits.kind _ there (written_there s c.args.key a _ there) c.in-Waits.is asked kept.0 kept.1,
+      t,
+    ))
+    c.seek.ensures.puts
+
+pub returns-in-Goes-clause-puts : goal.returns-in-Goes-clause-puts
+returns-in-Goes-clause-puts c =
+    let s = c.args.self.now.applications in
+    let a = c.in-Some.application.now in
+    let asks : a.asking ≡ asking.Goes = search rules in
+    ok_more c.put.result _ _
+    (λ p. (
+      body_of c.args.key c.put.new.self,
+      grows_going c.args.whole c.args.bytes.now (get (with_value s c.args.key a) c.args.key) (get s c.args.key) (get c.put.new.self.applications c.args.key) (going_of c.args.key c.args.self.now) _ (going_of c.args.key c.put.new.self) a a
+          c.in-Some.ensures.value (written_there s c.args.key a a c.in-Some.ensures.value) asks asks refl refl p,
+      put_going _ (λ (number : ℕ). waits_on number c.args.self.now.links.items) c.args.key s a a c.put.new.self c.in-Some.ensures.value asks p,
+    ))
+    c.put.ensures.body
+
+pub returns-in_default-clause-right : goal.returns-in_default-clause-right
+returns-in_default-clause-right c = unkept_right c.args.key c.args.self.now (unkept_none c.args.self.now.applications c.args.key (going_of c.args.key c.args.self.now) (search rules))
+
+pub returns-in-Nothing-clause-right : goal.returns-in-Nothing-clause-right
+returns-in-Nothing-clause-right c = deaf_right_on c.expel.result c.args.key c.expel.new.self c.expel.ensures.over
+
+pub returns-then-not-may_put-clause-right : goal.returns-then-not-may_put-clause-right
+returns-then-not-may_put-clause-right c = deaf_right_on c.expel-then-not-may_put.result c.args.key c.expel-then-not-may_put.new.self c.expel-then-not-may_put.ensures.over
+
+pub returns-then-not-branch-clause-right : goal.returns-then-not-branch-clause-right
+returns-then-not-branch-clause-right c = deaf_right_on c.expel-then-not-branch.result c.args.key c.expel-then-not-branch.new.self c.expel-then-not-branch.ensures.over
+
+pub returns-in-Goes-clause-right : goal.returns-in-Goes-clause-right
+returns-in-Goes-clause-right c =
+    ok_more c.put.result _ _ (λ un. unkept_right c.args.key c.put.new.self un)
+    (put_unkept_on c.put.result _ c.args.key c.args.self.now.applications c.in-Some.application.now c.in-Some.application.now c.put.new.self c.put.ensures.body c.in-Some.ensures.value (search rules))

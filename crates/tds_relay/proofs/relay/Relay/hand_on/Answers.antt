@@ -1,8 +1,8 @@
 use Rattle.std.proofs.Common.{◌∙◌, List, ap, inl, inr, refl, subst, sym}
 use Rattle.tds_relay.specs.declared.link.Link.{Link}
-use Rattle.tds_relay.specs.Fronts.{ends_in, hall_in, hall_of_ends}
-use Rattle.tds_relay.specs.Hall.{Hall, IsHere, Moves, change_end, closes}
-use Rattle.tds_relay.specs.Ties.{Application, desk_in}
+use Rattle.tds_relay.specs.Fronts.{ends_in, core_in, core_of_ends}
+use Rattle.tds_relay.specs.Core.{Core, IsHere, Moves, change_end, closes, Ends, end_at}
+use Rattle.tds_relay.specs.Ties.{Application, pool_in}
 use Rattle.tds_relay.proofs.steps.Fed.{closed_as_fed, handed_on_is}
 use Rattle.tds_relay.proofs.steps.Fronts.{moves_closes, moves_same, no_moves, open_closed}
 use Rattle.tds_relay.proofs.steps.Reaching.{ok_more}
@@ -19,21 +19,27 @@ use Rattle.tds_relay.proofs.spared.Reasons.{for_reason, for_that, halts_unfit, n
 use Rattle.tds_relay.proofs.spared.Speaking.{halting_held, reached_by}
 use Rattle.tds_relay.proofs.spared.Resting.{others_on}
 use Rattle.tds_relay.proofs.spared.Elsewhere.{aside_on, aside_same}
+use Rattle.tds_relay.proofs.spared.Rightly.{deaf_right_on, right_by}
+use Rattle.tds_relay.specs.Asking.{IsTakenBack}
+use Rattle.tds_relay.specs.Sparing.{IsKept}
+use Rattle.tds_relay.specs.Reads.{open_at}
+use Rattle.std.specs.Prelude.{IsSome}
+use Rattle.tds_relay.proofs.spared.Turned.{kept_asks}
 use Rattle.tds_relay.proofs.relay.Relay.hand_on.Goals as goal
 
 pub returns-in-Some-clause-moves : goal.returns-in-Some-clause-moves
 returns-in-Some-clause-moves c =
     let by = Application c.args.key in
     let now = ends_in c.args.self.now.applications in
-    let d = desk_in c.args.self.now.desk in
+    let d = pool_in c.args.self.now.pool in
     ok_more c.send_stop.result _ _
     (λ m before bytes f. inl (record {
-      mid = hall_of_ends d before;
-      first = no_moves by (hall_of_ends d before);
+      mid = core_of_ends d before;
+      first = no_moves by (core_of_ends d before);
       same = refl;
-      next = subst (λ (h : Hall). Moves by h (hall_in c.send_stop.new.self))
-          (sym (handed_on_is c.args.key d (desk_in c.stop.new.self.desk) before now bytes _ _ f (some_of _ c.in-Some.number _ c.in-Some.is c.in_ok-number.ensures.some).2))
-          (m by _ (moves_same by _ _ _ _ _ refl c.stop.ensures.ends (no_moves by (hall_of_ends (desk_in c.stop.new.self.desk) now))));
+      next = subst (λ (h : Core). Moves by h (core_in c.send_stop.new.self))
+          (sym (handed_on_is c.args.key d (pool_in c.stop.new.self.pool) before now bytes _ _ f (some_of _ c.in-Some.number _ c.in-Some.is c.in_ok-number.ensures.some).2))
+          (m by _ (moves_same by _ _ _ _ _ refl c.stop.ensures.ends (no_moves by (core_of_ends (pool_in c.stop.new.self.pool) now))));
     }))
     c.send_stop.ensures.moves
 
@@ -43,7 +49,7 @@ returns-in-None-clause-moves c =
     let now = ends_in c.args.self.now.applications in
     ok_more c.expel.result _ _
     (λ m before bytes f.
-    let from = hall_of_ends (desk_in c.args.self.now.desk) before in
+    let from = core_of_ends (pool_in c.args.self.now.pool) before in
     let last = m _ (no_moves by _) in
     inr (record {
       moves = m from
@@ -52,7 +58,7 @@ returns-in-None-clause-moves c =
           (c.stop.ensures.moves (change_end c.args.key closes before) (open_closed IsHere before c.args.key) from
           (moves_closes by from _ _ before _ c.args.key refl refl (no_moves by from))));
       deaf = deaf_behind c.args.key _ _ last (deaf_closed c.args.key (ends_in c.stop.new.self.applications));
-      nothing = λ posts. refl;
+      nothing = λ queues. refl;
     }))
     c.expel.ensures.moves
 
@@ -100,11 +106,11 @@ returns-in-Some-clause-others c = λ reached.
     let d = c.stop.new.self in
     let halts = some_of _ c.in-Some.number _ c.in-Some.is c.in_ok-number.ensures.stops in
     others_on c.send_stop.result c.args.key a d c.send_stop.new.self
-    (c.send_stop.ensures.others (reached_by c.args.key a.desk d.desk c.stop.ensures.goes reached) halts.hold (halting_held c.in-Some.number c.args.key a d halts) (sym halts.number_is)) (c.stop.ensures.others reached)
+    (c.send_stop.ensures.others (reached_by c.args.key a.pool d.pool c.stop.ensures.goes reached) halts.hold (halting_held c.in-Some.number c.args.key a d halts) (sym halts.number_is)) (c.stop.ensures.others reached)
 
 pub returns-in-None-clause-others : goal.returns-in-None-clause-others
 returns-in-None-clause-others c = λ reached.
-    others_on c.expel.result c.args.key c.args.self.now c.stop.new.self c.expel.new.self (c.expel.ensures.others (reached_by c.args.key c.args.self.now.desk c.stop.new.self.desk c.stop.ensures.goes reached)) (c.stop.ensures.others reached)
+    others_on c.expel.result c.args.key c.args.self.now c.stop.new.self c.expel.new.self (c.expel.ensures.others (reached_by c.args.key c.args.self.now.pool c.stop.new.self.pool c.stop.ensures.goes reached)) (c.stop.ensures.others reached)
 
 pub returns-in-Some-clause-aside : goal.returns-in-Some-clause-aside
 returns-in-Some-clause-aside c = λ reached.
@@ -112,10 +118,24 @@ returns-in-Some-clause-aside c = λ reached.
     let d = c.stop.new.self in
     let halts = some_of _ c.in-Some.number _ c.in-Some.is c.in_ok-number.ensures.stops in
     aside_on c.send_stop.result c.args.key a d c.send_stop.new.self (aside_same c.args.key a d c.stop.ensures.holds c.stop.ensures.links)
-    (c.send_stop.ensures.aside (reached_by c.args.key a.desk d.desk c.stop.ensures.goes reached) halts.hold (halting_held c.in-Some.number c.args.key a d halts) (sym halts.number_is))
+    (c.send_stop.ensures.aside (reached_by c.args.key a.pool d.pool c.stop.ensures.goes reached) halts.hold (halting_held c.in-Some.number c.args.key a d halts) (sym halts.number_is))
 
 pub returns-in-None-clause-aside : goal.returns-in-None-clause-aside
 returns-in-None-clause-aside c = λ reached.
     let a = c.args.self.now in
     let d = c.stop.new.self in
-    aside_on c.expel.result c.args.key a d c.expel.new.self (aside_same c.args.key a d c.stop.ensures.holds c.stop.ensures.links) (c.expel.ensures.aside (reached_by c.args.key a.desk d.desk c.stop.ensures.goes reached))
+    aside_on c.expel.result c.args.key a d c.expel.new.self (aside_same c.args.key a d c.stop.ensures.holds c.stop.ensures.links) (c.expel.ensures.aside (reached_by c.args.key a.pool d.pool c.stop.ensures.goes reached))
+
+pub returns-in-Some-clause-right : goal.returns-in-Some-clause-right
+returns-in-Some-clause-right c = λ right.
+    let old = c.args.self.now in
+    let mid = c.stop.new.self in
+    c.send_stop.ensures.right
+    (right_by c.args.key old mid c.stop.ensures.holds (λ back. subst (λ (es : Ends). IsTakenBack (end_at es c.args.key)) (sym c.stop.ensures.ends) back)
+    (λ kept. subst IsKept (sym (kept_asks c.args.key mid old c.stop.ensures.asks kept)) kept) (λ n some. subst (λ (ls : List Link). IsSome (open_at n ls)) c.stop.ensures.links some) right)
+
+pub returns-in-None-clause-right : goal.returns-in-None-clause-right
+returns-in-None-clause-right c = λ right. deaf_right_on c.expel.result c.args.key c.expel.new.self c.expel.ensures.over
+
+pub returns-in-Some-clause-goes : goal.returns-in-Some-clause-goes
+returns-in-Some-clause-goes c = ok_more c.send_stop.result _ _ (λ g from h. g (Application c.args.key) from (c.stop.ensures.goes from h)) c.send_stop.ensures.goes

@@ -1,12 +1,12 @@
-use Rattle.tds_relay.specs.Desk.{whose}
+use Rattle.tds_relay.specs.Pool.{whose}
 use Rattle.std.proofs.Common.{Option, ap, length, refl, sym, ◌∙◌, rules, inl, ◌≡◌, List, slice_index_or, subst, ℕ, length-set, None, Some}
 use Rattle.tds_relay.specs.declared.link.Link.{Link}
 use Rattle.tds_relay.specs.Linking.{Linked}
-use Rattle.tds_relay.specs.declared.desk.coming.Heard.{Heard}
-use Rattle.tds_relay.specs.Fronts.{ends_in, house_in, house_with, told_by}
+use Rattle.tds_relay.specs.declared.pool.coming.Heard.{Heard}
+use Rattle.tds_relay.specs.Fronts.{ends_in, machine_in, machine_with, told_by}
 use Rattle.tds_relay.specs.declared.outgoing.Outgoing.{Outgoing}
-use Rattle.tds_relay.specs.Posts.{post_in, posts_in}
-use Rattle.tds_relay.specs.Ties.{Connection, desk_in}
+use Rattle.tds_relay.specs.Queues.{queue_in, queues_in}
+use Rattle.tds_relay.specs.Ties.{Connection, pool_in}
 use Rattle.tds_relay.specs.Reads.{bytes_on, place_of}
 use Rattle.tds_relay.proofs.bytes.SetAnew.{hear_at, unheard, unopened}
 use Rattle.tds_relay.proofs.bytes.Turns.{less_at, less_nowhere, less_shut, takes_at}
@@ -24,7 +24,7 @@ use Rattle.tds_relay.proofs.spared.Losing.{heard_as}
 use Rattle.tds_relay.proofs.seats.Relays.{behind_on}
 use Rattle.tds_relay.proofs.seats.Linked.{heard_there, seated_as}
 use Rattle.tds_relay.proofs.spared.Turned.{as_refl, keeps_written}
-use Rattle.tds_relay.specs.declared.desk.coming.What.TheVariants as whats
+use Rattle.tds_relay.specs.declared.pool.coming.What.TheVariants as whats
 use Rattle.tds_relay.proofs.relay.Relay.hear.Goals as goal
 
 -- what comes where nothing is
@@ -33,20 +33,20 @@ nothing = Some (record { key = None; what = whats.Goes })
 
 pub returns-in_default-clause-continues : goal.returns-in_default-clause-continues
 returns-in_default-clause-continues c =
-    unheard c.args.number c.args.piece.now (length c.args.piece.now) nothing c.args.self.now.links.items (house_in c.args.self.now) c.args.self.now.desk.service refl
+    unheard c.args.number c.args.piece.now (length c.args.piece.now) nothing c.args.self.now.links.items (machine_in c.args.self.now) c.args.self.now.pool.service refl
     (sym c.place_in.ensures.is ∙ c.in_default.is)
 
 pub returns-clause-continues : goal.returns-clause-continues
 returns-clause-continues c = rw (← c.links.view_is) (
-    hear_at c.hear_on.result c.args.number c.links.inside.list.items c.in-Some.place c.index_mut-link.result.now c.hear_on.new.link c.args.piece.now (house_in c.args.self.now)
-    (λ (heard : Option Heard). house_with (desk_in c.hear_on.new.desk) (told_by heard (ends_in c.args.self.now.applications)) (posts_in c.hear_on.new.applications))
-    c.args.self.now.desk.service c.hear_on.new.desk.service
+    hear_at c.hear_on.result c.args.number c.links.inside.list.items c.in-Some.place c.index_mut-link.result.now c.hear_on.new.link c.args.piece.now (machine_in c.args.self.now)
+    (λ (heard : Option Heard). machine_with (pool_in c.hear_on.new.pool) (told_by heard (ends_in c.args.self.now.applications)) (queues_in c.hear_on.new.applications))
+    c.args.self.now.pool.service c.hear_on.new.pool.service
     (ap (λ (v : Linked). place_of c.args.number v.items) c.links.view_is ∙ sym c.place_in.ensures.is ∙ c.in-Some.is)
     c.index_mut-link.ensures.value c.hear_on.ensures.number (search rules) c.hear_on.ensures.is_open refl c.hear_on.ensures.hears c.hear_on.ensures.read)
 
 pub returns-then-not-link-clause-continues : goal.returns-then-not-link-clause-continues
 returns-then-not-link-clause-continues c = rw (← c.links.view_is) (
-    unopened c.args.number c.args.piece.now (length c.args.piece.now) nothing c.links.inside.list.items c.in-Some.place c.index_mut-link.result.now (house_in c.args.self.now) c.args.self.now.desk.service refl
+    unopened c.args.number c.args.piece.now (length c.args.piece.now) nothing c.links.inside.list.items c.in-Some.place c.index_mut-link.result.now (machine_in c.args.self.now) c.args.self.now.pool.service refl
     (ap (λ (v : Linked). place_of c.args.number v.items) c.links.view_is ∙ sym c.place_in.ensures.is ∙ c.in-Some.is)
     c.index_mut-link.ensures.value (search rules))
 
@@ -58,7 +58,7 @@ returns-then-not-link-clause-others c = rw (← c.links.view_is) (
     others_written c.args.number c.links.inside.list.items c.in-Some.place c.index_mut-link.result.now _
     (ap (λ (v : Linked). place_of c.args.number v.items) c.links.view_is ∙ sym c.place_in.ensures.is ∙ c.in-Some.is)
     (ap (λ (l : Link). l.number) c.index_mut-link.ensures.value)
-    (ap (λ (l : Link). l.is_open) c.index_mut-link.ensures.value) (ap (λ (l : Link). l.tag) c.index_mut-link.ensures.value) (ap bytes_on c.index_mut-link.ensures.value))
+    (ap (λ (l : Link). l.is_open) c.index_mut-link.ensures.value) (ap (λ (l : Link). l.tag) c.index_mut-link.ensures.value) (ap (λ (l : Link). queue_in l.out) c.index_mut-link.ensures.value))
 
 pub returns-clause-others : goal.returns-clause-others
 returns-clause-others c = rw (← c.links.view_is) (
@@ -67,7 +67,7 @@ returns-clause-others c = rw (← c.links.view_is) (
     (c.hear_on.ensures.number ∙ ap (λ (l : Link). l.number) c.index_mut-link.ensures.value)
     (c.hear_on.ensures.is_open ∙ ap (λ (l : Link). l.is_open) c.index_mut-link.ensures.value)
     (c.hear_on.ensures.tag ∙ ap (λ (l : Link). l.tag) c.index_mut-link.ensures.value)
-    (ap (λ (o : Outgoing). (post_in o).bytes) c.hear_on.ensures.out ∙ ap bytes_on c.index_mut-link.ensures.value)))
+    (ap queue_in c.hear_on.ensures.out ∙ ap (λ (l : Link). queue_in l.out) c.index_mut-link.ensures.value)))
 
 pub returns-in_default-clause-puts : goal.returns-in_default-clause-puts
 returns-in_default-clause-puts c = λ key. inl refl
@@ -116,8 +116,8 @@ returns-then-not-link-clause-less c =
 
 pub returns-clause-less : goal.returns-clause-less
 returns-clause-less c =
-    less_at c.hear_on.result c.args.number (reading_on c.args.number c.args.self.now.desk.service) c.links.inside.list.items c.in-Some.place c.index_mut-link.result.now c.hear_on.new.link c.args.piece.now (house_in c.args.self.now)
-    (λ (heard : Option Heard). house_with (desk_in c.hear_on.new.desk) (told_by heard (ends_in c.args.self.now.applications)) (posts_in c.hear_on.new.applications))
+    less_at c.hear_on.result c.args.number (reading_on c.args.number c.args.self.now.pool.service) c.links.inside.list.items c.in-Some.place c.index_mut-link.result.now c.hear_on.new.link c.args.piece.now (machine_in c.args.self.now)
+    (λ (heard : Option Heard). machine_with (pool_in c.hear_on.new.pool) (told_by heard (ends_in c.args.self.now.applications)) (queues_in c.hear_on.new.applications))
     (ap (λ (v : Linked). place_of c.args.number v.items) c.links.view_is ∙ sym c.place_in.ensures.is ∙ c.in-Some.is)
     c.index_mut-link.ensures.value c.hear_on.ensures.number (c.hear_on.ensures.is_open ∙ (search rules)) c.hear_on.ensures.hears
 
@@ -141,27 +141,27 @@ returns-then-not-link-clause-cleans c = λ not. inl (search rules)
 
 pub returns-clause-cleans : goal.returns-clause-cleans
 returns-clause-cleans c =
-    subst (λ (xs : List ℕ). IfOk c.hear_on.result (λ heard. Cleans (whose (desk_in c.args.self.now.desk) c.args.number) heard.1 xs c.hear_on.new.outbox.items)) (search rules) c.hear_on.ensures.cleans
+    subst (λ (xs : List ℕ). IfOk c.hear_on.result (λ heard. Cleans (whose (pool_in c.args.self.now.pool) c.args.number) heard.1 xs c.hear_on.new.outbox.items)) (search rules) c.hear_on.ensures.cleans
 
-pub returns-in_default-clause-posts : goal.returns-in_default-clause-posts
-returns-in_default-clause-posts c = as_refl c.args.self.now.links.items
+pub returns-in_default-clause-queues : goal.returns-in_default-clause-queues
+returns-in_default-clause-queues c = as_refl c.args.self.now.links.items
 
-pub returns-then-not-link-clause-posts : goal.returns-then-not-link-clause-posts
-returns-then-not-link-clause-posts c = rw (← c.links.view_is) (
+pub returns-then-not-link-clause-queues : goal.returns-then-not-link-clause-queues
+returns-then-not-link-clause-queues c = rw (← c.links.view_is) (
     keeps_written c.links.inside.list.items c.in-Some.place c.index_mut-link.result.now _
-    (ap (λ (l : Link). l.number) c.index_mut-link.ensures.value) (ap (λ (l : Link). post_in l.out) c.index_mut-link.ensures.value) (ap (λ (l : Link). l.is_open) c.index_mut-link.ensures.value))
+    (ap (λ (l : Link). l.number) c.index_mut-link.ensures.value) (ap (λ (l : Link). queue_in l.out) c.index_mut-link.ensures.value) (ap (λ (l : Link). l.is_open) c.index_mut-link.ensures.value))
 
-pub returns-clause-posts : goal.returns-clause-posts
-returns-clause-posts c = rw (← c.links.view_is) (
+pub returns-clause-queues : goal.returns-clause-queues
+returns-clause-queues c = rw (← c.links.view_is) (
     ok_if c.hear_on.result _ (keeps_written c.links.inside.list.items c.in-Some.place c.index_mut-link.result.now _
     (c.hear_on.ensures.number ∙ ap (λ (l : Link). l.number) c.index_mut-link.ensures.value)
-    (ap (λ (o : Outgoing). post_in o) c.hear_on.ensures.out ∙ ap (λ (l : Link). post_in l.out) c.index_mut-link.ensures.value)
+    (ap (λ (o : Outgoing). queue_in o) c.hear_on.ensures.out ∙ ap (λ (l : Link). queue_in l.out) c.index_mut-link.ensures.value)
     (c.hear_on.ensures.is_open ∙ ap (λ (l : Link). l.is_open) c.index_mut-link.ensures.value)))
 
 pub returns-clause-hears : goal.returns-clause-hears
 returns-clause-hears c =
     heard_as c.hear_on.result _ c.args.number c.args.piece.now c.in-Some.place c.index_mut-link.result.now c.hear_on.new.link c.args.self.now
-    (λ (heard : Option Heard). house_with (desk_in c.hear_on.new.desk) (told_by heard (ends_in c.args.self.now.applications)) (posts_in c.hear_on.new.applications))
+    (λ (heard : Option Heard). machine_with (pool_in c.hear_on.new.pool) (told_by heard (ends_in c.args.self.now.applications)) (queues_in c.hear_on.new.applications))
     (sym c.place_in.ensures.is ∙ c.in-Some.is)
     (subst (λ (v : Linked). c.index_mut-link.result.now ≡ slice_index_or v.items c.in-Some.place c.index_mut-link.result.now) c.links.view_is c.index_mut-link.ensures.value) (search rules) c.hear_on.ensures.hears
 
@@ -179,14 +179,14 @@ returns-in_default-clause-seated c = λ s. s
 
 pub returns-then-not-link-clause-seated : goal.returns-then-not-link-clause-seated
 returns-then-not-link-clause-seated c = rw (← c.links.view_is) (
-    λ s. seated_as (desk_in c.args.self.now.desk) c.links.inside.list.items _
+    λ s. seated_as (pool_in c.args.self.now.pool) c.links.inside.list.items _
     (heard_there c.links.inside.list.items _ (λ other. (same_written c.links.inside.list.items c.in-Some.place c.index_mut-link.result.now _
     (ap (λ (l : Link). l.number) c.index_mut-link.ensures.value) (ap sending_of c.index_mut-link.ensures.value) (ap (λ (l : Link). l.is_open) c.index_mut-link.ensures.value) other).0)) s)
 
 pub returns-clause-seated : goal.returns-clause-seated
 returns-clause-seated c = rw (← c.links.view_is) (
-    λ s. behind_on c.hear_on.result c.args.number (desk_in c.args.self.now.desk) _ c.links.inside.list.items
-    (ok_more c.hear_on.result _ _ (λ g. reached_on (Connection c.args.number) (desk_in c.args.self.now.desk) (desk_in c.hear_on.new.desk) g) c.hear_on.ensures.goes)
+    λ s. behind_on c.hear_on.result c.args.number (pool_in c.args.self.now.pool) _ c.links.inside.list.items
+    (ok_more c.hear_on.result _ _ (λ g. reached_on (Connection c.args.number) (pool_in c.args.self.now.pool) (pool_in c.hear_on.new.pool) g) c.hear_on.ensures.goes)
     (c.hear_on.ensures.seats s.reached)
     (heard_there c.links.inside.list.items _ (λ other. (same_written c.links.inside.list.items c.in-Some.place c.index_mut-link.result.now _
     (c.hear_on.ensures.number ∙ ap (λ (l : Link). l.number) c.index_mut-link.ensures.value)

@@ -1,8 +1,8 @@
 use Rattle.std.proofs.Common.{◌≡◌, ◌∙◌, [], ap, inl, length, refl, suc, sym, rules, None}
-use Rattle.tds_relay.specs.Waiting.{LosesAt}
-use Rattle.tds_relay.specs.Fronts.{hall_in, house_in, told_by}
+use Rattle.tds_relay.specs.Waiting.{LosesAt, ByPacket, HeardFor}
+use Rattle.tds_relay.specs.Fronts.{core_in, machine_in, told_by}
 use Rattle.tds_relay.specs.Ordering.{opens_in}
-use Rattle.tds_relay.specs.Posts.{names_of, posts_in}
+use Rattle.tds_relay.specs.Queues.{names_of, queues_in}
 use Rattle.tds_relay.specs.Reads.{answer_at, open_at}
 use Rattle.tds_relay.specs.Ties.{Connection}
 use Rattle.tds_relay.proofs.spared.Coming.{along_refl, one_along}
@@ -17,7 +17,6 @@ use Rattle.tds_relay.proofs.steps.Asked.{empty_is}
 use Rattle.tds_relay.proofs.bytes.Streaming.{heard_stays}
 use Rattle.tds_relay.proofs.bytes.Turns.{some_is, streams_all, turned, turns_begin, turns_end}
 use Rattle.tds_relay.specs.Closings.{register_in}
-use Rattle.tds_relay.specs.Reasons.{ByPacket, HeardFor}
 use Rattle.tds_relay.proofs.spared.Losing.{loses_by}
 use Rattle.tds_relay.proofs.spared.Closings.{closes_refl, one_closes}
 use Rattle.tds_relay.proofs.spared.Few.{none_both, none_heard, none_refl, none_stays}
@@ -32,15 +31,15 @@ taking-init c = record {
   turns = turns_begin (open_at c.args.number c.args.self.now.links.items) c.args.piece.now;
   goes = λ from h. h;
   names = refl;
-  anew = anew_begin c.args.number (answer_at c.args.number c.args.self.now.links.items) (open_at c.args.number c.args.self.now.links.items) (house_in c.args.self.now) c.args.self.now.desk.service c.args.piece.now;
+  anew = anew_begin c.args.number (answer_at c.args.number c.args.self.now.links.items) (open_at c.args.number c.args.self.now.links.items) (machine_in c.args.self.now) c.args.self.now.pool.service c.args.piece.now;
   others = others_open c.args.number _ _ (opens_refl c.args.self.now.links.items);
   bodies = λ reached. along_refl c.args.self.now;
   closes = closes_refl (HeardFor c.args.number c.args.piece.now c.args.self.now) (register_in c.args.self.now);
-  spares = λ reached. spares_refl c.args.number _ (hall_in c.args.self.now);
+  spares = λ reached. spares_refl c.args.number _ (core_in c.args.self.now);
   refused = inl refl;
   ordered = ordered_refl c.args.self.now.orders.items;
   none = none_refl c.args.self.now.links.items;
-  wakes = wakes_same (posts_in c.args.self.now.applications) c.args.self.now.applications c.args.self.now.orders.items refl;
+  wakes = wakes_same (queues_in c.args.self.now.applications) c.args.self.now.applications c.args.self.now.orders.items refl;
   seated = λ s. s;
   opening = refl;
   apart = off_none c.args.number None c.args.self.now;
@@ -67,10 +66,10 @@ taking-preserved c = record {
   closes =
       one_closes (LosesAt c.args.number c.in_ok-count.heard c.hear.new.self) (HeardFor c.args.number c.args.piece.now c.args.self.now) (register_in c.args.self.now) (register_in c.taking.self) (register_in c.hear.new.self) (register_in c.heard.new.self)
       (λ key why seated. ByPacket c.taking.self c.taking.rest.now c.taking.invariant.anew c.taking.invariant.others
-      (loses_by c.args.number c.taking.rest.now _ c.taking.self c.hear.new.self _ key c.in_ok-count.ensures.hears refl c.in_ok-count.ensures.ends c.in_ok-count.ensures.cleans c.in_ok-count.ensures.posts c.in_ok-count.ensures.asks (c.taking.invariant.seated seated) why))
+      (loses_by c.args.number c.taking.rest.now _ c.taking.self c.hear.new.self _ key c.in_ok-count.ensures.hears refl c.in_ok-count.ensures.ends c.in_ok-count.ensures.cleans c.in_ok-count.ensures.queues c.in_ok-count.ensures.asks (c.taking.invariant.seated seated) why))
       c.taking.invariant.closes c.in_ok-count.ensures.ends c.in_ok-count.ensures.names c.in_ok-count.ensures.same c.hear.ensures.orders c.hear.ensures.settings c.in_ok-heard.ensures.closes c.in_ok-heard.ensures.kept;
   spares = λ reached.
-      one_spares c.args.number c.taking.rest.now _ (hall_in c.args.self.now) c.taking.self c.hear.new.self c.heard.new.self _ (reached_on (Connection c.args.number) _ _ c.taking.invariant.goes reached) (c.taking.invariant.spares reached)
+      one_spares c.args.number c.taking.rest.now _ (core_in c.args.self.now) c.taking.self c.hear.new.self c.heard.new.self _ (reached_on (Connection c.args.number) _ _ c.taking.invariant.goes reached) (c.taking.invariant.spares reached)
       c.in_ok-count.ensures.hears c.in_ok-count.ensures.ends c.in_ok-count.ensures.goes c.in_ok-heard.ensures.spares;
   refused =
       refused_next c.args.number (LosesAt c.args.number c.in_ok-count.heard c.hear.new.self) _ _ _ (register_in c.hear.new.self) (register_in c.heard.new.self)
@@ -80,7 +79,7 @@ taking-preserved c = record {
       none_both _ _ _ c.taking.invariant.none
       (none_both _ _ _ (none_heard _ _ (λ other. (c.in_ok-count.ensures.same other).0)) (none_stays _ _ c.in_ok-heard.ensures.read));
   wakes =
-      one_wakes c.args.number (posts_in c.args.self.now.applications) c.taking.self c.hear.new.self c.heard.new.self _ c.taking.invariant.wakes c.in_ok-count.ensures.ends c.in_ok-count.ensures.names c.in_ok-count.ensures.puts c.hear.ensures.orders
+      one_wakes c.args.number (queues_in c.args.self.now.applications) c.taking.self c.hear.new.self c.heard.new.self _ c.taking.invariant.wakes c.in_ok-count.ensures.ends c.in_ok-count.ensures.names c.in_ok-count.ensures.puts c.hear.ensures.orders
       c.in_ok-heard.ensures.kept c.in_ok-heard.ensures.ordered c.in_ok-heard.ensures.moves c.in_ok-heard.ensures.wakes;
   seated = λ s. c.in_ok-heard.ensures.seated (c.in_ok-count.ensures.seated (c.taking.invariant.seated s));
   apart =

@@ -1,17 +1,17 @@
 use Rattle.std.proofs.Common.{◌≡◌, ◌≤◌, length}
 use Rattle.tds_relay.specs.Cleaning.{CountsLost}
 use Rattle.tds_relay.specs.Closings.{ClosesOnly, but_told, register_in}
-use Rattle.tds_relay.specs.Reasons.{HeardFor}
+use Rattle.tds_relay.specs.Waiting.{HeardFor}
 use Rattle.tds_relay.specs.Coming.{AllAlong, StreamsAnew}
 use Rattle.tds_relay.specs.Faults.{IsRefusedOn}
 use Rattle.tds_relay.specs.Few.{NoneNew, IsSeated}
 use Rattle.std.specs.Prelude.{None}
 use Rattle.tds_relay.specs.Apart.{SparesOthers}
-use Rattle.tds_relay.specs.Fronts.{hall_in, house_in}
+use Rattle.tds_relay.specs.Fronts.{core_in, machine_in}
 use Rattle.tds_relay.specs.Ordering.{StayOrdered, opens_in}
-use Rattle.tds_relay.specs.Posts.{names_in, posts_in}
+use Rattle.tds_relay.specs.Queues.{names_in, queues_in}
 use Rattle.tds_relay.specs.Reads.{OpensOthers, answer_at, open_at}
-use Rattle.tds_relay.specs.Ties.{Connection, Goes, IsReached, desk_in}
+use Rattle.tds_relay.specs.Ties.{Connection, Goes, IsReached, pool_in}
 use Rattle.tds_relay.specs.Waking.{Wakes}
 use Rattle.tds_relay.proofs.bytes.Turns.{InTurns}
 use Rattle.tds_relay.specs.Sparing.{OffGo}
@@ -20,18 +20,18 @@ use Rattle.tds_relay.proofs.relay.Relay.hear_all.Given as goal
 abbrev pub invariant-taking : goal.invariant-taking
 invariant-taking l = record {
   turns : InTurns (open_at l.fn.number l.self.links.items) l.rest l.counter (length l.fn.piece);
-  goes : Goes (Connection l.fn.number) (desk_in l.fn.self.desk) (desk_in l.self.desk);
+  goes : Goes (Connection l.fn.number) (pool_in l.fn.self.pool) (pool_in l.self.pool);
   names : names_in l.self.applications ≡ names_in l.fn.self.applications;
-  anew : StreamsAnew l.fn.number (answer_at l.fn.number l.fn.self.links.items) (open_at l.fn.number l.fn.self.links.items) (house_in l.fn.self) l.fn.self.desk.service l.fn.piece l.rest (answer_at l.fn.number l.self.links.items)
-      (open_at l.fn.number l.self.links.items) (house_in l.self) l.self.desk.service;
+  anew : StreamsAnew l.fn.number (answer_at l.fn.number l.fn.self.links.items) (open_at l.fn.number l.fn.self.links.items) (machine_in l.fn.self) l.fn.self.pool.service l.fn.piece l.rest (answer_at l.fn.number l.self.links.items)
+      (open_at l.fn.number l.self.links.items) (machine_in l.self) l.self.pool.service;
   others : OpensOthers l.fn.number l.fn.self.links.items l.self.links.items;
-  bodies : IsReached (desk_in l.fn.self.desk) → AllAlong l.fn.self l.self;
+  bodies : IsReached (pool_in l.fn.self.pool) → AllAlong l.fn.self l.self;
   closes : ClosesOnly (HeardFor l.fn.number l.fn.piece l.fn.self) (but_told (register_in l.self) (register_in l.fn.self)) (register_in l.self);
-  spares : IsReached (desk_in l.fn.self.desk) → SparesOthers l.fn.number None (hall_in l.fn.self) (hall_in l.self);
+  spares : IsReached (pool_in l.fn.self.pool) → SparesOthers l.fn.number None (core_in l.fn.self) (core_in l.self);
   refused : IsRefusedOn l.fn.number l.fn.self.refused l.self.refused;
   ordered : StayOrdered l.fn.self.orders.items l.self.orders.items;
   none : NoneNew l.fn.self.links.items l.self.links.items;
-  wakes : Wakes (posts_in l.fn.self.applications) l.self.applications l.self.orders.items;
+  wakes : Wakes (queues_in l.fn.self.applications) l.self.applications l.self.orders.items;
   seated : IsSeated l.fn.self → IsSeated l.self;
   apart : OffGo l.fn.number None l.fn.self l.self;
   many : length l.self.links.items ≤ length l.fn.self.links.items;

@@ -1,19 +1,19 @@
 use Rattle.std.proofs.Common.{Option, refl, subst, sym, ℕ}
 use Rattle.std.specs.Prelude.{OnOk}
-use Rattle.tds_relay.specs.declared.desk.coming.Heard.{Heard}
+use Rattle.tds_relay.specs.declared.pool.coming.Heard.{Heard}
 use Rattle.tds_relay.specs.Apart.{SparesOthers}
 use Rattle.tds_relay.specs.Cleaning.{CountsHeard}
 use Rattle.tds_relay.specs.Closings.{ClosesOnly, register_in}
 use Rattle.tds_relay.specs.Coming.{BeginAnyIf, acknowledged_in}
 use Rattle.tds_relay.specs.Few.{IsSeatedBehind}
-use Rattle.tds_relay.specs.Fronts.{Moved, ends_in, hall_in, hall_of_ends, told_by}
+use Rattle.tds_relay.specs.Fronts.{Moved, ends_in, core_in, core_of_ends, told_by}
 use Rattle.tds_relay.specs.Handing.{heard_key}
 use Rattle.tds_relay.specs.Sparing.{OffGo}
-use Rattle.tds_relay.specs.Ties.{Connection, desk_in}
+use Rattle.tds_relay.specs.Ties.{Connection, pool_in}
 use Rattle.tds_relay.specs.Waiting.{IsNotAcknowledged, LosesAt}
 use Rattle.tds_relay.specs.Waking.{HandsTo, IsWoken}
 use Rattle.tds_relay.proofs.bytes.SetAnew.{any_if}
-use Rattle.tds_relay.proofs.seats.Desks.{off_of}
+use Rattle.tds_relay.proofs.seats.Pools.{off_of}
 use Rattle.tds_relay.proofs.seats.Relays.{behind_none}
 use Rattle.tds_relay.proofs.spared.Closings.{closes_more_on}
 use Rattle.tds_relay.proofs.spared.Coming.{rest_along}
@@ -42,13 +42,13 @@ pub returns-in-None-clause-closes : goal.returns-in-None-clause-closes
 returns-in-None-clause-closes c = closes_more_on c.lose.result _ (LosesAt c.args.number c.args.heard c.args.self.now) _ _ (λ other who. nothing_loses c.args.number c.args.heard c.args.self.now c.in-None.is other who) c.lose.ensures.closes
 
 pub returns-in-None-clause-spares : goal.returns-in-None-clause-spares
-returns-in-None-clause-spares c = λ reached. ok_more c.lose.result _ _ (λ h. spares_none c.args.number _ (hall_in c.args.self.now) (hall_in c.lose.new.self) h) (spares_lost_on c.lose.result c.args.number (hall_in c.args.self.now) (hall_in c.lose.new.self) c.lose.ensures.ends c.lose.ensures.line c.lose.ensures.moves)
+returns-in-None-clause-spares c = λ reached. ok_more c.lose.result _ _ (λ h. spares_none c.args.number _ (core_in c.args.self.now) (core_in c.lose.new.self) h) (spares_lost_on c.lose.result c.args.number (core_in c.args.self.now) (core_in c.lose.new.self) c.lose.ensures.ends c.lose.ensures.line c.lose.ensures.moves)
 
 pub returns-in-None-clause-begins : goal.returns-in-None-clause-begins
 returns-in-None-clause-begins c = any_if c.lose.result (acknowledged_in c.args.heard) _ _ c.lose.ensures.answers
 
 pub returns-in-None-clause-seated : goal.returns-in-None-clause-seated
-returns-in-None-clause-seated c = λ s. c.lose.ensures.seated (off_of c.args.number (desk_in c.args.self.now.desk) c.args.self.now.links.items (behind_none c.args.heard c.args.number c.args.self.now c.in-None.is s))
+returns-in-None-clause-seated c = λ s. c.lose.ensures.seated (off_of c.args.number (pool_in c.args.self.now.pool) c.args.self.now.links.items (behind_none c.args.heard c.args.number c.args.self.now c.in-None.is s))
 
 pub returns-in-None-clause-apart : goal.returns-in-None-clause-apart
 returns-in-None-clause-apart c = all_off c.lose.result c.args.number _ c.args.self.now c.lose.new.self c.lose.ensures.rests
@@ -57,7 +57,7 @@ pub returns-in-None-clause-counts : goal.returns-in-None-clause-counts
 returns-in-None-clause-counts c = ok_if c.lose.result _ (counts_nothing c.args.heard c.args.number c.args.self.now c.lose.new.self c.in-None.is c.lose.ensures.counts)
 
 pub returns-in-Some-clause-moves : goal.returns-in-Some-clause-moves
-returns-in-Some-clause-moves c = subst (λ (o : Option Heard). OnOk c.heard_packet.result (Moved (Connection c.args.number) (hall_of_ends (desk_in c.args.self.now.desk) (told_by o (ends_in c.args.self.now.applications))) (hall_in c.heard_packet.new.self))) (sym c.in-Some.is) c.heard_packet.ensures.moves
+returns-in-Some-clause-moves c = subst (λ (o : Option Heard). OnOk c.heard_packet.result (Moved (Connection c.args.number) (core_of_ends (pool_in c.args.self.now.pool) (told_by o (ends_in c.args.self.now.applications))) (core_in c.heard_packet.new.self))) (sym c.in-Some.is) c.heard_packet.ensures.moves
 
 pub returns-in-Some-clause-wakes : goal.returns-in-Some-clause-wakes
 returns-in-Some-clause-wakes c = subst (λ (o : Option Heard). OnOk c.heard_packet.result ((key : ℕ) → HandsTo o key (ends_in c.args.self.now.applications) → IsWoken key c.heard_packet.new.self.applications c.heard_packet.new.self.orders.items)) (sym c.in-Some.is) c.heard_packet.ensures.wakes
@@ -69,7 +69,7 @@ pub returns-in-Some-clause-begins : goal.returns-in-Some-clause-begins
 returns-in-Some-clause-begins c = subst (λ (o : Option Heard). OnOk c.heard_packet.result (BeginAnyIf (acknowledged_in o) c.args.self.now.links.items c.heard_packet.new.self.links.items)) (sym c.in-Some.is) c.heard_packet.ensures.begins
 
 pub returns-in-Some-clause-spares : goal.returns-in-Some-clause-spares
-returns-in-Some-clause-spares c = λ reached. subst (λ (o : Option Heard). OnOk c.heard_packet.result (SparesOthers c.args.number (heard_key o) (hall_in c.args.self.now) (hall_in c.heard_packet.new.self))) (sym c.in-Some.is) (c.heard_packet.ensures.spares reached)
+returns-in-Some-clause-spares c = λ reached. subst (λ (o : Option Heard). OnOk c.heard_packet.result (SparesOthers c.args.number (heard_key o) (core_in c.args.self.now) (core_in c.heard_packet.new.self))) (sym c.in-Some.is) (c.heard_packet.ensures.spares reached)
 
 pub returns-in-Some-clause-closes : goal.returns-in-Some-clause-closes
 returns-in-Some-clause-closes c = subst (λ (o : Option Heard). OnOk c.heard_packet.result (ClosesOnly (LosesAt c.args.number o c.args.self.now) (register_in c.args.self.now) (register_in c.heard_packet.new.self))) (sym c.in-Some.is) c.heard_packet.ensures.closes

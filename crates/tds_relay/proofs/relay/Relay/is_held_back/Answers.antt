@@ -2,7 +2,7 @@ use Rattle.std.proofs.Common.{◌≡◌, ◌∙◌, None, Some, ap, inl, inr, ru
 use Rattle.tds_relay.specs.Asking.{Opens, waits_of}
 use Rattle.tds_relay.specs.Sparing.{Drains}
 use Rattle.tds_relay.specs.Sparing as sparing
-use Rattle.tds_relay.specs.Ties.{desk_in}
+use Rattle.tds_relay.specs.Ties.{pool_in}
 use Rattle.tds_relay.proofs.steps.Underway.{drains}
 use Rattle.tds_relay.proofs.spared.Starting.{taken_back, unkept_none, unkept_over, unkept_there}
 use Rattle.tds_relay.proofs.spared.Ended.{its_name}
@@ -28,7 +28,7 @@ returns-then-application-2-clause-held c = λ its e. inr (Drains (taken_back c.a
 
 pub returns-then-application-2-clause-underway : goal.returns-then-application-2-clause-underway
 returns-then-application-2-clause-underway c = λ its e whole waits.
-    drains whole _ c.args.key (desk_in c.args.self.now.desk) c.args.self.now.applications c.in-Some.application.now c.args.hold c.in-Some.ensures (search rules) its
+    drains whole _ c.args.key (pool_in c.args.self.now.pool) c.args.self.now.applications c.in-Some.application.now c.args.hold c.in-Some.ensures (search rules) its
 
 pub returns-clause-held : goal.returns-clause-held
 returns-clause-held c = λ its e. inr (sparing.Opens c.args.hold its (c.is_open.ensures.shut (search rules)))
@@ -80,4 +80,4 @@ returns-clause-waits c = λ e. kept_there c.args.key c.args.self.now c.in-Some.a
 
 pub returns-clause-ready : goal.returns-clause-ready
 returns-clause-ready c = λ its e.
-    ready_there c.args.key c.args.self.now.applications c.args.self.now.desk c.args.self.now.links.items c.in-Some.application.now c.args.hold c.in-Some.ensures c.if-application.false (search rules) its (c.is_open.ensures.open (search rules))
+    ready_there c.args.key c.args.self.now.applications c.args.self.now.pool c.args.self.now.links.items c.in-Some.application.now c.args.hold c.in-Some.ensures c.if-application.false (search rules) its (c.is_open.ensures.open (search rules))

@@ -1,7 +1,7 @@
 use Rattle.std.proofs.Common.{ap, refl, subst, sym, ◌≡◌, ◌∙◌, Some}
 use Rattle.tds_relay.specs.Waiting.{IsUnheldOrTurnedAway}
-use Rattle.tds_relay.specs.declared.desk.Desk as code
-use Rattle.tds_relay.specs.Ties.{Connection, Reaches, desk_in, IsReached}
+use Rattle.tds_relay.specs.declared.pool.Pool as code
+use Rattle.tds_relay.specs.Ties.{Connection, Reaches, pool_in, IsReached}
 use Rattle.tds_relay.proofs.steps.Fronts.{moves_closes, moves_does, moves_same}
 use Rattle.tds_relay.proofs.steps.Reaching.{ok_if, ok_more, reaches_turn, reached_on, reached_turn}
 use Rattle.tds_relay.proofs.steps.Staying.{stays_on}
@@ -14,26 +14,26 @@ use Rattle.std.proofs.lemmas.Bool.{cases_eq}
 use Rattle.slab.specs.Slab.{Slab, get}
 use Rattle.tds_relay.specs.declared.application.Application as an
 use Rattle.tds_relay.specs.Bodies.{body_in}
-use Rattle.tds_relay.specs.Desk.{Desk}
+use Rattle.tds_relay.specs.Pool.{Pool}
 use Rattle.tds_relay.specs.Reasons.{ItselfFor, ResumesNotAt, Unserved}
 use Rattle.tds_relay.proofs.spared.Turned.{as_seen, renewed_held, resumes_for, stays_for, turned_with}
 use Rattle.tds_relay.proofs.spared.Only.{spares_alone_on, spares_both, spares_changed, spares_none, spares_on, spares_renewed}
-use Rattle.tds_relay.specs.Fronts.{ends_in, hall_in, hall_of_ends}
-use Rattle.tds_relay.specs.Hall.{closes}
+use Rattle.tds_relay.specs.Fronts.{ends_in, core_in, core_of_ends}
+use Rattle.tds_relay.specs.Core.{closes}
 use Rattle.tds_relay.proofs.bytes.SetAnew.{any_kept, any_refl}
-use Rattle.tds_relay.proofs.seats.Relays.{closed_end, desk_lasting, renewed_on, renewed_out, renews_keep}
-use Rattle.tds_relay.specs.declared.desk.leaving.Renewed.TheVariants as renewals
+use Rattle.tds_relay.proofs.seats.Relays.{closed_end, pool_lasting, renewed_on, renewed_out, renews_keep}
+use Rattle.tds_relay.specs.declared.pool.leaving.Renewed.TheVariants as renewals
 use Rattle.tds_relay.proofs.spared.Off.{off_more, others_off_on, renewed_off}
 use Rattle.tds_relay.proofs.spared.Resting.{all_others, others_both, others_on}
 use Rattle.tds_relay.proofs.spared.Speaking.{closed_rest, done_as}
-use Rattle.tds_relay.specs.declared.desk.leaving.Renewed.{Renewed}
+use Rattle.tds_relay.specs.declared.pool.leaving.Renewed.{Renewed}
 use Rattle.tds_relay.specs.Sparing.{IsKeptBy, IsRenewed}
 use Rattle.tds_relay.proofs.relay.Relay.keep.Goals as goal
 
 pub returns-in-Kept-clause-goes : goal.returns-in-Kept-clause-goes
 returns-in-Kept-clause-goes c =
     ok_more c.start_kept.result _ _
-    (λ g from h. g (Connection c.args.number) from (subst (λ (d : code.Desk). Reaches (Connection c.args.number) from (desk_in d)) (sym c.restart.ensures.desk) (reaches_turn (Connection c.args.number) from _ _ _ _ _ c.in_ok-hold.ensures.turns.1 tt h)))
+    (λ g from h. g (Connection c.args.number) from (subst (λ (d : code.Pool). Reaches (Connection c.args.number) from (pool_in d)) (sym c.restart.ensures.pool) (reaches_turn (Connection c.args.number) from _ _ _ _ _ c.in_ok-hold.ensures.turns.1 tt h)))
     c.start_kept.ensures.goes
 
 pub returns-in-NotKept-clause-goes : goal.returns-in-NotKept-clause-goes
@@ -42,7 +42,7 @@ returns-in-NotKept-clause-goes c = ok_more c.replace.result _ _ (λ g from h. g 
 pub returns-in-Kept-clause-moves : goal.returns-in-Kept-clause-moves
 returns-in-Kept-clause-moves c =
     ok_more c.start_kept.result _ _
-    (λ m asks from h. m (Connection c.args.number) from (moves_same (Connection c.args.number) from _ _ _ _ (ap desk_in c.restart.ensures.desk) c.restart.ensures.ends (moves_does (Connection c.args.number) from _ _ _ _ _ _ _ c.in_ok-hold.ensures.turns.1 asks tt refl h)))
+    (λ m asks from h. m (Connection c.args.number) from (moves_same (Connection c.args.number) from _ _ _ _ (ap pool_in c.restart.ensures.pool) c.restart.ensures.ends (moves_does (Connection c.args.number) from _ _ _ _ _ _ _ c.in_ok-hold.ensures.turns.1 asks tt refl h)))
     c.start_kept.ensures.moves
 
 pub returns-in-NotKept-clause-moves : goal.returns-in-NotKept-clause-moves
@@ -52,16 +52,16 @@ pub returns-in-Kept-clause-read : goal.returns-in-Kept-clause-read
 returns-in-Kept-clause-read c = stays_on c.start_kept.result _ _ _ c.restart.ensures.read c.start_kept.ensures.read
 
 pub returns-in-Kept-clause-stand : goal.returns-in-Kept-clause-stand
-returns-in-Kept-clause-stand c = stand_on c.start_kept.result _ _ _ (stand_at _ _ _ c.in_ok-hold.ensures.stand c.restart.ensures.desk) c.start_kept.ensures.stand
+returns-in-Kept-clause-stand c = stand_on c.start_kept.result _ _ _ (stand_at _ _ _ c.in_ok-hold.ensures.stand c.restart.ensures.pool) c.start_kept.ensures.stand
 
 pub returns-in-NotKept-clause-stand : goal.returns-in-NotKept-clause-stand
 returns-in-NotKept-clause-stand c = stand_on c.replace.result _ _ _ c.in_ok-hold.ensures.stand c.replace.ensures.stand
 
 pub returns-in-Kept-clause-bodies : goal.returns-in-Kept-clause-bodies
 returns-in-Kept-clause-bodies c = λ reached.
-    let there : IsReached (desk_in c.restart.new.self.desk) =
-    reached_on (Connection c.args.number) (desk_in c.args.self.now.desk) (desk_in c.restart.new.self.desk)
-    (λ from h. subst (λ (d : code.Desk). Reaches (Connection c.args.number) from (desk_in d)) (sym c.restart.ensures.desk) (reaches_turn (Connection c.args.number) from _ _ _ _ _ c.in_ok-hold.ensures.turns.1 tt h)) reached in
+    let there : IsReached (pool_in c.restart.new.self.pool) =
+    reached_on (Connection c.args.number) (pool_in c.args.self.now.pool) (pool_in c.restart.new.self.pool)
+    (λ from h. subst (λ (d : code.Pool). Reaches (Connection c.args.number) from (pool_in d)) (sym c.restart.ensures.pool) (reaches_turn (Connection c.args.number) from _ _ _ _ _ c.in_ok-hold.ensures.turns.1 tt h)) reached in
     along_on c.start_kept.result c.args.self.now c.restart.new.self c.start_kept.new.self (alike_along c.args.self.now c.restart.new.self c.restart.ensures.same)
     (start_along c.start_kept.result c.args.key c.restart.new.self c.start_kept.new.self there c.start_kept.ensures.body c.start_kept.ensures.others)
 
@@ -69,7 +69,7 @@ pub returns-in-NotKept-clause-bodies : goal.returns-in-NotKept-clause-bodies
 returns-in-NotKept-clause-bodies c = λ reached.
     along_on c.replace.result c.args.self.now _ c.replace.new.self (alike_along c.args.self.now _ refl)
     (c.replace.ensures.bodies
-    (reached_on (Connection c.args.number) (desk_in c.args.self.now.desk) _ (λ from h. reaches_turn (Connection c.args.number) from _ _ _ _ _ c.in_ok-hold.ensures.turns.1 tt h) reached))
+    (reached_on (Connection c.args.number) (pool_in c.args.self.now.pool) _ (λ from h. reaches_turn (Connection c.args.number) from _ _ _ _ _ c.in_ok-hold.ensures.turns.1 tt h) reached))
 
 pub returns-in-Kept-clause-ordered : goal.returns-in-Kept-clause-ordered
 returns-in-Kept-clause-ordered c = ordered_on c.start_kept.result _ _ _ c.start_kept.ensures.ordered (ordered_same _ _ c.restart.ensures.orders)
@@ -81,36 +81,36 @@ returns-in-Kept-clause-closes c = λ asks.
     let at = c.restart.new.self in
     closes_first c.start_kept.result (ResumesNotAt c.args.number key old) _ _ _
     (closes_more_on c.start_kept.result (ItselfFor key (IsUnheldOrTurnedAway key at)) (ResumesNotAt c.args.number key old) _ _
-    (λ other e. resumes_for c.args.number key other old e.0 asks (Unserved c.in_ok-hold.ensures.turns.0 c.renew.new.self (subst (λ (r : Renewed). IsKeptBy r key (desk_in old.desk)) c.in-Kept.is c.in_ok-hold.ensures.keeps) c.in_ok-hold.ensures.turns.1.desk_is
-    (turned_with key at old c.renew.new.self old.links.items c.restart.ensures.desk (ap ends_in c.restart.ensures.same) (λ k goes. ap (λ (s : Slab an.Application). body_in (get s k) goes) c.restart.ensures.same)
-    (as_seen old.links.items at.links.items c.restart.ensures.posts c.restart.ensures.read.seen) (renewed_held key old.desk c.renew.new.self at c.in-Kept.hold (subst (λ (r : Renewed). IsRenewed r key old.desk c.renew.new.self) c.in-Kept.is c.in_ok-hold.ensures.is) c.restart.ensures.desk e.1)))) c.start_kept.ensures.closes) c.restart.ensures.closes
+    (λ other e. resumes_for c.args.number key other old e.0 asks (Unserved c.in_ok-hold.ensures.turns.0 c.renew.new.self (subst (λ (r : Renewed). IsKeptBy r key (pool_in old.pool)) c.in-Kept.is c.in_ok-hold.ensures.keeps) c.in_ok-hold.ensures.turns.1.pool_is
+    (turned_with key at old c.renew.new.self old.links.items c.restart.ensures.pool (ap ends_in c.restart.ensures.same) (λ k goes. ap (λ (s : Slab an.Application). body_in (get s k) goes) c.restart.ensures.same)
+    (as_seen old.links.items at.links.items c.restart.ensures.queues c.restart.ensures.read.seen) (renewed_held key old.pool c.renew.new.self at c.in-Kept.hold (subst (λ (r : Renewed). IsRenewed r key old.pool c.renew.new.self) c.in-Kept.is c.in_ok-hold.ensures.is) c.restart.ensures.pool e.1)))) c.start_kept.ensures.closes) c.restart.ensures.closes
 
 pub returns-in-NotKept-clause-closes : goal.returns-in-NotKept-clause-closes
 returns-in-NotKept-clause-closes c = λ asks.
     let old = c.args.self.now in
     let key = c.args.key in
-    let is = subst (λ (r : Renewed). IsRenewed r key old.desk c.renew.new.self) c.in-NotKept.is c.in_ok-hold.ensures.is in
+    let is = subst (λ (r : Renewed). IsRenewed r key old.pool c.renew.new.self) c.in-NotKept.is c.in_ok-hold.ensures.is in
     closes_more_on c.replace.result _ (ResumesNotAt c.args.number key old) _ _
-    (λ other e. stays_for c.args.number key other old (desk_in c.renew.new.self) asks is c.in_ok-hold.ensures.turns.0 (sym c.in_ok-hold.ensures.turns.1.desk_is ∙ is) (cases_eq other key) e) c.replace.ensures.closes
+    (λ other e. stays_for c.args.number key other old (pool_in c.renew.new.self) asks is c.in_ok-hold.ensures.turns.0 (sym c.in_ok-hold.ensures.turns.1.pool_is ∙ is) (cases_eq other key) e) c.replace.ensures.closes
 
 pub returns-in-Kept-clause-spares : goal.returns-in-Kept-clause-spares
 returns-in-Kept-clause-spares c = λ reached.
-    let old = hall_in c.args.self.now in
-    let mid = hall_in c.restart.new.self in
-    let new = hall_in c.start_kept.new.self in
+    let old = core_in c.args.self.now in
+    let mid = core_in c.restart.new.self in
+    let new = core_in c.start_kept.new.self in
     spares_on c.start_kept.result c.args.number (Some c.args.key) old mid new
-    (spares_renewed c.args.number c.args.key c.in_ok-hold.ensures.turns.0 old mid reached (ap desk_in c.restart.ensures.desk ∙ c.in_ok-hold.ensures.turns.1.desk_is) c.restart.ensures.ends)
+    (spares_renewed c.args.number c.args.key c.in_ok-hold.ensures.turns.0 old mid reached (ap pool_in c.restart.ensures.pool ∙ c.in_ok-hold.ensures.turns.1.pool_is) c.restart.ensures.ends)
     (spares_alone_on c.start_kept.result c.args.number c.args.key mid new c.start_kept.ensures.alone c.start_kept.ensures.moves)
 
 pub returns-in-NotKept-clause-spares : goal.returns-in-NotKept-clause-spares
 returns-in-NotKept-clause-spares c = λ reached.
-    let old = hall_in c.args.self.now in
-    let mid = hall_of_ends (desk_in c.renew.new.self) (ends_in c.args.self.now.applications) in
-    let new = hall_in c.replace.new.self in
-    let there : IsReached (desk_in c.renew.new.self) =
-    reached_on (Connection c.args.number) (desk_in c.args.self.now.desk) (desk_in c.renew.new.self) (λ from h. reaches_turn (Connection c.args.number) from _ _ _ _ _ c.in_ok-hold.ensures.turns.1 tt h) reached in
+    let old = core_in c.args.self.now in
+    let mid = core_of_ends (pool_in c.renew.new.self) (ends_in c.args.self.now.applications) in
+    let new = core_in c.replace.new.self in
+    let there : IsReached (pool_in c.renew.new.self) =
+    reached_on (Connection c.args.number) (pool_in c.args.self.now.pool) (pool_in c.renew.new.self) (λ from h. reaches_turn (Connection c.args.number) from _ _ _ _ _ c.in_ok-hold.ensures.turns.1 tt h) reached in
     spares_on c.replace.result c.args.number (Some c.args.key) old mid new
-    (spares_renewed c.args.number c.args.key c.in_ok-hold.ensures.turns.0 old mid reached c.in_ok-hold.ensures.turns.1.desk_is refl)
+    (spares_renewed c.args.number c.args.key c.in_ok-hold.ensures.turns.0 old mid reached c.in_ok-hold.ensures.turns.1.pool_is refl)
     (ok_more c.replace.result _ _ (λ h. spares_none c.args.number (Some c.args.key) mid new h) (c.replace.ensures.spares there))
 
 pub returns-in-Kept-clause-begins : goal.returns-in-Kept-clause-begins
@@ -118,18 +118,18 @@ returns-in-Kept-clause-begins c = any_kept c.start_kept.result _ _ _ c.restart.e
 
 pub returns-in-Kept-clause-seated : goal.returns-in-Kept-clause-seated
 returns-in-Kept-clause-seated c = λ s.
-    c.start_kept.ensures.seated (desk_lasting c.renew.new.self c.args.self.now.links.items c.restart.new.self c.restart.ensures.desk c.restart.ensures.lasts c.restart.ensures.read (renewed_on c.args.key c.in_ok-hold.ensures.turns.0 c.args.self.now.desk c.renew.new.self _ _ c.args.self.now.links.items c.in_ok-hold.ensures.turns.1 s (renews_keep _ (renewals.Kept c.in-Kept.hold) _ _ c.in-Kept.is (c.in_ok-hold.ensures.seats s.reached))))
+    c.start_kept.ensures.seated (pool_lasting c.renew.new.self c.args.self.now.links.items c.restart.new.self c.restart.ensures.pool c.restart.ensures.lasts c.restart.ensures.read (renewed_on c.args.key c.in_ok-hold.ensures.turns.0 c.args.self.now.pool c.renew.new.self _ _ c.args.self.now.links.items c.in_ok-hold.ensures.turns.1 s (renews_keep _ (renewals.Kept c.in-Kept.hold) _ _ c.in-Kept.is (c.in_ok-hold.ensures.seats s.reached))))
 
 pub returns-in-NotKept-clause-seated : goal.returns-in-NotKept-clause-seated
 returns-in-NotKept-clause-seated c = λ s.
-    c.replace.ensures.seated (renewed_on c.args.key c.in_ok-hold.ensures.turns.0 c.args.self.now.desk c.renew.new.self _ _ c.args.self.now.links.items c.in_ok-hold.ensures.turns.1 s (renews_keep _ (renewals.NotKept) _ _ c.in-NotKept.is (c.in_ok-hold.ensures.seats s.reached)))
+    c.replace.ensures.seated (renewed_on c.args.key c.in_ok-hold.ensures.turns.0 c.args.self.now.pool c.renew.new.self _ _ c.args.self.now.links.items c.in_ok-hold.ensures.turns.1 s (renews_keep _ (renewals.NotKept) _ _ c.in-NotKept.is (c.in_ok-hold.ensures.seats s.reached)))
 
 pub returns-in-Kept-clause-apart : goal.returns-in-Kept-clause-apart
 returns-in-Kept-clause-apart c =
     others_off_on c.start_kept.result c.args.number c.args.key c.args.self.now c.start_kept.new.self
     (λ reached.
     let led = reached_turn _ _ _ _ _ c.in_ok-hold.ensures.turns.1 reached in
-    others_on c.start_kept.result c.args.key c.args.self.now c.restart.new.self c.start_kept.new.self (c.start_kept.ensures.others (subst (λ (d : code.Desk). IsReached (desk_in d)) (sym c.restart.ensures.desk) led))
+    others_on c.start_kept.result c.args.key c.args.self.now c.restart.new.self c.start_kept.new.self (c.start_kept.ensures.others (subst (λ (d : code.Pool). IsReached (pool_in d)) (sym c.restart.ensures.pool) led))
     (others_both c.args.key c.args.self.now _ c.restart.new.self (done_as c.args.key c.args.self.now _ reached c.in_ok-hold.ensures.others refl (λ k goes. refl)) (all_others c.args.key _ c.restart.new.self c.restart.ensures.rests)))
 
 pub returns-in-NotKept-clause-apart : goal.returns-in-NotKept-clause-apart

@@ -1,11 +1,11 @@
 use Rattle.std.proofs.Common.{◌∙◌, ap, refl, slice_set, None, Option, Some, ◌≡◌, ℕ}
-use Rattle.tds_relay.specs.Fronts.{ends_in, house_in}
-use Rattle.tds_relay.specs.Posts.{posts_in, names_in, names_of}
-use Rattle.tds_relay.specs.Ties.{Application, desk_in}
-use Rattle.tds_relay.specs.Hall.{change_end, lets_go, holder}
+use Rattle.tds_relay.specs.Fronts.{ends_in, machine_in}
+use Rattle.tds_relay.specs.Queues.{queues_in, names_in, names_of}
+use Rattle.tds_relay.specs.Ties.{Application, pool_in}
+use Rattle.tds_relay.specs.Core.{change_end, lets_go, holder}
 use Rattle.tds_relay.proofs.spared.Apart.{lends_from}
 use Rattle.tds_relay.proofs.steps.Fronts.{ends_quit, gone_stays}
-use Rattle.tds_relay.proofs.steps.Posting.{quits_is}
+use Rattle.tds_relay.proofs.steps.Queueing.{quits_is}
 use Rattle.tds_relay.proofs.steps.Reaching.{ok_more, reached_on, reaches_left}
 use Rattle.tds_relay.proofs.steps.Stepping.{no_steps, steps_on_ok, steps_quits}
 use Rattle.tds_relay.proofs.steps.Staying.{opens_served}
@@ -27,9 +27,10 @@ use Rattle.tds_relay.proofs.spared.Lasting.{besides_on, last_more_on}
 use Rattle.tds_relay.specs.Places.{held_by}
 use Rattle.tds_relay.proofs.spared.Cleaned.{counts_on, since_served_on}
 use Rattle.tds_relay.specs.Cleaning.{cleaned_in}
-use Rattle.tds_relay.specs.Desk.{find_key}
+use Rattle.tds_relay.specs.Pool.{find_key}
 use Rattle.tds_relay.proofs.spared.Opening.{left_last, opens_new_on, opens_same, grows_on, grows_stays}
 use Rattle.tds_relay.proofs.spared.Filling.{first_own, puts_on}
+use Rattle.tds_relay.specs.Waiting.{IsLentByParting, IsLentInVain}
 use Rattle.tds_relay.proofs.relay.Relay.left.Goals as goal
 
 pub returns-clause-left : goal.returns-clause-left
@@ -42,9 +43,9 @@ returns-clause-steps c =
     let old = c.args.self.now in
     let quit = ends_quit old.applications c.try_remove.new.self c.args.key c.try_remove.result c.try_remove.ensures.value c.try_remove.ensures.slots c.try_remove.ensures.absent in
     let gone = quits_is old.applications c.try_remove.new.self c.args.key c.try_remove.result c.try_remove.ensures.value c.try_remove.ensures.slots c.try_remove.ensures.absent in
-    steps_on_ok c.serve_line.result (Application c.args.key) (house_in old) _ _ _ _
-    (steps_quits c.args.key (house_in old) (desk_in old.desk) (ends_in old.applications) _ (posts_in old.applications) _ _ quit (c.in_ok-release.ensures.kept ∙ gone) c.in_ok-release.ensures.lets_go
-    (no_steps (Application c.args.key) (house_in old)))
+    steps_on_ok c.serve_line.result (Application c.args.key) (machine_in old) _ _ _ _
+    (steps_quits c.args.key (machine_in old) (pool_in old.pool) (ends_in old.applications) _ (queues_in old.applications) _ _ quit (c.in_ok-release.ensures.kept ∙ gone) c.in_ok-release.ensures.lets_go
+    (no_steps (Application c.args.key) (machine_in old)))
     c.serve_line.ensures.moves c.serve_line.ensures.kept
 
 pub returns-clause-opens : goal.returns-clause-opens
@@ -57,7 +58,7 @@ pub returns-clause-goes_on : goal.returns-clause-goes_on
 returns-clause-goes_on c =
     let old = c.args.self.now in
     go_on c.serve_line.result old c.release.new.self c.serve_line.new.self
-    (λ r. reached_on (Application c.args.key) (desk_in old.desk) (desk_in c.release.new.self.desk) (λ from h. reaches_left c.args.key from (desk_in old.desk) (desk_in c.release.new.self.desk) c.in_ok-release.ensures.leaving h) r)
+    (λ r. reached_on (Application c.args.key) (pool_in old.pool) (pool_in c.release.new.self.pool) (λ from h. reaches_left c.args.key from (pool_in old.pool) (pool_in c.release.new.self.pool) c.in_ok-release.ensures.leaving h) r)
     (gone_go c.args.key old _ c.release.new.self (λ goes. ap (λ (o : Option AnApplication). body_in o goes) c.try_remove.ensures.updates.changed) c.in_ok-release.ensures.asks
     (λ reached. removed_rest c.args.key old _ refl refl c.try_remove.ensures.updates.others) c.in_ok-release.ensures.others)
     c.serve_line.ensures.goes_on
@@ -67,24 +68,42 @@ returns-clause-names c =
     let old = c.args.self.now.applications in
     let gone = quits_is old c.try_remove.new.self c.args.key c.try_remove.result c.try_remove.ensures.value c.try_remove.ensures.slots c.try_remove.ensures.absent in
     names_on c.serve_line.result (slice_set (names_in old) c.args.key None) c.release.new.self.applications c.serve_line.new.self.applications
-    (ap names_of (c.in_ok-release.ensures.kept ∙ gone) ∙ names_left c.args.key (posts_in old)) c.serve_line.ensures.kept
+    (ap names_of (c.in_ok-release.ensures.kept ∙ gone) ∙ names_left c.args.key (queues_in old)) c.serve_line.ensures.kept
 
 pub returns-clause-ordered : goal.returns-clause-ordered
 returns-clause-ordered c = ordered_on c.serve_line.result _ _ _ c.serve_line.ensures.ordered c.in_ok-release.ensures.ordered
 
 pub returns-clause-closes : goal.returns-clause-closes
-returns-clause-closes c = let old = c.args.self.now in
-    let quit = ends_quit old.applications c.try_remove.new.self c.args.key c.try_remove.result c.try_remove.ensures.value c.try_remove.ensures.slots c.try_remove.ensures.absent in
-    let gone = quits_is old.applications c.try_remove.new.self c.args.key c.try_remove.result c.try_remove.ensures.value c.try_remove.ensures.slots c.try_remove.ensures.absent in
-    closes_with c.serve_line.result (IsWaiting (desk_in c.release.new.self.desk).line) (IsWaiting (desk_in c.args.self.now.desk).line) _ _ _ (waited_left c.args.key (desk_in old.desk) (desk_in c.release.new.self.desk) c.in_ok-release.ensures.leaving) c.serve_line.ensures.closes
-    (closes_nobody (IsWaiting (desk_in c.args.self.now.desk).line) _ _ (closes_both Nobody _ _ _ (closes_kept Nobody (without_key c.args.key (register_in old)) _ quit gone refl (kept_refl old.links.items) (unclosed _ _ refl)) c.in_ok-release.ensures.closes))
+returns-clause-closes c =
+    let old = c.args.self.now in
+    let mid = c.release.new.self in
+    let key = c.args.key in
+    let may = IsLentByParting (Application key) key old in
+    let quit = ends_quit old.applications c.try_remove.new.self key c.try_remove.result c.try_remove.ensures.value c.try_remove.ensures.slots c.try_remove.ensures.absent in
+    let gone = quits_is old.applications c.try_remove.new.self key c.try_remove.result c.try_remove.ensures.value c.try_remove.ensures.slots c.try_remove.ensures.absent in
+    let behind : (other : ℕ) → IsLentInVain mid other → IsLentByParting (Application key) key old other = λ other lent. record {
+      was = waited_left key (pool_in old.pool) (pool_in mid.pool) c.in_ok-release.ensures.leaving other lent.waits;
+      mid = mid;
+      steps =
+          steps_quits key (machine_in old) (pool_in old.pool) (ends_in old.applications) _ (queues_in old.applications) _ _ quit (c.in_ok-release.ensures.kept ∙ gone) c.in_ok-release.ensures.lets_go
+          (no_steps (Application key) (machine_in old));
+      waiting = c.in_ok-release.ensures.line;
+      links = c.in_ok-release.ensures.read;
+      goes =
+          gone_go key old _ mid (λ goes. ap (λ (o : Option AnApplication). body_in o goes) c.try_remove.ensures.updates.changed) c.in_ok-release.ensures.asks
+          (λ reached. removed_rest key old _ refl refl c.try_remove.ensures.updates.others) c.in_ok-release.ensures.others;
+      keeps = λ reached. first_own key old mid (c.in_ok-release.ensures.keeps reached);
+      lent = lent;
+    } in
+    closes_with c.serve_line.result (IsLentInVain mid) may _ _ _ behind c.serve_line.ensures.vain
+    (closes_nobody may _ _ (closes_both Nobody _ _ _ (closes_kept Nobody (without_key key (register_in old)) _ quit gone refl (kept_refl old.links.items) (unclosed _ _ refl)) c.in_ok-release.ensures.closes))
 
 pub returns-clause-ends : goal.returns-clause-ends
 returns-clause-ends c = λ reached.
     let old = c.args.self.now in
     let mid = c.release.new.self in
     left_served c.serve_line.result c.args.key old mid c.serve_line.new.self (c.in_ok-release.ensures.ends reached) c.serve_line.ensures.opens (c.in_ok-release.ensures.frees reached)
-    (c.serve_line.ensures.fills (reached_on (Application c.args.key) (desk_in old.desk) (desk_in mid.desk) (λ from h. reaches_left c.args.key from (desk_in old.desk) (desk_in mid.desk) c.in_ok-release.ensures.leaving h) reached))
+    (c.serve_line.ensures.fills (reached_on (Application c.args.key) (pool_in old.pool) (pool_in mid.pool) (λ from h. reaches_left c.args.key from (pool_in old.pool) (pool_in mid.pool) c.in_ok-release.ensures.leaving h) reached))
 
 pub returns-clause-few : goal.returns-clause-few
 returns-clause-few c = few_behind c.serve_line.result _ _ _ _ _ (most_kept _ _ (c.in_ok-release.ensures.closes.told)) (none_stays _ _ c.in_ok-release.ensures.read) c.serve_line.ensures.few
@@ -97,16 +116,16 @@ returns-clause-lasts c =
     let old = c.args.self.now in
     let quit = ends_quit old.applications c.try_remove.new.self c.args.key c.try_remove.result c.try_remove.ensures.value c.try_remove.ensures.slots c.try_remove.ensures.absent in
     let gone = quits_is old.applications c.try_remove.new.self c.args.key c.try_remove.result c.try_remove.ensures.value c.try_remove.ensures.slots c.try_remove.ensures.absent in
-    besides_on c.serve_line.result (λ (number : ℕ). held_by (desk_in old.desk) c.args.key ≡ Some number) (IsWaiting (desk_in old.desk).line) (IsWaiting (desk_in c.release.new.self.desk).line) Nobody
-    (without_key c.args.key (register_in old)) (register_in c.release.new.self) (register_in c.serve_line.new.self) (waited_left c.args.key (desk_in old.desk) (desk_in c.release.new.self.desk) c.in_ok-release.ensures.leaving)
+    besides_on c.serve_line.result (λ (number : ℕ). held_by (pool_in old.pool) c.args.key ≡ Some number) (IsWaiting (pool_in old.pool).line) (IsWaiting (pool_in c.release.new.self.pool).line) Nobody
+    (without_key c.args.key (register_in old)) (register_in c.release.new.self) (register_in c.serve_line.new.self) (waited_left c.args.key (pool_in old.pool) (pool_in c.release.new.self.pool) c.in_ok-release.ensures.leaving)
     (closes_both Nobody _ _ _ (closes_kept Nobody (without_key c.args.key (register_in old)) _ quit gone refl (kept_refl old.links.items) (unclosed _ _ refl)) c.in_ok-release.ensures.closes)
     c.in_ok-release.ensures.lasts c.serve_line.ensures.lasts
 
 pub returns-clause-counts : goal.returns-clause-counts
-returns-clause-counts c = counts_on c.serve_line.result (find_key c.args.key c.args.self.now.desk.holds.items) (cleaned_in c.args.self.now) (cleaned_in c.release.new.self) (cleaned_in c.serve_line.new.self) c.in_ok-release.ensures.counts c.serve_line.ensures.counts
+returns-clause-counts c = counts_on c.serve_line.result (find_key c.args.key c.args.self.now.pool.holds.items) (cleaned_in c.args.self.now) (cleaned_in c.release.new.self) (cleaned_in c.serve_line.new.self) c.in_ok-release.ensures.counts c.serve_line.ensures.counts
 
 pub returns-clause-opening : goal.returns-clause-opening
-returns-clause-opening c = opens_new_on c.serve_line.result c.args.self.now c.release.new.self c.serve_line.new.self (opens_same c.args.self.now c.release.new.self c.release.ensures.opening (left_last c.args.key (desk_in c.args.self.now.desk) (desk_in c.release.new.self.desk) c.in_ok-release.ensures.leaving)) c.serve_line.ensures.opening
+returns-clause-opening c = opens_new_on c.serve_line.result c.args.self.now c.release.new.self c.serve_line.new.self (opens_same c.args.self.now c.release.new.self c.release.ensures.opening (left_last c.args.key (pool_in c.args.self.now.pool) (pool_in c.release.new.self.pool) c.in_ok-release.ensures.leaving)) c.serve_line.ensures.opening
 
 pub returns-clause-lends : goal.returns-clause-lends
 returns-clause-lends c =
@@ -119,9 +138,9 @@ pub returns-clause-puts : goal.returns-clause-puts
 returns-clause-puts c = λ reached.
     let old = c.args.self.now in
     let mid = c.release.new.self in
-    puts_on c.serve_line.result (λ (number : ℕ). holder (desk_in old.desk) number ≡ Some c.args.key) old mid c.serve_line.new.self reached
-    (waited_left c.args.key (desk_in old.desk) (desk_in mid.desk) c.in_ok-release.ensures.leaving) (first_own c.args.key old mid (c.in_ok-release.ensures.keeps reached))
-    (c.serve_line.ensures.fills (reached_on (Application c.args.key) (desk_in old.desk) (desk_in mid.desk) (λ from h. reaches_left c.args.key from (desk_in old.desk) (desk_in mid.desk) c.in_ok-release.ensures.leaving h) reached))
+    puts_on c.serve_line.result (λ (number : ℕ). holder (pool_in old.pool) number ≡ Some c.args.key) old mid c.serve_line.new.self reached
+    (waited_left c.args.key (pool_in old.pool) (pool_in mid.pool) c.in_ok-release.ensures.leaving) (first_own c.args.key old mid (c.in_ok-release.ensures.keeps reached))
+    (c.serve_line.ensures.fills (reached_on (Application c.args.key) (pool_in old.pool) (pool_in mid.pool) (λ from h. reaches_left c.args.key from (pool_in old.pool) (pool_in mid.pool) c.in_ok-release.ensures.leaving h) reached))
 
 pub returns-clause-many : goal.returns-clause-many
 returns-clause-many c = grows_on c.serve_line.result c.args.self.now c.release.new.self c.serve_line.new.self (grows_stays c.args.self.now c.release.new.self c.release.ensures.opening c.in_ok-release.ensures.read) c.serve_line.ensures.many
@@ -134,5 +153,5 @@ returns-clause-cleaned c = λ reached.
     let gone = quits_is old.applications c.try_remove.new.self c.args.key c.try_remove.result c.try_remove.ensures.value c.try_remove.ensures.slots c.try_remove.ensures.absent in
     since_served_on c.serve_line.result c.args.key (without_key c.args.key (register_in old)) old mid c.serve_line.new.self (c.in_ok-release.ensures.cleaned reached) c.serve_line.ensures.opens c.serve_line.ensures.counts
     (closes_both Nobody _ _ _ (closes_kept Nobody (without_key c.args.key (register_in old)) _ quit gone refl (kept_refl old.links.items) (unclosed _ _ refl)) c.in_ok-release.ensures.closes)
-    (last_more_on c.serve_line.result (IsWaiting (desk_in mid.desk).line) (IsWaiting (desk_in old.desk).line) (register_in mid) (register_in c.serve_line.new.self)
-    (waited_left c.args.key (desk_in old.desk) (desk_in mid.desk) c.in_ok-release.ensures.leaving) c.serve_line.ensures.lasts)
+    (last_more_on c.serve_line.result (IsWaiting (pool_in mid.pool).line) (IsWaiting (pool_in old.pool).line) (register_in mid) (register_in c.serve_line.new.self)
+    (waited_left c.args.key (pool_in old.pool) (pool_in mid.pool) c.in_ok-release.ensures.leaving) c.serve_line.ensures.lasts)

@@ -2,14 +2,14 @@ use Rattle.std.proofs.Common.{List, inl, refl, ap, subst, sym, rules, false, tru
 use Rattle.tds_relay.specs.Waiting.{IsUnheldOrTurnedAway}
 use Rattle.tds_relay.specs.declared.link.Link.{Link}
 use Rattle.tds_relay.specs.Lent.{IsMadeOn}
-use Rattle.tds_relay.specs.Ties.{desk_in, IsReached}
+use Rattle.tds_relay.specs.Ties.{pool_in, IsReached}
 use Rattle.tds_relay.proofs.steps.Fronts.{moves_same}
 use Rattle.tds_relay.proofs.steps.Reaching.{ok_more, ok_if}
 use Rattle.tds_relay.proofs.steps.Staying.{opens_by_push, opens_on}
 use Rattle.tds_relay.proofs.bytes.Calls.{stand_from}
-use Rattle.tds_relay.specs.declared.desk.Desk as code
-use Rattle.tds_relay.proofs.spared.Resting.{go_on, go_on_one, pushed_rest, rest_go}
-use Rattle.tds_relay.specs.Fronts.{hall_in}
+use Rattle.tds_relay.specs.declared.pool.Pool as code
+use Rattle.tds_relay.proofs.spared.Resting.{go_on, go_on_one, pushed_rest, rest_go, all_others, others_on}
+use Rattle.tds_relay.specs.Fronts.{core_in}
 use Rattle.tds_relay.proofs.spared.Apart.{alone_on, alone_refl, alone_same}
 use Rattle.tds_relay.proofs.spared.Ordered.{ordered_on, ordered_same}
 use Rattle.tds_relay.specs.Closings.{Itself, register_in}
@@ -36,13 +36,13 @@ pub returns-clause-opens : goal.returns-clause-opens
 returns-clause-opens c = opens_by_push c.args.self.now.links.items c.args.self.now.links.items c.push.new.self.items c.in_ok-link.link refl c.in_ok-push.ensures.items c.in_ok-link.ensures.closed c.in_ok-link.ensures.unnamed
 
 pub returns-then-served-clause-moves : goal.returns-then-served-clause-moves
-returns-then-served-clause-moves c = ok_more c.start_kept.result _ _ (λ m by from h. m by from (moves_same by from _ _ _ _ (ap desk_in c.restart.ensures.desk) c.restart.ensures.ends h)) c.start_kept.ensures.moves
+returns-then-served-clause-moves c = ok_more c.start_kept.result _ _ (λ m by from h. m by from (moves_same by from _ _ _ _ (ap pool_in c.restart.ensures.pool) c.restart.ensures.ends h)) c.start_kept.ensures.moves
 
 pub returns-then-served-clause-stand : goal.returns-then-served-clause-stand
-returns-then-served-clause-stand c = stand_from c.start_kept.result _ _ _ c.restart.ensures.desk c.start_kept.ensures.stand
+returns-then-served-clause-stand c = stand_from c.start_kept.result _ _ _ c.restart.ensures.pool c.start_kept.ensures.stand
 
 pub returns-then-served-clause-goes_on : goal.returns-then-served-clause-goes_on
-returns-then-served-clause-goes_on c = go_on c.start_kept.result c.args.self.now c.restart.new.self c.start_kept.new.self (λ r. subst (λ (d : code.Desk). IsReached (desk_in d)) (sym c.restart.ensures.desk) r)
+returns-then-served-clause-goes_on c = go_on c.start_kept.result c.args.self.now c.restart.new.self c.start_kept.new.self (λ r. subst (λ (d : code.Pool). IsReached (pool_in d)) (sym c.restart.ensures.pool) r)
     (rest_go c.args.self.now c.restart.new.self (λ r. c.restart.ensures.rests))
     (go_on_one c.start_kept.result c.args.served.hold.key c.restart.new.self c.start_kept.new.self c.start_kept.ensures.body c.start_kept.ensures.others)
 
@@ -51,11 +51,11 @@ returns-clause-goes_on c = rest_go c.args.self.now _ (λ r. pushed_rest c.in_ok-
 
 pub returns-then-served-clause-alone : goal.returns-then-served-clause-alone
 returns-then-served-clause-alone c =
-    alone_on c.start_kept.result c.args.served.hold.key (hall_in c.args.self.now) (hall_in c.restart.new.self) _ c.start_kept.ensures.alone
-    (alone_same c.args.served.hold.key (hall_in c.args.self.now) (hall_in c.restart.new.self) c.restart.ensures.ends (ap (λ (d : code.Desk). (desk_in d).line) c.restart.ensures.desk))
+    alone_on c.start_kept.result c.args.served.hold.key (core_in c.args.self.now) (core_in c.restart.new.self) _ c.start_kept.ensures.alone
+    (alone_same c.args.served.hold.key (core_in c.args.self.now) (core_in c.restart.new.self) c.restart.ensures.ends (ap (λ (d : code.Pool). (pool_in d).line) c.restart.ensures.pool))
 
 pub returns-clause-alone : goal.returns-clause-alone
-returns-clause-alone c = alone_refl c.args.served.hold.key (hall_in c.args.self.now)
+returns-clause-alone c = alone_refl c.args.served.hold.key (core_in c.args.self.now)
 
 pub returns-then-served-clause-ordered : goal.returns-then-served-clause-ordered
 returns-then-served-clause-ordered c = ordered_on c.start_kept.result _ _ _ c.start_kept.ensures.ordered (ordered_same _ _ c.restart.ensures.orders)
@@ -64,7 +64,7 @@ pub returns-clause-ordered : goal.returns-clause-ordered
 returns-clause-ordered c = (_, c.in_ok-push-2.ensures.items)
 
 pub returns-then-served-clause-closes : goal.returns-then-served-clause-closes
-returns-then-served-clause-closes c = lent_for c.start_kept.result c.args.served.hold.key c.args.self.now c.restart.new.self c.start_kept.new.self c.restart.ensures.desk c.restart.ensures.same c.restart.ensures.posts c.restart.ensures.read.seen c.restart.ensures.closes c.start_kept.ensures.closes
+returns-then-served-clause-closes c = lent_for c.start_kept.result c.args.served.hold.key c.args.self.now c.restart.new.self c.start_kept.new.self c.restart.ensures.pool c.restart.ensures.same c.restart.ensures.queues c.restart.ensures.read.seen c.restart.ensures.closes c.start_kept.ensures.closes
 
 pub returns-clause-closes : goal.returns-clause-closes
 returns-clause-closes c = closes_pushed (ItselfFor c.args.served.hold.key (IsUnheldOrTurnedAway c.args.served.hold.key c.args.self.now)) _ _ _ c.args.served.hold.number refl refl refl c.in_ok-push.ensures.items c.in_ok-link.ensures.number c.in_ok-link.ensures.unnamed c.in_ok-link.ensures.nothing c.in_ok-push-2.ensures.items
@@ -94,12 +94,12 @@ returns-clause-lasts c = inl (last_pushed c.in_ok-link.link _ _ c.in_ok-push.ens
 pub returns-then-served-clause-seated : goal.returns-then-served-clause-seated
 returns-then-served-clause-seated c = λ s.
     let had : c.args.served.had ≡ true = search rules in
-    c.start_kept.ensures.seated (lasting_seated c.args.self.now c.restart.new.self c.restart.ensures.desk c.restart.ensures.lasts c.restart.ensures.read (if_had true c.args.served.had c.args.served.hold.number c.args.self.now had s))
+    c.start_kept.ensures.seated (lasting_seated c.args.self.now c.restart.new.self c.restart.ensures.pool c.restart.ensures.lasts c.restart.ensures.read (if_had true c.args.served.had c.args.served.hold.number c.args.self.now had s))
 
 pub returns-clause-seated : goal.returns-clause-seated
 returns-clause-seated c = λ s.
     let had : c.args.served.had ≡ false = search rules in
-    seated_pushed c.args.served.hold.number (desk_in c.args.self.now.desk) c.in_ok-link.link c.args.self.now.links.items c.push.new.self.items c.in_ok-push.ensures.items c.in_ok-link.ensures.number
+    seated_pushed c.args.served.hold.number (pool_in c.args.self.now.pool) c.in_ok-link.link c.args.self.now.links.items c.push.new.self.items c.in_ok-push.ensures.items c.in_ok-link.ensures.number
     (if_had false c.args.served.had c.args.served.hold.number c.args.self.now had s)
 
 pub returns-then-served-clause-opening : goal.returns-then-served-clause-opening
@@ -117,13 +117,13 @@ returns-clause-opening c =
 pub returns-then-served-clause-own : goal.returns-then-served-clause-own
 returns-then-served-clause-own c = λ reached its.
     own_behind c.start_kept.result c.args.served.hold.key c.args.self.now c.restart.new.self c.start_kept.new.self
-    (own_put c.args.served.hold.key c.args.served.hold.number c.args.self.now.desk.holds.items c.args.self.now.links.items c.restart.new.self.desk.holds.items c.restart.new.self.links.items (ap (λ (d : code.Desk). d.holds.items) c.restart.ensures.desk) its
-    (begun_own c.args.served.hold.number c.args.self.now.links.items c.restart.new.self.links.items c.restart.ensures.posts c.restart.ensures.others))
-    (c.start_kept.ensures.own (subst (λ (d : code.Desk). IsReached (desk_in d)) (sym c.restart.ensures.desk) reached))
+    (own_put c.args.served.hold.key c.args.served.hold.number c.args.self.now.pool.holds.items c.args.self.now.links.items c.restart.new.self.pool.holds.items c.restart.new.self.links.items (ap (λ (d : code.Pool). d.holds.items) c.restart.ensures.pool) its
+    (begun_own c.args.served.hold.number c.args.self.now.links.items c.restart.new.self.links.items c.restart.ensures.queues c.restart.ensures.others))
+    (c.start_kept.ensures.own (subst (λ (d : code.Pool). IsReached (pool_in d)) (sym c.restart.ensures.pool) reached))
 
 pub returns-clause-own : goal.returns-clause-own
 returns-clause-own c = λ reached its.
-    own_pushed c.args.served.hold.key c.args.served.hold.number c.args.self.now.desk.holds.items c.args.self.now.links.items c.push.new.self.items c.in_ok-link.link its c.in_ok-link.ensures.number c.in_ok-push.ensures.items
+    own_pushed c.args.served.hold.key c.args.served.hold.number c.args.self.now.pool.holds.items c.args.self.now.links.items c.push.new.self.items c.in_ok-link.link its c.in_ok-link.ensures.number c.in_ok-push.ensures.items
 
 pub returns-then-served-clause-many : goal.returns-then-served-clause-many
 returns-then-served-clause-many c =
@@ -133,3 +133,11 @@ pub returns-clause-many : goal.returns-clause-many
 returns-clause-many c =
     pushed_more c.args.served.hold.number c.in_ok-link.link c.args.self.now.links.items c.push.new.self.items (opens_in c.args.self.now.orders.items) _ c.in_ok-push.ensures.items
     (opens_one c.args.served.hold.number c.args.self.now.orders.items _ c.in_ok-push-2.ensures.items)
+
+pub returns-then-served-clause-others : goal.returns-then-served-clause-others
+returns-then-served-clause-others c = λ reached.
+    others_on c.start_kept.result c.args.served.hold.key c.args.self.now c.restart.new.self c.start_kept.new.self (c.start_kept.ensures.others (subst (λ (d : code.Pool). IsReached (pool_in d)) (sym c.restart.ensures.pool) reached))
+    (all_others c.args.served.hold.key c.args.self.now c.restart.new.self c.restart.ensures.rests)
+
+pub returns-clause-others : goal.returns-clause-others
+returns-clause-others c = λ reached. all_others c.args.served.hold.key c.args.self.now _ (pushed_rest c.in_ok-link.link c.args.self.now _ refl refl c.in_ok-push.ensures.items)

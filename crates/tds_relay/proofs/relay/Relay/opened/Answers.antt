@@ -1,19 +1,20 @@
-use Rattle.std.proofs.Common.{◌∙◌, ap, subst, sym, inl, inr, ◌≤◌, ◌≡◌, length, arith}
-use Rattle.tds_relay.specs.Fronts.{hall_in, house_in}
-use Rattle.tds_relay.specs.Ties.{desk_in, IsReached, Reaches}
+use Rattle.std.proofs.Common.{ℕ, ◌∙◌, ap, subst, sym, inl, inr, ◌≤◌, ◌≡◌, length, arith}
+use Rattle.tds_relay.specs.Fronts.{core_in, machine_in}
+use Rattle.tds_relay.specs.Ties.{pool_in, IsReached, Reaches, Neither}
 use Rattle.tds_relay.proofs.steps.Stepping.{no_steps, steps_moved, steps_same, steps_whoever}
-use Rattle.tds_relay.proofs.steps.Staying.{opens_one_served, stays_behind}
+use Rattle.tds_relay.proofs.steps.Fullness.{full_queued}
+use Rattle.tds_relay.proofs.steps.Staying.{opens_one_served, stays_behind, opens_alone}
 use Rattle.tds_relay.proofs.bytes.Calls.{stand_back, stand_on}
-use Rattle.tds_relay.specs.declared.desk.Desk as code
+use Rattle.tds_relay.specs.declared.pool.Pool as code
 use Rattle.tds_relay.proofs.spared.Resting.{all_both, all_rest, asks_on, go_both, go_on, reached_on_does, rest_go}
-use Rattle.tds_relay.specs.Reads.{post_on, open_at, carried_there, waits_on}
+use Rattle.tds_relay.specs.Reads.{queue_on, open_at, carried_there, waits_on}
 use Rattle.tds_relay.proofs.spared.Starting.{started_on}
 use Rattle.tds_relay.proofs.steps.Renaming.{names_on}
-use Rattle.tds_relay.specs.Posts.{names_in, names_of}
+use Rattle.tds_relay.specs.Queues.{names_in, names_of}
 use Rattle.tds_relay.proofs.spared.Ordered.{ordered_both, ordered_on, ordered_same}
 use Rattle.tds_relay.proofs.spared.Lines.{waited_on}
 use Rattle.tds_relay.specs.Closings.{IsWaiting, IsWho, Nobody, WhoOrWaiting, register_in}
-use Rattle.tds_relay.specs.Hall.{holder, is_in}
+use Rattle.tds_relay.specs.Core.{holder, is_in}
 use Rattle.tds_relay.proofs.spared.Closings.{closes_both, closes_more, closes_nobody, closes_with, writes_behind, writes_stay}
 use Rattle.tds_relay.proofs.spared.Few.{few_behind, most_kept, none_both, none_same, none_stays}
 use Rattle.tds_relay.proofs.seats.Relays.{kept_seated, kept_there}
@@ -26,18 +27,18 @@ use Rattle.tds_relay.proofs.spared.Apart.{lends_after}
 use Rattle.tds_relay.proofs.spared.Filling.{carried_same, first_then, puts_on}
 use Rattle.tds_relay.specs.Lent.{IsWithHolder}
 use Rattle.tds_relay.specs.declared.link.Link.{Link}
-use Rattle.tds_relay.specs.Waiting.{OpensFor}
 use Rattle.tds_relay.specs.Reasons.{IsTurnedAwayAt}
 use Rattle.tds_relay.proofs.spared.Turned.{opens_for}
+use Rattle.tds_relay.specs.Waiting.{IsLentInVain, OpensOrLends}
 use Rattle.tds_relay.proofs.relay.Relay.opened.Goals as goal
 
 pub returns-clause-steps : goal.returns-clause-steps
 returns-clause-steps c =
-    let old = house_in c.args.self.now in
+    let old = machine_in c.args.self.now in
     steps_whoever c.serve_line.result old _ _ _ _
     (λ by.
     steps_moved by old _ _ _ _ (c.in_ok-start_on.ensures.moves by) c.in_ok-start_on.ensures.kept
-    (steps_same by old _ _ _ _ _ _ (ap desk_in (c.in_ok-order_write_on.ensures.desk ∙ c.set_open.ensures.desk))
+    (steps_same by old _ _ _ _ _ _ (ap pool_in (c.in_ok-order_write_on.ensures.pool ∙ c.set_open.ensures.pool))
     (c.in_ok-order_write_on.ensures.ends ∙ c.set_open.ensures.ends) (c.in_ok-order_write_on.ensures.kept ∙ c.set_open.ensures.kept)
     (no_steps by old)))
     c.serve_line.ensures.moves c.serve_line.ensures.kept
@@ -45,36 +46,37 @@ returns-clause-steps c =
 pub returns-clause-opens : goal.returns-clause-opens
 returns-clause-opens c =
     opens_one_served c.serve_line.result c.args.number _ _ _ _ c.set_open.ensures.opens c.set_open.ensures.waits c.set_open.ensures.answers c.set_open.ensures.seen
+    (λ other. full_queued other c.args.self.now.links.items c.set_open.new.self.links.items (c.set_open.ensures.queues other))
     (stays_behind _ _ _ c.in_ok-order_write_on.ensures.links c.in_ok-start_on.ensures.read) c.serve_line.ensures.opens
 
 pub returns-clause-stand : goal.returns-clause-stand
-returns-clause-stand c = stand_on c.serve_line.result _ _ _ (stand_back _ _ _ (c.order_write_on.ensures.desk ∙ c.set_open.ensures.desk) c.in_ok-start_on.ensures.stand) c.serve_line.ensures.stand
+returns-clause-stand c = stand_on c.serve_line.result _ _ _ (stand_back _ _ _ (c.order_write_on.ensures.pool ∙ c.set_open.ensures.pool) c.in_ok-start_on.ensures.stand) c.serve_line.ensures.stand
 
 pub returns-clause-goes_on : goal.returns-clause-goes_on
 returns-clause-goes_on c =
-    let same = c.order_write_on.ensures.desk ∙ c.set_open.ensures.desk in
-    let led : IsReached (desk_in c.args.self.now.desk) → IsReached (desk_in c.order_write_on.new.self.desk) = λ r. subst (λ (d : code.Desk). IsReached (desk_in d)) (sym same) r in
+    let same = c.order_write_on.ensures.pool ∙ c.set_open.ensures.pool in
+    let led : IsReached (pool_in c.args.self.now.pool) → IsReached (pool_in c.order_write_on.new.self.pool) = λ r. subst (λ (d : code.Pool). IsReached (pool_in d)) (sym same) r in
     go_on c.serve_line.result c.args.self.now c.start_on.new.self c.serve_line.new.self
-    (λ r. reached_on_does (desk_in c.order_write_on.new.self.desk) (desk_in c.start_on.new.self.desk) c.in_ok-start_on.ensures.goes (led r))
+    (λ r. reached_on_does (pool_in c.order_write_on.new.self.pool) (pool_in c.start_on.new.self.pool) c.in_ok-start_on.ensures.goes (led r))
     (go_both c.args.self.now c.order_write_on.new.self c.start_on.new.self led
     (rest_go c.args.self.now c.order_write_on.new.self (λ r. all_both c.args.self.now c.set_open.new.self c.order_write_on.new.self c.set_open.ensures.same
-    (all_rest c.set_open.new.self c.order_write_on.new.self c.order_write_on.ensures.desk c.in_ok-order_write_on.ensures.links
+    (all_rest c.set_open.new.self c.order_write_on.new.self c.order_write_on.ensures.pool c.in_ok-order_write_on.ensures.links
     (asks_on c.set_open.new.self c.order_write_on.new.self c.in_ok-order_write_on.ensures.asks))))
     c.in_ok-start_on.ensures.goes_on)
     c.serve_line.ensures.goes_on
 
 pub returns-clause-starts : goal.returns-clause-starts
 returns-clause-starts c = λ reached.
-    let same = c.order_write_on.ensures.desk ∙ c.set_open.ensures.desk in
+    let same = c.order_write_on.ensures.pool ∙ c.set_open.ensures.pool in
     started_on c.serve_line.result c.args.number c.args.self.now c.order_write_on.new.self c.start_on.new.self c.serve_line.new.self reached same
     (c.in_ok-order_write_on.ensures.ends ∙ c.set_open.ensures.ends)
     (λ other. ap (open_at other) c.in_ok-order_write_on.ensures.links ∙ c.set_open.ensures.opens other)
     (λ other. ap (waits_on other) c.in_ok-order_write_on.ensures.links ∙ c.set_open.ensures.waits other)
     (all_both c.args.self.now c.set_open.new.self c.order_write_on.new.self c.set_open.ensures.same
-    (all_rest c.set_open.new.self c.order_write_on.new.self c.order_write_on.ensures.desk c.in_ok-order_write_on.ensures.links
+    (all_rest c.set_open.new.self c.order_write_on.new.self c.order_write_on.ensures.pool c.in_ok-order_write_on.ensures.links
     (asks_on c.set_open.new.self c.order_write_on.new.self c.in_ok-order_write_on.ensures.asks)))
     c.in_ok-start_on.ensures.goes_on c.serve_line.ensures.goes_on
-    (λ r. reached_on_does (desk_in c.order_write_on.new.self.desk) (desk_in c.start_on.new.self.desk) c.in_ok-start_on.ensures.goes r)
+    (λ r. reached_on_does (pool_in c.order_write_on.new.self.pool) (pool_in c.start_on.new.self.pool) c.in_ok-start_on.ensures.goes r)
     c.in_ok-start_on.ensures.waits c.in_ok-start_on.ensures.behind
 
 pub returns-clause-names : goal.returns-clause-names
@@ -90,74 +92,97 @@ pub returns-clause-closes : goal.returns-clause-closes
 returns-clause-closes c =
     let old = c.args.self.now in
     let at = c.order_write_on.new.self in
-    let may = OpensFor c.args.number old in
-    let same = c.order_write_on.ensures.desk ∙ c.set_open.ensures.desk in
+    let mid = c.start_on.new.self in
+    let may = OpensOrLends c.args.number old in
+    let same = c.order_write_on.ensures.pool ∙ c.set_open.ensures.pool in
+    let led : IsReached (pool_in old.pool) → IsReached (pool_in at.pool) = λ r. subst (λ (d : code.Pool). IsReached (pool_in d)) (sym same) r in
     let first = closes_both Nobody _ _ _ c.set_open.ensures.closes c.in_ok-order_write_on.ensures.closes in
-    closes_with c.serve_line.result (IsWaiting (desk_in c.start_on.new.self.desk).line) may _ _ _
-    (λ key e. inr (ap (λ (d : code.Desk). is_in key (desk_in d).line) (sym same) ∙ waited_on (desk_in at.desk) (desk_in c.start_on.new.self.desk) c.in_ok-start_on.ensures.goes key e)) c.serve_line.ensures.closes
+    let waiting : mid.pool.line.items ≡ old.pool.line.items = c.in_ok-start_on.ensures.alone.line ∙ ap (λ (d : code.Pool). d.line.items) same in
+    let behind : (other : ℕ) → IsLentInVain mid other → OpensOrLends c.args.number old other = λ other lent. inr (record {
+      was = ap (is_in other) (sym waiting) ∙ lent.waits;
+      mid = mid;
+      steps =
+          steps_moved Neither (machine_in old) _ _ _ _ (c.in_ok-start_on.ensures.moves Neither) c.in_ok-start_on.ensures.kept
+          (steps_same Neither (machine_in old) _ _ _ _ _ _ (ap pool_in same) (c.in_ok-order_write_on.ensures.ends ∙ c.set_open.ensures.ends) (c.in_ok-order_write_on.ensures.kept ∙ c.set_open.ensures.kept)
+          (no_steps Neither (machine_in old)));
+      waiting = waiting;
+      links =
+          opens_alone c.args.number old.links.items c.set_open.new.self.links.items mid.links.items c.set_open.ensures.opens c.set_open.ensures.waits c.set_open.ensures.answers c.set_open.ensures.seen
+          (λ n. full_queued n old.links.items c.set_open.new.self.links.items (c.set_open.ensures.queues n)) (stays_behind _ _ _ c.in_ok-order_write_on.ensures.links c.in_ok-start_on.ensures.read);
+      goes =
+          go_both old at mid led
+          (rest_go old at (λ r. all_both old c.set_open.new.self at c.set_open.ensures.same
+          (all_rest c.set_open.new.self at c.order_write_on.ensures.pool c.in_ok-order_write_on.ensures.links (asks_on c.set_open.new.self at c.in_ok-order_write_on.ensures.asks))))
+          c.in_ok-start_on.ensures.goes_on;
+      keeps = λ reached.
+          first_then c.args.number old at mid same
+          (λ n. ap (carried_there n) c.in_ok-order_write_on.ensures.links ∙ carried_same n old.links.items c.set_open.new.self.links.items (c.set_open.ensures.queues n) (c.set_open.ensures.answers n)) (c.in_ok-start_on.ensures.keeps (led reached));
+      lent = lent;
+    }) in
+    closes_with c.serve_line.result (IsLentInVain mid) may _ _ _ behind c.serve_line.ensures.vain
     (closes_both may _ _ _ (closes_nobody may _ _ first)
-    (closes_more (λ other. IsWho (holder (desk_in at.desk) c.args.number) other × IsTurnedAwayAt other at) may _ _
-    (λ key e. opens_for c.args.number key old at same (c.in_ok-order_write_on.ensures.ends ∙ c.set_open.ensures.ends)
+    (closes_more (λ other. IsWho (holder (pool_in at.pool) c.args.number) other × IsTurnedAwayAt other at) may _ _
+    (λ key e. inl (opens_for c.args.number key old at same (c.in_ok-order_write_on.ensures.ends ∙ c.set_open.ensures.ends)
     (λ k goes. c.in_ok-order_write_on.ensures.asks k goes ∙ c.set_open.ensures.asks k goes)
     (record {
       opens = λ other. ap (open_at other) c.in_ok-order_write_on.ensures.links ∙ c.set_open.ensures.opens other;
-      posts = λ other. ap (post_on other) c.in_ok-order_write_on.ensures.links ∙ c.set_open.ensures.posts other;
-    }) e) c.in_ok-start_on.ensures.closes))
+      queues = λ other. ap (queue_on other) c.in_ok-order_write_on.ensures.links ∙ c.set_open.ensures.queues other;
+    }) e)) c.in_ok-start_on.ensures.closes))
 
 pub returns-clause-few : goal.returns-clause-few
 returns-clause-few c = few_behind c.serve_line.result _ _ _ _ _ (most_kept _ _ (c.in_ok-start_on.ensures.closes.told ∙ c.in_ok-order_write_on.ensures.closes.told ∙ c.set_open.ensures.closes.told)) (none_both _ _ _ (none_same _ _ c.set_open.ensures.waits) (none_stays _ _ (stays_behind _ _ _ c.in_ok-order_write_on.ensures.links c.in_ok-start_on.ensures.read))) c.serve_line.ensures.few
 
 pub returns-clause-writes : goal.returns-clause-writes
 returns-clause-writes c =
-    writes_stay c.serve_line.result (IsWaiting (desk_in c.start_on.new.self.desk).line) c.args.number (register_in c.start_on.new.self) (register_in c.serve_line.new.self) c.serve_line.ensures.closes
+    writes_stay c.serve_line.result (IsWaiting (pool_in c.start_on.new.self.pool).line) c.args.number (register_in c.start_on.new.self) (register_in c.serve_line.new.self) c.serve_line.ensures.closes
     (writes_behind _ c.args.number (register_in c.order_write_on.new.self) (register_in c.start_on.new.self) c.in_ok-start_on.ensures.closes c.in_ok-order_write_on.ensures.writes)
 
 pub returns-clause-seated : goal.returns-clause-seated
 returns-clause-seated c = λ s.
-    c.serve_line.ensures.seated (c.in_ok-start_on.ensures.seated (kept_seated c.set_open.new.self c.order_write_on.new.self c.order_write_on.ensures.desk c.in_ok-order_write_on.ensures.links
-    (kept_there c.args.self.now c.set_open.new.self c.set_open.ensures.desk (all_there c.args.self.now.links.items c.set_open.new.self.links.items c.set_open.ensures.waits) s)))
+    c.serve_line.ensures.seated (c.in_ok-start_on.ensures.seated (kept_seated c.set_open.new.self c.order_write_on.new.self c.order_write_on.ensures.pool c.in_ok-order_write_on.ensures.links
+    (kept_there c.args.self.now c.set_open.new.self c.set_open.ensures.pool (all_there c.args.self.now.links.items c.set_open.new.self.links.items c.set_open.ensures.waits) s)))
 
 pub returns-clause-goes : goal.returns-clause-goes
 returns-clause-goes c =
     ok_more c.serve_line.result _ _ (λ g by from h. g by from (c.in_ok-start_on.ensures.goes by from
-    (subst (λ (d : code.Desk). Reaches by from (desk_in d)) (sym (c.order_write_on.ensures.desk ∙ c.set_open.ensures.desk)) h))) c.serve_line.ensures.goes
+    (subst (λ (d : code.Pool). Reaches by from (pool_in d)) (sym (c.order_write_on.ensures.pool ∙ c.set_open.ensures.pool)) h))) c.serve_line.ensures.goes
 
 pub returns-clause-lasts : goal.returns-clause-lasts
 returns-clause-lasts c =
-    let same = c.order_write_on.ensures.desk ∙ c.set_open.ensures.desk in
-    let may = WhoOrWaiting (holder (desk_in c.args.self.now.desk) c.args.number) (desk_in c.args.self.now.desk).line in
+    let same = c.order_write_on.ensures.pool ∙ c.set_open.ensures.pool in
+    let may = WhoOrWaiting (holder (pool_in c.args.self.now.pool) c.args.number) (pool_in c.args.self.now.pool).line in
     let first = closes_both Nobody _ _ _ c.set_open.ensures.closes c.in_ok-order_write_on.ensures.closes in
-    last_then c.serve_line.result may (IsWaiting (desk_in c.start_on.new.self.desk).line) (register_in c.args.self.now) (register_in c.start_on.new.self) (register_in c.serve_line.new.self)
-    (closes_both may _ _ _ (closes_nobody may _ _ first) (closes_more _ may _ _ (λ key e. inl (ap (λ (d : code.Desk). holder (desk_in d) c.args.number) (sym same) ∙ e.0)) c.in_ok-start_on.ensures.closes))
-    (last_from may (IsWho (holder (desk_in c.order_write_on.new.self.desk) c.args.number)) Nobody (register_in c.args.self.now) (register_in c.order_write_on.new.self) (register_in c.start_on.new.self) first
+    last_then c.serve_line.result may (IsWaiting (pool_in c.start_on.new.self.pool).line) (register_in c.args.self.now) (register_in c.start_on.new.self) (register_in c.serve_line.new.self)
+    (closes_both may _ _ _ (closes_nobody may _ _ first) (closes_more _ may _ _ (λ key e. inl (ap (λ (d : code.Pool). holder (pool_in d) c.args.number) (sym same) ∙ e.0)) c.in_ok-start_on.ensures.closes))
+    (last_from may (IsWho (holder (pool_in c.order_write_on.new.self.pool) c.args.number)) Nobody (register_in c.args.self.now) (register_in c.order_write_on.new.self) (register_in c.start_on.new.self) first
     (last_all c.args.self.now.links.items c.set_open.new.self.links.items c.order_write_on.new.self.links.items (last_same c.args.self.now.links.items c.set_open.new.self.links.items c.set_open.ensures.waits) (last_links c.set_open.new.self.links.items c.order_write_on.new.self.links.items c.in_ok-order_write_on.ensures.links))
-    (λ key e. inl (ap (λ (d : code.Desk). holder (desk_in d) c.args.number) (sym same) ∙ e)) c.in_ok-start_on.ensures.lasts)
-    (λ key e. inr (ap (λ (d : code.Desk). is_in key (desk_in d).line) (sym same) ∙ waited_on (desk_in c.order_write_on.new.self.desk) (desk_in c.start_on.new.self.desk) c.in_ok-start_on.ensures.goes key e))
+    (λ key e. inl (ap (λ (d : code.Pool). holder (pool_in d) c.args.number) (sym same) ∙ e)) c.in_ok-start_on.ensures.lasts)
+    (λ key e. inr (ap (λ (d : code.Pool). is_in key (pool_in d).line) (sym same) ∙ waited_on (pool_in c.order_write_on.new.self.pool) (pool_in c.start_on.new.self.pool) c.in_ok-start_on.ensures.goes key e))
     c.serve_line.ensures.closes c.serve_line.ensures.lasts
 
 pub returns-clause-opening : goal.returns-clause-opening
 returns-clause-opening c =
-    let same = c.order_write_on.ensures.desk ∙ c.set_open.ensures.desk in
+    let same = c.order_write_on.ensures.pool ∙ c.set_open.ensures.pool in
     opens_new_on c.serve_line.result c.args.self.now c.start_on.new.self c.serve_line.new.self
     (opens_same c.args.self.now c.start_on.new.self (c.start_on.ensures.opening ∙ c.order_write_on.ensures.opening ∙ ap opens_in c.set_open.ensures.orders)
-    (subst (λ (d : code.Desk). (desk_in d).service.last ≤ (desk_in c.start_on.new.self.desk).service.last) same (on_last (desk_in c.order_write_on.new.self.desk) (desk_in c.start_on.new.self.desk) c.in_ok-start_on.ensures.goes)))
+    (subst (λ (d : code.Pool). (pool_in d).service.last ≤ (pool_in c.start_on.new.self.pool).service.last) same (on_last (pool_in c.order_write_on.new.self.pool) (pool_in c.start_on.new.self.pool) c.in_ok-start_on.ensures.goes)))
     c.serve_line.ensures.opening
 
 pub returns-clause-lends : goal.returns-clause-lends
 returns-clause-lends c =
-    lends_after c.serve_line.result c.args.number (hall_in c.args.self.now) (hall_in c.order_write_on.new.self) (hall_in c.start_on.new.self) (hall_in c.serve_line.new.self) (ap desk_in (c.order_write_on.ensures.desk ∙ c.set_open.ensures.desk))
+    lends_after c.serve_line.result c.args.number (core_in c.args.self.now) (core_in c.order_write_on.new.self) (core_in c.start_on.new.self) (core_in c.serve_line.new.self) (ap pool_in (c.order_write_on.ensures.pool ∙ c.set_open.ensures.pool))
     (c.in_ok-order_write_on.ensures.ends ∙ c.set_open.ensures.ends) c.in_ok-start_on.ensures.alone c.serve_line.ensures.lends
 
 pub returns-clause-puts : goal.returns-clause-puts
 returns-clause-puts c = λ reached.
-    let same = c.order_write_on.ensures.desk ∙ c.set_open.ensures.desk in
-    let led : IsReached (desk_in c.order_write_on.new.self.desk) = subst (λ (d : code.Desk). IsReached (desk_in d)) (sym same) reached in
+    let same = c.order_write_on.ensures.pool ∙ c.set_open.ensures.pool in
+    let led : IsReached (pool_in c.order_write_on.new.self.pool) = subst (λ (d : code.Pool). IsReached (pool_in d)) (sym same) reached in
     let old = c.args.self.now in
     let mid = c.start_on.new.self in
     puts_on c.serve_line.result (IsWithHolder c.args.number old) old mid c.serve_line.new.self reached
-    (λ key e. ap (λ (d : code.Desk). is_in key (desk_in d).line) (sym same) ∙ waited_on (desk_in c.order_write_on.new.self.desk) (desk_in mid.desk) c.in_ok-start_on.ensures.goes key e)
-    (first_then c.args.number old c.order_write_on.new.self mid same (λ n. ap (carried_there n) c.in_ok-order_write_on.ensures.links ∙ carried_same n old.links.items c.set_open.new.self.links.items (c.set_open.ensures.posts n) (c.set_open.ensures.answers n)) (c.in_ok-start_on.ensures.keeps led))
-    (c.serve_line.ensures.fills (reached_on_does (desk_in c.order_write_on.new.self.desk) (desk_in mid.desk) c.in_ok-start_on.ensures.goes led))
+    (λ key e. ap (λ (d : code.Pool). is_in key (pool_in d).line) (sym same) ∙ waited_on (pool_in c.order_write_on.new.self.pool) (pool_in mid.pool) c.in_ok-start_on.ensures.goes key e)
+    (first_then c.args.number old c.order_write_on.new.self mid same (λ n. ap (carried_there n) c.in_ok-order_write_on.ensures.links ∙ carried_same n old.links.items c.set_open.new.self.links.items (c.set_open.ensures.queues n) (c.set_open.ensures.answers n)) (c.in_ok-start_on.ensures.keeps led))
+    (c.serve_line.ensures.fills (reached_on_does (pool_in c.order_write_on.new.self.pool) (pool_in mid.pool) c.in_ok-start_on.ensures.goes led))
 
 pub returns-clause-many : goal.returns-clause-many
 returns-clause-many c =

@@ -1,7 +1,7 @@
 use Rattle.std.proofs.Common.{ap, inl, inr, refl, rules, subst, sym}
-use Rattle.tds_relay.specs.Hall.{Ends, end_at, closes}
+use Rattle.tds_relay.specs.Core.{Ends, end_at, closes}
 use Rattle.tds_relay.specs.Taking.{IsDeaf}
-use Rattle.tds_relay.specs.Ties.{desk_in}
+use Rattle.tds_relay.specs.Ties.{pool_in}
 use Rattle.tds_relay.specs.declared.order.Order.TheVariants as orders
 use Rattle.tds_relay.proofs.spared.Ordered.{ordered_closing, ordered_refl}
 use Rattle.tds_relay.proofs.spared.Waking.{all_there, name_there, to_do_last}
@@ -13,13 +13,13 @@ use Rattle.tds_relay.proofs.spared.Reasons.{for_reason, full_there}
 use Rattle.tds_relay.proofs.spared.Sending.{kept_refl}
 use Rattle.tds_relay.proofs.spared.Shutting.{closes_kept, write_closes}
 use Rattle.tds_relay.proofs.spared.Apart.{alone_changed, alone_refl}
-use Rattle.tds_relay.specs.Desk.{Desk}
-use Rattle.tds_relay.specs.Fronts.{hall_in}
+use Rattle.tds_relay.specs.Pool.{Pool}
+use Rattle.tds_relay.specs.Fronts.{core_in}
 use Rattle.tds_relay.proofs.spared.Opening.{opens_pushed}
 use Rattle.tds_relay.proofs.relay.Relay.order_write.Goals as goal
 
 pub returns-then-is_full-clause-moves : goal.returns-then-is_full-clause-moves
-returns-then-is_full-clause-moves c = ok_more c.end.result _ _ (λ e by from h. moves_closes by from _ _ _ _ c.args.key (ap desk_in c.end.ensures.desk) e h) c.end.ensures.ends
+returns-then-is_full-clause-moves c = ok_more c.end.result _ _ (λ e by from h. moves_closes by from _ _ _ _ c.args.key (ap pool_in c.end.ensures.pool) e h) c.end.ensures.ends
 
 pub returns-then-is_full-clause-ordered : goal.returns-then-is_full-clause-ordered
 returns-then-is_full-clause-ordered c = ordered_closing c.end.result _ _ _ _ c.end.ensures.ordered (ordered_refl _)
@@ -41,14 +41,14 @@ pub returns-then-is_full-clause-closes : goal.returns-then-is_full-clause-closes
 returns-then-is_full-clause-closes c = for_reason c.end.result c.args.key _ _ _ (full_there c.args.self.now.applications c.args.key c.in-Some.application.now c.in-Some.ensures (search rules)) c.end.ensures.closes
 
 pub returns-in_default-clause-alone : goal.returns-in_default-clause-alone
-returns-in_default-clause-alone c = alone_refl c.args.key (hall_in c.args.self.now)
+returns-in_default-clause-alone c = alone_refl c.args.key (core_in c.args.self.now)
 
 pub returns-clause-alone : goal.returns-clause-alone
-returns-clause-alone c = alone_refl c.args.key (hall_in c.args.self.now)
+returns-clause-alone c = alone_refl c.args.key (core_in c.args.self.now)
 
 pub returns-then-is_full-clause-alone : goal.returns-then-is_full-clause-alone
 returns-then-is_full-clause-alone c =
-    ok_more c.end.result _ _ (λ e. alone_changed c.args.key closes (hall_in c.args.self.now) (hall_in c.end.new.self) e (ap (λ (d : Desk). d.line) (ap desk_in c.end.ensures.desk))) c.end.ensures.ends
+    ok_more c.end.result _ _ (λ e. alone_changed c.args.key closes (core_in c.args.self.now) (core_in c.end.new.self) e (ap (λ (d : Pool). d.line) (ap pool_in c.end.ensures.pool))) c.end.ensures.ends
 
 pub returns-clause-opening : goal.returns-clause-opening
 returns-clause-opening c = opens_pushed (orders.Write c.in-Some.application.now.tag) c.args.self.now.orders.items c.push.new.self.items c.in_ok-push.ensures.items refl

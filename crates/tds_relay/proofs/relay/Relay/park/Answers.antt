@@ -1,9 +1,9 @@
 use Rattle.std.proofs.Common.{◌≡◌, ◌∙◌, rules, sym, true, Some, ℕ, inl, subst}
 use Rattle.tds_relay.specs.Closings.{IsWaiting, Nobody, register_in}
-use Rattle.tds_relay.specs.Fronts.{ends_in, hall_in, house_in}
+use Rattle.tds_relay.specs.Fronts.{ends_in, core_in, machine_in}
 use Rattle.tds_relay.specs.Parking.{may_park_in}
-use Rattle.tds_relay.specs.Posts.{posts_in}
-use Rattle.tds_relay.specs.Ties.{Application, Parking, desk_in}
+use Rattle.tds_relay.specs.Queues.{queues_in}
+use Rattle.tds_relay.specs.Ties.{Application, Parking, pool_in}
 use Rattle.tds_relay.proofs.spared.Closings.{closes_both, closes_more, closes_nobody}
 use Rattle.tds_relay.proofs.spared.Few.{most_kept, none_stays}
 use Rattle.tds_relay.proofs.spared.Lines.{waited_left}
@@ -18,13 +18,14 @@ use Rattle.tds_relay.proofs.visits.Parking.{parked_away}
 use Rattle.tds_relay.proofs.spared.Lasting.{besides, but_refl, last_more}
 use Rattle.tds_relay.specs.Places.{held_by}
 use Rattle.tds_relay.specs.Cleaning.{CountsHold, cleaned_in}
-use Rattle.tds_relay.specs.Desk.{find_key}
+use Rattle.tds_relay.specs.Pool.{find_key}
 use Rattle.tds_relay.proofs.spared.Opening.{left_last, opens_new_both, opens_none, opens_same, grows_both, grows_refl, grows_stays}
 use Rattle.tds_relay.proofs.spared.Apart.{lends_at}
 use Rattle.tds_relay.proofs.spared.Filling.{first_own, puts_line, puts_nothing}
-use Rattle.tds_relay.specs.Hall.{holder}
+use Rattle.tds_relay.specs.Core.{holder}
 use Rattle.tds_relay.proofs.spared.Freeing.{served_since}
 use Rattle.tds_relay.proofs.spared.Cleaned.{since_served}
+use Rattle.tds_relay.specs.Waiting.{IsLentByParting, IsLentInVain}
 use Rattle.tds_relay.proofs.relay.Relay.park.Goals as goal
 
 pub returns-clause-left : goal.returns-clause-left
@@ -35,7 +36,7 @@ returns-clause-left c =
 pub returns-clause-away : goal.returns-clause-away
 returns-clause-away c = λ sharing led yes.
     let rests : may_park_in c.args.self.now c.args.key ≡ true = sym c.may_park.ensures ∙ (search rules) in
-    parked_away sharing c.args.key (house_in c.args.self.now) (hall_in c.release.new.self) (hall_in c.serve_line.new.self) led (parks c.args.self.now c.args.key rests)
+    parked_away sharing c.args.key (machine_in c.args.self.now) (core_in c.release.new.self) (core_in c.serve_line.new.self) led (parks c.args.self.now c.args.key rests)
     c.in_ok-release.ensures.fronts c.in_ok-release.ensures.leaving c.in_ok-serve_line.ensures.goes c.in_ok-serve_line.ensures.apart
 
 pub returns-clause-goes : goal.returns-clause-goes
@@ -46,11 +47,11 @@ returns-clause-steps c =
     let old = c.args.self.now in
     let mid = c.release.new.self in
     let rests : may_park_in old c.args.key ≡ true = sym c.may_park.ensures ∙ (search rules) in
-    steps_moved (Parking c.args.key) (house_in old) (hall_in mid) (hall_in c.serve_line.new.self) (posts_in mid.applications) (posts_in c.serve_line.new.self.applications)
+    steps_moved (Parking c.args.key) (machine_in old) (core_in mid) (core_in c.serve_line.new.self) (queues_in mid.applications) (queues_in c.serve_line.new.self.applications)
     (c.in_ok-serve_line.ensures.moves (Parking c.args.key)) c.in_ok-serve_line.ensures.kept
-    (steps_moves (Parking c.args.key) (house_in old) (hall_in old) (hall_in mid) (posts_in old.applications) (posts_in mid.applications)
-    (moves_parks c.args.key (hall_in old) (desk_in old.desk) (ends_in old.applications) (hall_in mid) (parks old c.args.key rests) c.in_ok-release.ensures.lets_go (no_moves (Parking c.args.key) (hall_in old)))
-    c.in_ok-release.ensures.kept (no_steps (Parking c.args.key) (house_in old)))
+    (steps_moves (Parking c.args.key) (machine_in old) (core_in old) (core_in mid) (queues_in old.applications) (queues_in mid.applications)
+    (moves_parks c.args.key (core_in old) (pool_in old.pool) (ends_in old.applications) (core_in mid) (parks old c.args.key rests) c.in_ok-release.ensures.lets_go (no_moves (Parking c.args.key) (core_in old)))
+    c.in_ok-release.ensures.kept (no_steps (Parking c.args.key) (machine_in old)))
 
 pub returns-clause-kept : goal.returns-clause-kept
 returns-clause-kept c = c.in_ok-serve_line.ensures.kept ∙ c.in_ok-release.ensures.kept
@@ -70,7 +71,7 @@ returns-clause-goes_on c =
     let mid = c.release.new.self in
     let rests : may_park_in old c.args.key ≡ true = sym c.may_park.ensures ∙ (search rules) in
     go_both old mid c.serve_line.new.self
-    (λ r. reached_on (Application c.args.key) (desk_in old.desk) (desk_in mid.desk) (λ from h. reaches_left c.args.key from (desk_in old.desk) (desk_in mid.desk) c.in_ok-release.ensures.leaving h) r)
+    (λ r. reached_on (Application c.args.key) (pool_in old.pool) (pool_in mid.pool) (λ from h. reaches_left c.args.key from (pool_in old.pool) (pool_in mid.pool) c.in_ok-release.ensures.leaving h) r)
     (parked_go c.args.key old mid (asks_none old c.args.key rests) c.in_ok-release.ensures.asks c.in_ok-release.ensures.others)
     c.in_ok-serve_line.ensures.goes_on
 
@@ -78,7 +79,7 @@ pub returns-clause-apart : goal.returns-clause-apart
 returns-clause-apart c =
     let old = c.args.self.now in
     let rests : may_park_in old c.args.key ≡ true = sym c.may_park.ensures ∙ (search rules) in
-    parked_apart (hall_in old) (hall_in c.release.new.self) (hall_in c.serve_line.new.self) c.args.key (parks old c.args.key rests) c.in_ok-release.ensures.fronts c.in_ok-release.ensures.leaving c.in_ok-serve_line.ensures.apart
+    parked_apart (core_in old) (core_in c.release.new.self) (core_in c.serve_line.new.self) c.args.key (parks old c.args.key rests) c.in_ok-release.ensures.fronts c.in_ok-release.ensures.leaving c.in_ok-serve_line.ensures.apart
 
 pub returns-clause-ordered : goal.returns-clause-ordered
 returns-clause-ordered c = ordered_both _ _ _ c.in_ok-release.ensures.ordered c.in_ok-serve_line.ensures.ordered
@@ -87,15 +88,30 @@ pub returns-clause-closes : goal.returns-clause-closes
 returns-clause-closes c =
     let old = c.args.self.now in
     let mid = c.release.new.self in
-    closes_both (IsWaiting (desk_in old.desk).line) _ _ _ (closes_nobody (IsWaiting (desk_in old.desk).line) _ _ c.in_ok-release.ensures.closes)
-    (closes_more (IsWaiting (desk_in mid.desk).line) (IsWaiting (desk_in old.desk).line) _ _ (waited_left c.args.key (desk_in old.desk) (desk_in mid.desk) c.in_ok-release.ensures.leaving) c.in_ok-serve_line.ensures.closes)
+    let key = c.args.key in
+    let may = IsLentByParting (Parking key) key old in
+    let rests : may_park_in old key ≡ true = sym c.may_park.ensures ∙ (search rules) in
+    let behind : (other : ℕ) → IsLentInVain mid other → IsLentByParting (Parking key) key old other = λ other lent. record {
+      was = waited_left key (pool_in old.pool) (pool_in mid.pool) c.in_ok-release.ensures.leaving other lent.waits;
+      mid = mid;
+      steps =
+          steps_moves (Parking key) (machine_in old) (core_in old) (core_in mid) (queues_in old.applications) (queues_in mid.applications)
+          (moves_parks key (core_in old) (pool_in old.pool) (ends_in old.applications) (core_in mid) (parks old key rests) c.in_ok-release.ensures.lets_go (no_moves (Parking key) (core_in old)))
+          c.in_ok-release.ensures.kept (no_steps (Parking key) (machine_in old));
+      waiting = c.in_ok-release.ensures.line;
+      links = c.in_ok-release.ensures.read;
+      goes = parked_go key old mid (asks_none old key rests) c.in_ok-release.ensures.asks c.in_ok-release.ensures.others;
+      keeps = λ reached. first_own key old mid (c.in_ok-release.ensures.keeps reached);
+      lent = lent;
+    } in
+    closes_both may _ _ _ (closes_nobody may _ _ c.in_ok-release.ensures.closes) (closes_more (IsLentInVain mid) may _ _ behind c.in_ok-serve_line.ensures.vain)
 
 pub returns-clause-ends : goal.returns-clause-ends
 returns-clause-ends c = λ reached yes.
     let old = c.args.self.now in
     let mid = c.release.new.self in
     served_since c.args.key old mid c.serve_line.new.self (c.in_ok-release.ensures.ends reached) c.in_ok-serve_line.ensures.opens (c.in_ok-release.ensures.frees reached)
-    (c.in_ok-serve_line.ensures.fills (reached_on (Application c.args.key) (desk_in old.desk) (desk_in mid.desk) (λ from h. reaches_left c.args.key from (desk_in old.desk) (desk_in mid.desk) c.in_ok-release.ensures.leaving h) reached))
+    (c.in_ok-serve_line.ensures.fills (reached_on (Application c.args.key) (pool_in old.pool) (pool_in mid.pool) (λ from h. reaches_left c.args.key from (pool_in old.pool) (pool_in mid.pool) c.in_ok-release.ensures.leaving h) reached))
 
 pub returns-clause-seated : goal.returns-clause-seated
 returns-clause-seated c = λ s. c.in_ok-serve_line.ensures.seated (c.in_ok-release.ensures.seated s)
@@ -107,18 +123,18 @@ pub returns-clause-lasts : goal.returns-clause-lasts
 returns-clause-lasts c =
     let old = c.args.self.now in
     let mid = c.release.new.self in
-    besides (λ (number : ℕ). held_by (desk_in old.desk) c.args.key ≡ Some number) (IsWaiting (desk_in old.desk).line) Nobody (register_in old) (register_in mid) (register_in c.serve_line.new.self) c.in_ok-release.ensures.closes
+    besides (λ (number : ℕ). held_by (pool_in old.pool) c.args.key ≡ Some number) (IsWaiting (pool_in old.pool).line) Nobody (register_in old) (register_in mid) (register_in c.serve_line.new.self) c.in_ok-release.ensures.closes
     c.in_ok-release.ensures.lasts
-    (last_more (IsWaiting (desk_in mid.desk).line) (IsWaiting (desk_in old.desk).line) _ _ (waited_left c.args.key (desk_in old.desk) (desk_in mid.desk) c.in_ok-release.ensures.leaving) c.in_ok-serve_line.ensures.lasts)
+    (last_more (IsWaiting (pool_in mid.pool).line) (IsWaiting (pool_in old.pool).line) _ _ (waited_left c.args.key (pool_in old.pool) (pool_in mid.pool) c.in_ok-release.ensures.leaving) c.in_ok-serve_line.ensures.lasts)
 
 pub returns-clause-counts : goal.returns-clause-counts
-returns-clause-counts c = λ yes. subst (CountsHold (find_key c.args.key c.args.self.now.desk.holds.items) (cleaned_in c.args.self.now)) (sym c.serve_line.ensures.counts) c.in_ok-release.ensures.counts
+returns-clause-counts c = λ yes. subst (CountsHold (find_key c.args.key c.args.self.now.pool.holds.items) (cleaned_in c.args.self.now)) (sym c.serve_line.ensures.counts) c.in_ok-release.ensures.counts
 
 pub returns-then-not-may_park-clause-opening : goal.returns-then-not-may_park-clause-opening
 returns-then-not-may_park-clause-opening c = opens_none c.args.self.now
 
 pub returns-clause-opening : goal.returns-clause-opening
-returns-clause-opening c = opens_new_both c.args.self.now c.release.new.self c.serve_line.new.self (opens_same c.args.self.now c.release.new.self c.release.ensures.opening (left_last c.args.key (desk_in c.args.self.now.desk) (desk_in c.release.new.self.desk) c.in_ok-release.ensures.leaving)) c.in_ok-serve_line.ensures.opening
+returns-clause-opening c = opens_new_both c.args.self.now c.release.new.self c.serve_line.new.self (opens_same c.args.self.now c.release.new.self c.release.ensures.opening (left_last c.args.key (pool_in c.args.self.now.pool) (pool_in c.release.new.self.pool) c.in_ok-release.ensures.leaving)) c.in_ok-serve_line.ensures.opening
 
 pub returns-clause-lends : goal.returns-clause-lends
 returns-clause-lends c = λ is. lends_at _ _ _ _ _ c.in_ok-release.ensures.line c.in_ok-release.ensures.fronts c.in_ok-serve_line.ensures.lends
@@ -130,9 +146,9 @@ pub returns-clause-puts : goal.returns-clause-puts
 returns-clause-puts c = λ reached.
     let old = c.args.self.now in
     let mid = c.release.new.self in
-    puts_line (λ (number : ℕ). holder (desk_in old.desk) number ≡ Some c.args.key) old mid c.serve_line.new.self reached
-    (waited_left c.args.key (desk_in old.desk) (desk_in mid.desk) c.in_ok-release.ensures.leaving) (first_own c.args.key old mid (c.in_ok-release.ensures.keeps reached))
-    (c.in_ok-serve_line.ensures.fills (reached_on (Application c.args.key) (desk_in old.desk) (desk_in mid.desk) (λ from h. reaches_left c.args.key from (desk_in old.desk) (desk_in mid.desk) c.in_ok-release.ensures.leaving h) reached))
+    puts_line (λ (number : ℕ). holder (pool_in old.pool) number ≡ Some c.args.key) old mid c.serve_line.new.self reached
+    (waited_left c.args.key (pool_in old.pool) (pool_in mid.pool) c.in_ok-release.ensures.leaving) (first_own c.args.key old mid (c.in_ok-release.ensures.keeps reached))
+    (c.in_ok-serve_line.ensures.fills (reached_on (Application c.args.key) (pool_in old.pool) (pool_in mid.pool) (λ from h. reaches_left c.args.key from (pool_in old.pool) (pool_in mid.pool) c.in_ok-release.ensures.leaving h) reached))
 
 pub returns-then-not-may_park-clause-many : goal.returns-then-not-may_park-clause-many
 returns-then-not-may_park-clause-many c = grows_refl c.args.self.now
@@ -145,4 +161,4 @@ returns-clause-cleaned c = λ reached yes.
     let old = c.args.self.now in
     let mid = c.release.new.self in
     since_served c.args.key (register_in old) old mid c.serve_line.new.self (c.in_ok-release.ensures.cleaned reached) c.in_ok-serve_line.ensures.opens c.serve_line.ensures.counts c.in_ok-release.ensures.closes
-    (last_more (IsWaiting (desk_in mid.desk).line) (IsWaiting (desk_in old.desk).line) _ _ (waited_left c.args.key (desk_in old.desk) (desk_in mid.desk) c.in_ok-release.ensures.leaving) c.in_ok-serve_line.ensures.lasts)
+    (last_more (IsWaiting (pool_in mid.pool).line) (IsWaiting (pool_in old.pool).line) _ _ (waited_left c.args.key (pool_in old.pool) (pool_in mid.pool) c.in_ok-release.ensures.leaving) c.in_ok-serve_line.ensures.lasts)

@@ -7,11 +7,11 @@ use Rattle.tds_relay.proofs.steps.Reaching.{ok_more}
 use Rattle.tds_relay.proofs.steps.Underway.{written_there}
 use Rattle.tds_relay.proofs.spared.Resting.{others_on, written_rest}
 use Rattle.tds_relay.proofs.spared.Starting.{put_unkept_on, unkept_none}
-use Rattle.tds_relay.specs.Fronts.{ends_in, hall_in, hall_of_ends}
-use Rattle.tds_relay.specs.Ties.{desk_in}
+use Rattle.tds_relay.specs.Fronts.{ends_in, core_in, core_of_ends}
+use Rattle.tds_relay.specs.Ties.{pool_in}
 use Rattle.tds_relay.proofs.steps.Fronts.{ends_kept}
 use Rattle.tds_relay.proofs.spared.Apart.{alone_on, alone_same}
-use Rattle.tds_relay.proofs.steps.Posting.{posts_kept}
+use Rattle.tds_relay.proofs.steps.Queueing.{queues_kept}
 use Rattle.tds_relay.proofs.spared.Closings.{closes_on}
 use Rattle.tds_relay.proofs.spared.Sending.{kept_refl}
 use Rattle.tds_relay.proofs.spared.Shutting.{closes_kept, unclosed}
@@ -19,7 +19,7 @@ use Rattle.tds_relay.proofs.spared.Begun.{answers_refl}
 use Rattle.tds_relay.proofs.spared.Lasting.{last_refl}
 use Rattle.tds_relay.proofs.spared.Reasons.{for_that}
 use Rattle.tds_relay.specs.Reasons.{CannotPut, ItselfFor}
-use Rattle.tds_relay.specs.Hall.{Ends, end_at}
+use Rattle.tds_relay.specs.Core.{Ends, end_at}
 use Rattle.tds_relay.proofs.spared.Filling.{own_refl}
 use Rattle.tds_relay.proofs.relay.Relay.put_held.Goals as goal
 
@@ -50,8 +50,8 @@ returns-clause-gone c = put_unkept_on c.put.result _ c.args.key c.args.self.now.
 pub returns-clause-alone : goal.returns-clause-alone
 returns-clause-alone c =
     let kept = ends_kept c.args.self.now.applications c.args.key c.in-Some.application.now c.take_held-held.new.self c.in-Some.ensures.value c.take_held-held.ensures.end in
-    alone_on c.put.result c.args.key (hall_in c.args.self.now) (hall_of_ends (desk_in c.args.self.now.desk) (ends_in (with_value c.args.self.now.applications c.args.key c.take_held-held.new.self))) _ c.put.ensures.alone
-    (alone_same c.args.key (hall_in c.args.self.now) (hall_of_ends (desk_in c.args.self.now.desk) (ends_in (with_value c.args.self.now.applications c.args.key c.take_held-held.new.self))) kept refl)
+    alone_on c.put.result c.args.key (core_in c.args.self.now) (core_of_ends (pool_in c.args.self.now.pool) (ends_in (with_value c.args.self.now.applications c.args.key c.take_held-held.new.self))) _ c.put.ensures.alone
+    (alone_same c.args.key (core_in c.args.self.now) (core_of_ends (pool_in c.args.self.now.pool) (ends_in (with_value c.args.self.now.applications c.args.key c.take_held-held.new.self))) kept refl)
 
 pub returns-in_default-clause-answers : goal.returns-in_default-clause-answers
 returns-in_default-clause-answers c = answers_refl c.args.self.now.links.items
@@ -68,14 +68,14 @@ returns-clause-closes c =
     let a = c.in-Some.application.now in
     let same = ends_kept s c.args.key a c.take_held-held.new.self c.in-Some.ensures.value c.take_held-held.ensures.end in
     let bytes : c.deref.result.now ≡ a.held.items = search rules in
-    closes_on c.put.result (ItselfFor c.args.key (CannotPut c.args.whole (held_of (get s c.args.key)) c.args.key (end_at (ends_in c.args.self.now.applications) c.args.key) c.args.self.now.desk c.args.self.now.links.items)) _ _ _
+    closes_on c.put.result (ItselfFor c.args.key (CannotPut c.args.whole (held_of (get s c.args.key)) c.args.key (end_at (ends_in c.args.self.now.applications) c.args.key) c.args.self.now.pool c.args.self.now.links.items)) _ _ _
     (for_that c.put.result c.args.key _ _ _ _
-    (λ why. subst (λ (xs : List ℕ). CannotPut c.args.whole xs c.args.key (end_at (ends_in c.args.self.now.applications) c.args.key) c.args.self.now.desk c.args.self.now.links.items) (bytes ∙ ap held_of c.in-Some.ensures.value)
-    (subst (λ (es : Ends). CannotPut c.args.whole c.deref.result.now c.args.key (end_at es c.args.key) c.args.self.now.desk c.args.self.now.links.items) same why)) c.put.ensures.closes)
-    (closes_kept _ _ _ same (posts_kept s c.args.key a _ c.in-Some.ensures.value c.take_held-held.ensures.post) refl (kept_refl c.args.self.now.links.items) (unclosed _ _ refl))
+    (λ why. subst (λ (xs : List ℕ). CannotPut c.args.whole xs c.args.key (end_at (ends_in c.args.self.now.applications) c.args.key) c.args.self.now.pool c.args.self.now.links.items) (bytes ∙ ap held_of c.in-Some.ensures.value)
+    (subst (λ (es : Ends). CannotPut c.args.whole c.deref.result.now c.args.key (end_at es c.args.key) c.args.self.now.pool c.args.self.now.links.items) same why)) c.put.ensures.closes)
+    (closes_kept _ _ _ same (queues_kept s c.args.key a _ c.in-Some.ensures.value c.take_held-held.ensures.queue) refl (kept_refl c.args.self.now.links.items) (unclosed _ _ refl))
 
 pub returns-in_default-clause-own : goal.returns-in_default-clause-own
-returns-in_default-clause-own c = λ reached. own_refl c.args.key c.args.self.now.desk.holds.items c.args.self.now.links.items
+returns-in_default-clause-own c = λ reached. own_refl c.args.key c.args.self.now.pool.holds.items c.args.self.now.links.items
 
 pub returns-clause-own : goal.returns-clause-own
 returns-clause-own c = λ reached. c.put.ensures.own reached

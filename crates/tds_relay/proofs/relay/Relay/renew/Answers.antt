@@ -1,6 +1,6 @@
 use Rattle.std.proofs.Common.{ap, inl, inr, refl, rules, subst, sym, ◌≡◌, ◌∙◌, Some, ℕ, List}
 use Rattle.tds_relay.specs.Waiting.{IsUnheldOrTurnedAway}
-use Rattle.tds_relay.specs.declared.desk.Desk as code
+use Rattle.tds_relay.specs.declared.pool.Pool as code
 use Rattle.tds_relay.proofs.steps.Fronts.{moves_closes, moves_does, moves_same}
 use Rattle.tds_relay.proofs.steps.Reaching.{ok_if, ok_more, reaches_turn, reached_turn}
 use Rattle.tds_relay.proofs.steps.Staying.{stays_on}
@@ -12,30 +12,31 @@ use Rattle.tds_relay.specs.declared.application.Application as an
 use Rattle.tds_relay.proofs.steps.Bodied.{closed_body, closed_starts, shut_starts}
 use Rattle.tds_relay.proofs.steps.Going.{waits_from}
 use Rattle.tds_relay.specs.Closings.{IsWho}
-use Rattle.tds_relay.specs.Desk.{Desk, find_number, key_of}
+use Rattle.tds_relay.specs.Pool.{Pool, find_number, key_of}
 use Rattle.tds_relay.specs.Fronts.{ends_in}
 use Rattle.tds_relay.specs.Reasons.{HasTransaction, Unkept, Unserved}
 use Rattle.tds_relay.proofs.spared.Turned.{as_seen, part_at, renewed_held, turned_with}
 use Rattle.tds_relay.proofs.spared.Closings.{closes_first, closes_more_on}
 use Rattle.tds_relay.proofs.spared.Reasons.{for_reason, for_that}
-use Rattle.tds_relay.proofs.seats.Relays.{closed_end, desk_lasting, renewed_on, renewed_out, renews_keep}
-use Rattle.tds_relay.specs.declared.desk.leaving.Renewed.TheVariants as renewals
-use Rattle.tds_relay.specs.Ties.{Application, IsReached, Reaches, desk_in}
+use Rattle.tds_relay.proofs.seats.Relays.{closed_end, pool_lasting, renewed_on, renewed_out, renews_keep}
+use Rattle.tds_relay.specs.declared.pool.leaving.Renewed.TheVariants as renewals
+use Rattle.tds_relay.specs.Ties.{Application, IsReached, Reaches, pool_in}
 use Rattle.tds_relay.proofs.spared.Speaking.{done_as, closed_rest}
 use Rattle.tds_relay.proofs.spared.Resting.{all_others, others_both, others_on}
-use Rattle.tds_relay.specs.declared.desk.leaving.Renewed.{Renewed}
+use Rattle.tds_relay.specs.declared.pool.leaving.Renewed.{Renewed}
 use Rattle.tds_relay.specs.Sparing.{IsKeptBy, IsRenewed}
 use Rattle.tds_relay.proofs.spared.Elsewhere.{begun_aside, begun_own, aside_own, keeps_both, keeps_on, renew_keeps, closed_aside}
 use Rattle.tds_relay.proofs.spared.Filling.{carried, last_found}
 use Rattle.tds_relay.proofs.held.Numbers.{Apart, apart_at, its_holder}
 use Rattle.tds_relay.specs.Lent.{OthersKeep}
-use Rattle.tds_relay.specs.declared.desk.Hold.{Hold}
+use Rattle.tds_relay.specs.declared.pool.Hold.{Hold}
+use Rattle.tds_relay.proofs.spared.Rightly.{deaf_right_on, held_right_on}
 use Rattle.tds_relay.proofs.relay.Relay.renew.Goals as goal
 
 pub returns-in-Kept-clause-goes : goal.returns-in-Kept-clause-goes
 returns-in-Kept-clause-goes c =
     ok_more c.start_kept.result _ _
-    (λ g from h. g (Application c.args.key) from (subst (λ (d : code.Desk). Reaches (Application c.args.key) from (desk_in d)) (sym c.restart.ensures.desk) (reaches_turn (Application c.args.key) from _ _ _ _ _ c.in_ok-hold.ensures.turns.1 refl h)))
+    (λ g from h. g (Application c.args.key) from (subst (λ (d : code.Pool). Reaches (Application c.args.key) from (pool_in d)) (sym c.restart.ensures.pool) (reaches_turn (Application c.args.key) from _ _ _ _ _ c.in_ok-hold.ensures.turns.1 refl h)))
     c.start_kept.ensures.goes
 
 pub returns-else-has_transaction-clause-goes : goal.returns-else-has_transaction-clause-goes
@@ -44,7 +45,7 @@ returns-else-has_transaction-clause-goes c = ok_more c.change.result _ _ (λ g f
 pub returns-in-Kept-clause-moves : goal.returns-in-Kept-clause-moves
 returns-in-Kept-clause-moves c =
     ok_more c.start_kept.result _ _
-    (λ m asks begun from h. m (Application c.args.key) from (moves_same (Application c.args.key) from _ _ _ _ (ap desk_in c.restart.ensures.desk) c.restart.ensures.ends
+    (λ m asks begun from h. m (Application c.args.key) from (moves_same (Application c.args.key) from _ _ _ _ (ap pool_in c.restart.ensures.pool) c.restart.ensures.ends
     (moves_does (Application c.args.key) from _ _ _ _ _ _ _ c.in_ok-hold.ensures.turns.1 asks refl refl h)))
     c.start_kept.ensures.moves
 
@@ -58,7 +59,7 @@ pub returns-else-has_transaction-clause-underway : goal.returns-else-has_transac
 returns-else-has_transaction-clause-underway c = λ whole waits. ok_more c.change.result _ _ (λ u. u whole) c.change.ensures.underway
 
 pub returns-in-Kept-clause-stand : goal.returns-in-Kept-clause-stand
-returns-in-Kept-clause-stand c = stand_on c.start_kept.result _ _ _ (stand_at _ _ _ c.in_ok-hold.ensures.stand c.restart.ensures.desk) c.start_kept.ensures.stand
+returns-in-Kept-clause-stand c = stand_on c.start_kept.result _ _ _ (stand_at _ _ _ c.in_ok-hold.ensures.stand c.restart.ensures.pool) c.start_kept.ensures.stand
 
 pub returns-else-has_transaction-clause-stand : goal.returns-else-has_transaction-clause-stand
 returns-else-has_transaction-clause-stand c = stand_on c.change.result _ _ _ c.in_ok-hold.ensures.stand c.change.ensures.stand
@@ -97,39 +98,39 @@ returns-in-Kept-clause-closes c =
     let at = c.restart.new.self in
     closes_first c.start_kept.result _ _ _ _
     (for_that c.start_kept.result key (IsUnheldOrTurnedAway key at) _ _ _
-    (λ why. Unserved c.in_ok-hold.ensures.turns.0 c.renew.new.self (subst (λ (r : Renewed). IsKeptBy r key (desk_in old.desk)) c.in-Kept.is c.in_ok-hold.ensures.keeps) c.in_ok-hold.ensures.turns.1.desk_is
-    (turned_with key at old c.renew.new.self old.links.items c.restart.ensures.desk (ap ends_in c.restart.ensures.same) (λ k goes. ap (λ (s : Slab an.Application). body_in (get s k) goes) c.restart.ensures.same)
-    (as_seen old.links.items at.links.items c.restart.ensures.posts c.restart.ensures.read.seen) (renewed_held key old.desk c.renew.new.self at c.in-Kept.hold (subst (λ (r : Renewed). IsRenewed r key old.desk c.renew.new.self) c.in-Kept.is c.in_ok-hold.ensures.is) c.restart.ensures.desk why))) c.start_kept.ensures.closes) c.restart.ensures.closes
+    (λ why. Unserved c.in_ok-hold.ensures.turns.0 c.renew.new.self (subst (λ (r : Renewed). IsKeptBy r key (pool_in old.pool)) c.in-Kept.is c.in_ok-hold.ensures.keeps) c.in_ok-hold.ensures.turns.1.pool_is
+    (turned_with key at old c.renew.new.self old.links.items c.restart.ensures.pool (ap ends_in c.restart.ensures.same) (λ k goes. ap (λ (s : Slab an.Application). body_in (get s k) goes) c.restart.ensures.same)
+    (as_seen old.links.items at.links.items c.restart.ensures.queues c.restart.ensures.read.seen) (renewed_held key old.pool c.renew.new.self at c.in-Kept.hold (subst (λ (r : Renewed). IsRenewed r key old.pool c.renew.new.self) c.in-Kept.is c.in_ok-hold.ensures.is) c.restart.ensures.pool why))) c.start_kept.ensures.closes) c.restart.ensures.closes
 
 pub returns-then-has_transaction-clause-closes : goal.returns-then-has_transaction-clause-closes
 returns-then-has_transaction-clause-closes c =
     let key = c.args.key in
-    let is = subst (λ (r : Renewed). IsRenewed r key c.args.self.now.desk c.renew.new.self) c.in-NotKept.is c.in_ok-hold.ensures.is in
-    for_reason c.expel.result key _ _ _ (Unkept c.in_ok-hold.ensures.turns.0 (sym c.in_ok-hold.ensures.turns.1.desk_is ∙ is) (inl (subst (λ (d : Desk). HasTransaction d key) is (c.has_transaction.ensures.some (search rules))))) c.expel.ensures.closes
+    let is = subst (λ (r : Renewed). IsRenewed r key c.args.self.now.pool c.renew.new.self) c.in-NotKept.is c.in_ok-hold.ensures.is in
+    for_reason c.expel.result key _ _ _ (Unkept c.in_ok-hold.ensures.turns.0 (sym c.in_ok-hold.ensures.turns.1.pool_is ∙ is) (inl (subst (λ (d : Pool). HasTransaction d key) is (c.has_transaction.ensures.some (search rules))))) c.expel.ensures.closes
 
 pub returns-else-has_transaction-clause-closes : goal.returns-else-has_transaction-clause-closes
 returns-else-has_transaction-clause-closes c =
     let key = c.args.key in
-    let is = subst (λ (r : Renewed). IsRenewed r key c.args.self.now.desk c.renew.new.self) c.in-NotKept.is c.in_ok-hold.ensures.is in
+    let is = subst (λ (r : Renewed). IsRenewed r key c.args.self.now.pool c.renew.new.self) c.in-NotKept.is c.in_ok-hold.ensures.is in
     for_that c.change.result key _ _ _ _
-    (λ why. Unkept c.in_ok-hold.ensures.turns.0 (sym c.in_ok-hold.ensures.turns.1.desk_is ∙ is) (inr (part_at key _ c.renew.new.self c.args.self.now.desk is why))) c.change.ensures.closes
+    (λ why. Unkept c.in_ok-hold.ensures.turns.0 (sym c.in_ok-hold.ensures.turns.1.pool_is ∙ is) (inr (part_at key _ c.renew.new.self c.args.self.now.pool is why))) c.change.ensures.closes
 
 pub returns-in-Kept-clause-seated : goal.returns-in-Kept-clause-seated
 returns-in-Kept-clause-seated c = λ s.
-    c.start_kept.ensures.seated (desk_lasting c.renew.new.self c.args.self.now.links.items c.restart.new.self c.restart.ensures.desk c.restart.ensures.lasts c.restart.ensures.read (renewed_on c.args.key c.in_ok-hold.ensures.turns.0 c.args.self.now.desk c.renew.new.self _ _ c.args.self.now.links.items c.in_ok-hold.ensures.turns.1 s (renews_keep _ (renewals.Kept c.in-Kept.hold) _ _ c.in-Kept.is (c.in_ok-hold.ensures.seats s.reached))))
+    c.start_kept.ensures.seated (pool_lasting c.renew.new.self c.args.self.now.links.items c.restart.new.self c.restart.ensures.pool c.restart.ensures.lasts c.restart.ensures.read (renewed_on c.args.key c.in_ok-hold.ensures.turns.0 c.args.self.now.pool c.renew.new.self _ _ c.args.self.now.links.items c.in_ok-hold.ensures.turns.1 s (renews_keep _ (renewals.Kept c.in-Kept.hold) _ _ c.in-Kept.is (c.in_ok-hold.ensures.seats s.reached))))
 
 pub returns-then-has_transaction-clause-seated : goal.returns-then-has_transaction-clause-seated
 returns-then-has_transaction-clause-seated c = λ s.
-    c.expel.ensures.seated (renewed_on c.args.key c.in_ok-hold.ensures.turns.0 c.args.self.now.desk c.renew.new.self _ _ c.args.self.now.links.items c.in_ok-hold.ensures.turns.1 s (renews_keep _ (renewals.NotKept) _ _ c.in-NotKept.is (c.in_ok-hold.ensures.seats s.reached)))
+    c.expel.ensures.seated (renewed_on c.args.key c.in_ok-hold.ensures.turns.0 c.args.self.now.pool c.renew.new.self _ _ c.args.self.now.links.items c.in_ok-hold.ensures.turns.1 s (renews_keep _ (renewals.NotKept) _ _ c.in-NotKept.is (c.in_ok-hold.ensures.seats s.reached)))
 
 pub returns-else-has_transaction-clause-seated : goal.returns-else-has_transaction-clause-seated
 returns-else-has_transaction-clause-seated c = λ s.
-    c.change.ensures.seated (renewed_on c.args.key c.in_ok-hold.ensures.turns.0 c.args.self.now.desk c.renew.new.self _ _ c.args.self.now.links.items c.in_ok-hold.ensures.turns.1 s (renews_keep _ (renewals.NotKept) _ _ c.in-NotKept.is (c.in_ok-hold.ensures.seats s.reached)))
+    c.change.ensures.seated (renewed_on c.args.key c.in_ok-hold.ensures.turns.0 c.args.self.now.pool c.renew.new.self _ _ c.args.self.now.links.items c.in_ok-hold.ensures.turns.1 s (renews_keep _ (renewals.NotKept) _ _ c.in-NotKept.is (c.in_ok-hold.ensures.seats s.reached)))
 
 pub returns-in-Kept-clause-others : goal.returns-in-Kept-clause-others
 returns-in-Kept-clause-others c = λ reached.
     let led = reached_turn _ _ _ _ _ c.in_ok-hold.ensures.turns.1 reached in
-    others_on c.start_kept.result c.args.key c.args.self.now c.restart.new.self c.start_kept.new.self (c.start_kept.ensures.others (subst (λ (d : code.Desk). IsReached (desk_in d)) (sym c.restart.ensures.desk) led))
+    others_on c.start_kept.result c.args.key c.args.self.now c.restart.new.self c.start_kept.new.self (c.start_kept.ensures.others (subst (λ (d : code.Pool). IsReached (pool_in d)) (sym c.restart.ensures.pool) led))
     (others_both c.args.key c.args.self.now _ c.restart.new.self (done_as c.args.key c.args.self.now _ reached c.in_ok-hold.ensures.others refl (λ k goes. refl)) (all_others c.args.key _ c.restart.new.self c.restart.ensures.rests))
 
 pub returns-then-has_transaction-clause-others : goal.returns-then-has_transaction-clause-others
@@ -144,27 +145,33 @@ returns-else-has_transaction-clause-others c = λ reached.
 
 pub returns-then-has_transaction-clause-aside : goal.returns-then-has_transaction-clause-aside
 returns-then-has_transaction-clause-aside c = λ reached.
-    keeps_on c.expel.result c.args.key c.args.self.now.desk.holds.items c.renew.new.self.holds.items c.expel.new.self.desk.holds.items c.args.self.now.links.items c.args.self.now.links.items c.expel.new.self.links.items
-    (λ n differs. (renew_keeps (desk_in c.args.self.now.desk) c.args.key n reached differs (desk_in c.renew.new.self) c.in_ok-hold.ensures.turns.0 c.in_ok-hold.ensures.turns.1.desk_is, refl))
+    keeps_on c.expel.result c.args.key c.args.self.now.pool.holds.items c.renew.new.self.holds.items c.expel.new.self.pool.holds.items c.args.self.now.links.items c.args.self.now.links.items c.expel.new.self.links.items
+    (λ n differs. (renew_keeps (pool_in c.args.self.now.pool) c.args.key n reached differs (pool_in c.renew.new.self) c.in_ok-hold.ensures.turns.0 c.in_ok-hold.ensures.turns.1.pool_is, refl))
     (c.expel.ensures.aside (reached_turn _ _ _ _ _ c.in_ok-hold.ensures.turns.1 reached))
 
 pub returns-else-has_transaction-clause-aside : goal.returns-else-has_transaction-clause-aside
 returns-else-has_transaction-clause-aside c = λ reached.
-    keeps_on c.change.result c.args.key c.args.self.now.desk.holds.items c.renew.new.self.holds.items c.change.new.self.desk.holds.items c.args.self.now.links.items c.args.self.now.links.items c.change.new.self.links.items
-    (λ n differs. (renew_keeps (desk_in c.args.self.now.desk) c.args.key n reached differs (desk_in c.renew.new.self) c.in_ok-hold.ensures.turns.0 c.in_ok-hold.ensures.turns.1.desk_is, refl))
+    keeps_on c.change.result c.args.key c.args.self.now.pool.holds.items c.renew.new.self.holds.items c.change.new.self.pool.holds.items c.args.self.now.links.items c.args.self.now.links.items c.change.new.self.links.items
+    (λ n differs. (renew_keeps (pool_in c.args.self.now.pool) c.args.key n reached differs (pool_in c.renew.new.self) c.in_ok-hold.ensures.turns.0 c.in_ok-hold.ensures.turns.1.pool_is, refl))
     (c.change.ensures.aside (reached_turn _ _ _ _ _ c.in_ok-hold.ensures.turns.1 reached))
 
 pub returns-in-Kept-clause-aside : goal.returns-in-Kept-clause-aside
 returns-in-Kept-clause-aside c = λ reached.
     let led = reached_turn _ _ _ _ _ c.in_ok-hold.ensures.turns.1 reached in
-    let is = subst (λ (r : Renewed). IsRenewed r c.args.key c.args.self.now.desk c.renew.new.self) c.in-Kept.is c.in_ok-hold.ensures.is in
+    let is = subst (λ (r : Renewed). IsRenewed r c.args.key c.args.self.now.pool c.renew.new.self) c.in-Kept.is c.in_ok-hold.ensures.is in
     let number = c.in-Kept.hold.number in
     let its : key_of (find_number number c.renew.new.self.holds.items) ≡ Some c.args.key =
-    ap (λ (hs : List Hold). key_of (find_number number hs)) is.3 ∙ ap key_of (last_found c.in-Kept.hold _ (subst Apart is.3 (apart_at (desk_in c.renew.new.self) led))) ∙ ap (λ (k : ℕ). Some k) is.2 in
-    keeps_on c.start_kept.result c.args.key c.args.self.now.desk.holds.items c.restart.new.self.desk.holds.items c.start_kept.new.self.desk.holds.items c.args.self.now.links.items c.restart.new.self.links.items c.start_kept.new.self.links.items
-    (subst (λ (d : code.Desk). OthersKeep c.args.key c.args.self.now.desk.holds.items c.args.self.now.links.items d.holds.items c.restart.new.self.links.items) (sym c.restart.ensures.desk)
-    (keeps_both c.args.key c.args.self.now.desk.holds.items c.renew.new.self.holds.items c.renew.new.self.holds.items c.args.self.now.links.items c.args.self.now.links.items c.restart.new.self.links.items
-    (λ n differs. (renew_keeps (desk_in c.args.self.now.desk) c.args.key n reached differs (desk_in c.renew.new.self) c.in_ok-hold.ensures.turns.0 c.in_ok-hold.ensures.turns.1.desk_is, refl))
+    ap (λ (hs : List Hold). key_of (find_number number hs)) is.3 ∙ ap key_of (last_found c.in-Kept.hold _ (subst Apart is.3 (apart_at (pool_in c.renew.new.self) led))) ∙ ap (λ (k : ℕ). Some k) is.2 in
+    keeps_on c.start_kept.result c.args.key c.args.self.now.pool.holds.items c.restart.new.self.pool.holds.items c.start_kept.new.self.pool.holds.items c.args.self.now.links.items c.restart.new.self.links.items c.start_kept.new.self.links.items
+    (subst (λ (d : code.Pool). OthersKeep c.args.key c.args.self.now.pool.holds.items c.args.self.now.links.items d.holds.items c.restart.new.self.links.items) (sym c.restart.ensures.pool)
+    (keeps_both c.args.key c.args.self.now.pool.holds.items c.renew.new.self.holds.items c.renew.new.self.holds.items c.args.self.now.links.items c.args.self.now.links.items c.restart.new.self.links.items
+    (λ n differs. (renew_keeps (pool_in c.args.self.now.pool) c.args.key n reached differs (pool_in c.renew.new.self) c.in_ok-hold.ensures.turns.0 c.in_ok-hold.ensures.turns.1.pool_is, refl))
     (begun_aside c.args.key number c.renew.new.self.holds.items c.args.self.now.links.items c.restart.new.self.links.items its
-    (begun_own number c.args.self.now.links.items c.restart.new.self.links.items c.restart.ensures.posts c.restart.ensures.others))))
-    (aside_own c.start_kept.result c.args.key c.restart.new.self c.start_kept.new.self (c.start_kept.ensures.own (subst (λ (d : code.Desk). IsReached (desk_in d)) (sym c.restart.ensures.desk) led)))
+    (begun_own number c.args.self.now.links.items c.restart.new.self.links.items c.restart.ensures.queues c.restart.ensures.others))))
+    (aside_own c.start_kept.result c.args.key c.restart.new.self c.start_kept.new.self (c.start_kept.ensures.own (subst (λ (d : code.Pool). IsReached (pool_in d)) (sym c.restart.ensures.pool) led)))
+
+pub returns-in-Kept-clause-right : goal.returns-in-Kept-clause-right
+returns-in-Kept-clause-right c = held_right_on c.start_kept.result c.args.key c.start_kept.new.self c.start_kept.ensures.placed
+
+pub returns-then-has_transaction-clause-right : goal.returns-then-has_transaction-clause-right
+returns-then-has_transaction-clause-right c = deaf_right_on c.expel.result c.args.key c.expel.new.self c.expel.ensures.over

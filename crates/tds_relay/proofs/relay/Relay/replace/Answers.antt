@@ -1,8 +1,8 @@
 use Rattle.std.proofs.Common.{◌∙◌, ℕ, List, ap, refl, rules, subst, sym, None, Some}
-use Rattle.tds_relay.specs.declared.desk.Desk as code
+use Rattle.tds_relay.specs.declared.pool.Pool as code
 use Rattle.tds_relay.specs.declared.link.Link.{Link}
 use Rattle.tds_relay.specs.Reads.{Stays}
-use Rattle.tds_relay.specs.Ties.{Connection, Reaches, desk_in}
+use Rattle.tds_relay.specs.Ties.{Connection, Reaches, pool_in}
 use Rattle.tds_relay.proofs.steps.Fronts.{moves_loses, moves_replaces, moves_same}
 use Rattle.tds_relay.proofs.steps.Reaching.{ok_if, ok_more, reaches_turn}
 use Rattle.tds_relay.proofs.steps.Staying.{stays_then}
@@ -17,25 +17,25 @@ use Rattle.tds_relay.specs.Waiting as waiting
 use Rattle.tds_relay.proofs.spared.Cleaned.{not_both}
 use Rattle.tds_relay.proofs.spared.Lined.{lost_deaf, same_key}
 use Rattle.tds_relay.proofs.spared.Only.{spares_both, spares_holder, spares_left, spares_lost_on, spares_none, spares_parted}
-use Rattle.tds_relay.specs.Fronts.{hall_in, ends_in}
-use Rattle.tds_relay.specs.Hall.{lets_go, Ends, IfOpen, IsBegun, end_at, holder}
+use Rattle.tds_relay.specs.Fronts.{core_in, ends_in}
+use Rattle.tds_relay.specs.Core.{lets_go, Ends, IfOpen, IsBegun, end_at, holder}
 use Rattle.tds_relay.proofs.bytes.SetAnew.{any_keeps, any_kept, any_refl}
 use Rattle.tds_relay.specs.Lent.{KeepsAnswers}
 use Rattle.tds_relay.specs.Coming.{MayBeginAny}
-use Rattle.tds_relay.proofs.seats.Relays.{closed_end, closed_seated, desk_but}
-use Rattle.tds_relay.proofs.seats.Desks.{lost_seated, off_of}
+use Rattle.tds_relay.proofs.seats.Relays.{closed_end, closed_seated, pool_but}
+use Rattle.tds_relay.proofs.seats.Pools.{lost_seated, off_of}
 use Rattle.tds_relay.proofs.steps.Quieting.{open_lets_go, whose_is}
 use Rattle.tds_relay.proofs.spared.Off.{all_off, asks_more, lost_off, parted_off, waits_off}
 use Rattle.tds_relay.proofs.relay.Relay.replace.Goals as goal
 
 pub returns-in_default-clause-goes : goal.returns-in_default-clause-goes
 returns-in_default-clause-goes c =
-    ok_if c.close_link.result _ (λ from h. subst (λ (d : code.Desk). Reaches (Connection c.args.number) from (desk_in d)) (sym c.close_link.ensures.desk) (reaches_turn (Connection c.args.number) from _ _ _ _ _ c.in_ok-holder.ensures.turns tt h))
+    ok_if c.close_link.result _ (λ from h. subst (λ (d : code.Pool). Reaches (Connection c.args.number) from (pool_in d)) (sym c.close_link.ensures.pool) (reaches_turn (Connection c.args.number) from _ _ _ _ _ c.in_ok-holder.ensures.turns tt h))
 
 pub returns-in_default-clause-moves : goal.returns-in_default-clause-moves
 returns-in_default-clause-moves c =
     ok_more c.close_link.result _ _
-    (λ e from h. moves_same (Connection c.args.number) from _ _ _ _ (ap desk_in c.close_link.ensures.desk) e
+    (λ e from h. moves_same (Connection c.args.number) from _ _ _ _ (ap pool_in c.close_link.ensures.pool) e
     (moves_loses (Connection c.args.number) from _ _ _ _ c.args.number _ _ _ c.in_ok-holder.ensures.turns (sym c.in_default.is ∙ c.in_ok-holder.ensures.whose) refl h))
     c.close_link.ensures.ends
 
@@ -43,7 +43,7 @@ pub returns-clause-goes : goal.returns-clause-goes
 returns-clause-goes c =
     ok_more c.wait.result _ _
     (λ g from h. g (Connection c.args.number) tt from
-    (subst (λ (d : code.Desk). Reaches (Connection c.args.number) from (desk_in d)) (sym (c.in_ok-close_link.ensures.desk ∙ c.let_go.ensures.desk)) (reaches_turn (Connection c.args.number) from _ _ _ _ _ c.in_ok-holder.ensures.turns tt h)))
+    (subst (λ (d : code.Pool). Reaches (Connection c.args.number) from (pool_in d)) (sym (c.in_ok-close_link.ensures.pool ∙ c.let_go.ensures.pool)) (reaches_turn (Connection c.args.number) from _ _ _ _ _ c.in_ok-holder.ensures.turns tt h)))
     c.wait.ensures.goes
 
 pub returns-clause-moves : goal.returns-clause-moves
@@ -51,8 +51,8 @@ returns-clause-moves c =
     ok_more c.wait.result _ _
     (λ m from h. m (Connection c.args.number) tt
     (subst (λ (es : Ends). IfOpen IsBegun (end_at es c.in-Some.key)) (sym (c.in_ok-close_link.ensures.ends ∙ c.let_go.ensures.ends)) (open_lets_go IsBegun (ends_in c.args.self.now.applications) c.in-Some.key
-    (whose_is (λ (k : ℕ). IfOpen IsBegun (end_at (ends_in c.args.self.now.applications) k)) (holder (desk_in c.args.self.now.desk) c.args.number) c.in-Some.key (sym c.in_ok-holder.ensures.whose ∙ c.in-Some.is) (c.may_replace.ensures.begun (search rules))))) from
-    (moves_same (Connection c.args.number) from _ _ _ _ (ap desk_in (c.in_ok-close_link.ensures.desk ∙ c.let_go.ensures.desk)) c.in_ok-close_link.ensures.ends
+    (whose_is (λ (k : ℕ). IfOpen IsBegun (end_at (ends_in c.args.self.now.applications) k)) (holder (pool_in c.args.self.now.pool) c.args.number) c.in-Some.key (sym c.in_ok-holder.ensures.whose ∙ c.in-Some.is) (c.may_replace.ensures.begun (search rules))))) from
+    (moves_same (Connection c.args.number) from _ _ _ _ (ap pool_in (c.in_ok-close_link.ensures.pool ∙ c.let_go.ensures.pool)) c.in_ok-close_link.ensures.ends
     (moves_replaces c.args.number c.in-Some.key from _ _ _ _ _ _ c.in_ok-holder.ensures.turns (sym c.in-Some.is ∙ c.in_ok-holder.ensures.whose) (c.may_replace.ensures.parts (search rules)) c.let_go.ensures.ends h)))
     c.wait.ensures.moves
 
@@ -62,10 +62,10 @@ returns-clause-read c =
     (stays_then _ _ _ (subst (λ (ls : List Link). Stays ls c.close_link-2.new.self.links.items) c.let_go.ensures.links c.in_ok-close_link.ensures.read) c.wait.ensures.links)
 
 pub returns-in_default-clause-stand : goal.returns-in_default-clause-stand
-returns-in_default-clause-stand c = ok_if c.close_link.result _ (stand_at _ _ _ c.in_ok-holder.ensures.stand c.close_link.ensures.desk)
+returns-in_default-clause-stand c = ok_if c.close_link.result _ (stand_at _ _ _ c.in_ok-holder.ensures.stand c.close_link.ensures.pool)
 
 pub returns-clause-stand : goal.returns-clause-stand
-returns-clause-stand c = stand_on c.wait.result _ _ _ (stand_at _ _ _ c.in_ok-holder.ensures.stand (c.in_ok-close_link.ensures.desk ∙ c.let_go.ensures.desk)) c.wait.ensures.stand
+returns-clause-stand c = stand_on c.wait.result _ _ _ (stand_at _ _ _ c.in_ok-holder.ensures.stand (c.in_ok-close_link.ensures.pool ∙ c.let_go.ensures.pool)) c.wait.ensures.stand
 
 pub returns-then-not-may_replace-clause-bodies : goal.returns-then-not-may_replace-clause-bodies
 returns-then-not-may_replace-clause-bodies c = λ reached. rest_along c.lose.result c.args.self.now c.lose.new.self (c.lose.ensures.rests reached)
@@ -85,7 +85,7 @@ returns-clause-ordered c = ok_if c.wait.result _ (ordered_both _ _ _ (ordered_bo
 pub returns-then-not-may_replace-clause-closes : goal.returns-then-not-may_replace-clause-closes
 returns-then-not-may_replace-clause-closes c =
     let r = c.args.self.now in
-    closes_more_on c.lose.result (IsWho (holder (desk_in r.desk) c.args.number)) (λ other. IsWho (holder (desk_in r.desk) c.args.number) other × CannotMove other (end_at (ends_in r.applications) other) (desk_in r.desk)) _ _
+    closes_more_on c.lose.result (IsWho (holder (pool_in r.pool) c.args.number)) (λ other. IsWho (holder (pool_in r.pool) c.args.number) other × CannotMove other (end_at (ends_in r.applications) other) (pool_in r.pool)) _ _
     (λ other e. (e, c.may_replace.ensures.not (search rules) other e)) c.lose.ensures.closes
 
 pub returns-in_default-clause-closes : goal.returns-in_default-clause-closes
@@ -107,20 +107,20 @@ returns-clause-lines c =
 
 pub returns-then-not-may_replace-clause-spares : goal.returns-then-not-may_replace-clause-spares
 returns-then-not-may_replace-clause-spares c = λ reached.
-    spares_lost_on c.lose.result c.args.number (hall_in c.args.self.now) (hall_in c.lose.new.self) c.lose.ensures.ends c.lose.ensures.line c.lose.ensures.moves
+    spares_lost_on c.lose.result c.args.number (core_in c.args.self.now) (core_in c.lose.new.self) c.lose.ensures.ends c.lose.ensures.line c.lose.ensures.moves
 
 pub returns-in_default-clause-spares : goal.returns-in_default-clause-spares
 returns-in_default-clause-spares c = λ reached.
     ok_more c.close_link.result _ _
-    (λ e. spares_left c.args.number (hall_in c.args.self.now) (hall_in c.close_link.new.self) (ap desk_in c.close_link.ensures.desk ∙ c.in_ok-holder.ensures.turns.desk_is) e) c.close_link.ensures.ends
+    (λ e. spares_left c.args.number (core_in c.args.self.now) (core_in c.close_link.new.self) (ap pool_in c.close_link.ensures.pool ∙ c.in_ok-holder.ensures.turns.pool_is) e) c.close_link.ensures.ends
 
 pub returns-clause-spares : goal.returns-clause-spares
 returns-clause-spares c = λ reached.
-    let old = hall_in c.args.self.now in
-    let mid = hall_in c.close_link-2.new.self in
-    let new = hall_in c.wait.new.self in
+    let old = core_in c.args.self.now in
+    let mid = core_in c.close_link-2.new.self in
+    let new = core_in c.wait.new.self in
     let its = sym (sym c.in-Some.is ∙ c.in_ok-holder.ensures.whose) in
-    let parted = spares_parted c.args.number c.in-Some.key lets_go old mid its (ap desk_in (c.in_ok-close_link.ensures.desk ∙ c.let_go.ensures.desk) ∙ c.in_ok-holder.ensures.turns.desk_is)
+    let parted = spares_parted c.args.number c.in-Some.key lets_go old mid its (ap pool_in (c.in_ok-close_link.ensures.pool ∙ c.let_go.ensures.pool) ∙ c.in_ok-holder.ensures.turns.pool_is)
     (c.in_ok-close_link.ensures.ends ∙ c.let_go.ensures.ends) in
     ok_more c.wait.result _ _
     (λ w. spares_holder c.args.number c.in-Some.key old new its (spares_both c.args.number (Some c.in-Some.key) old mid new (spares_none c.args.number (Some c.in-Some.key) old mid parted) (w c.args.number))) c.wait.ensures.spares
@@ -138,28 +138,28 @@ returns-clause-begins c =
     ok_if c.wait.result _ (subst (λ (ls : List Link). MayBeginAny c.args.self.now.links.items ls) (sym c.wait.ensures.links) (any_keeps _ _ gone))
 
 pub returns-then-not-may_replace-clause-seated : goal.returns-then-not-may_replace-clause-seated
-returns-then-not-may_replace-clause-seated c = λ s. c.lose.ensures.seated (off_of c.args.number (desk_in c.args.self.now.desk) c.args.self.now.links.items s)
+returns-then-not-may_replace-clause-seated c = λ s. c.lose.ensures.seated (off_of c.args.number (pool_in c.args.self.now.pool) c.args.self.now.links.items s)
 
 pub returns-in_default-clause-seated : goal.returns-in_default-clause-seated
 returns-in_default-clause-seated c = λ s.
-    closed_end c.close_link.result c.args.number c.lose-2.new.self c.args.self.now.links.items c.close_link.new.self c.close_link.ensures.desk c.close_link.ensures.gone c.close_link.ensures.others (lost_seated c.args.number (desk_in c.args.self.now.desk) (desk_in c.lose-2.new.self) _ _ c.args.self.now.links.items c.in_ok-holder.ensures.turns (off_of c.args.number (desk_in c.args.self.now.desk) c.args.self.now.links.items s))
+    closed_end c.close_link.result c.args.number c.lose-2.new.self c.args.self.now.links.items c.close_link.new.self c.close_link.ensures.pool c.close_link.ensures.gone c.close_link.ensures.others (lost_seated c.args.number (pool_in c.args.self.now.pool) (pool_in c.lose-2.new.self) _ _ c.args.self.now.links.items c.in_ok-holder.ensures.turns (off_of c.args.number (pool_in c.args.self.now.pool) c.args.self.now.links.items s))
 
 pub returns-clause-seated : goal.returns-clause-seated
 returns-clause-seated c = λ s.
-    c.wait.ensures.seated (closed_seated c.args.number c.let_go.new.self.desk c.let_go.new.self.links.items c.close_link-2.new.self c.close_link-2.ensures.desk c.in_ok-close_link.ensures.gone c.in_ok-close_link.ensures.others
-    (desk_but c.args.number c.lose-2.new.self c.args.self.now.links.items c.let_go.new.self c.let_go.ensures.desk c.let_go.ensures.links (lost_seated c.args.number (desk_in c.args.self.now.desk) (desk_in c.lose-2.new.self) _ _ c.args.self.now.links.items c.in_ok-holder.ensures.turns (off_of c.args.number (desk_in c.args.self.now.desk) c.args.self.now.links.items s))))
+    c.wait.ensures.seated (closed_seated c.args.number c.let_go.new.self.pool c.let_go.new.self.links.items c.close_link-2.new.self c.close_link-2.ensures.pool c.in_ok-close_link.ensures.gone c.in_ok-close_link.ensures.others
+    (pool_but c.args.number c.lose-2.new.self c.args.self.now.links.items c.let_go.new.self c.let_go.ensures.pool c.let_go.ensures.links (lost_seated c.args.number (pool_in c.args.self.now.pool) (pool_in c.lose-2.new.self) _ _ c.args.self.now.links.items c.in_ok-holder.ensures.turns (off_of c.args.number (pool_in c.args.self.now.pool) c.args.self.now.links.items s))))
 
 pub returns-then-not-may_replace-clause-apart : goal.returns-then-not-may_replace-clause-apart
 returns-then-not-may_replace-clause-apart c = all_off c.lose.result c.args.number _ c.args.self.now c.lose.new.self c.lose.ensures.rests
 
 pub returns-in_default-clause-apart : goal.returns-in_default-clause-apart
 returns-in_default-clause-apart c =
-    lost_off c.close_link.result c.args.number None c.args.self.now c.close_link.new.self _ c.in_ok-holder.ensures.off c.close_link.ensures.desk c.close_link.ensures.others (asks_more c.close_link.result c.args.self.now c.close_link.new.self c.close_link.ensures.asks)
+    lost_off c.close_link.result c.args.number None c.args.self.now c.close_link.new.self _ c.in_ok-holder.ensures.off c.close_link.ensures.pool c.close_link.ensures.others (asks_more c.close_link.result c.args.self.now c.close_link.new.self c.close_link.ensures.asks)
 
 pub returns-clause-apart : goal.returns-clause-apart
 returns-clause-apart c =
     ok_if c.wait.result _
     (waits_off c.args.number None c.args.self.now c.close_link-2.new.self c.wait.new.self
-    (parted_off c.args.number None c.args.self.now c.let_go.new.self c.close_link-2.new.self c.lose-2.new.self c.in_ok-holder.ensures.off (c.in_ok-close_link.ensures.desk ∙ c.let_go.ensures.desk) c.in_ok-close_link.ensures.others c.let_go.ensures.links
+    (parted_off c.args.number None c.args.self.now c.let_go.new.self c.close_link-2.new.self c.lose-2.new.self c.in_ok-holder.ensures.off (c.in_ok-close_link.ensures.pool ∙ c.let_go.ensures.pool) c.in_ok-close_link.ensures.others c.let_go.ensures.links
     c.let_go.ensures.asks c.in_ok-close_link.ensures.asks)
     c.wait.ensures.body)

@@ -6,7 +6,7 @@ use Rattle.tds_relay.proofs.spared.Closings.{closes_more_on}
 use Rattle.tds_relay.proofs.spared.Turned.{CannotResumeAt, resume_or}
 use Rattle.tds_relay.specs.Reasons.{IsUnheld, ItselfFor, ResumesNotAt}
 use Rattle.tds_relay.proofs.spared.Only.{spares_alone_on}
-use Rattle.tds_relay.specs.Fronts.{hall_in}
+use Rattle.tds_relay.specs.Fronts.{core_in}
 use Rattle.tds_relay.proofs.bytes.SetAnew.{any_kept, any_refl}
 use Rattle.tds_relay.proofs.spared.Off.{others_off_on}
 use Rattle.tds_relay.proofs.relay.Relay.resume.Goals as goal
@@ -25,7 +25,7 @@ returns-else-asks_to_keep-clause-closes c =
     closes_more_on c.start_kept.result (ItselfFor key (IsUnheldOrTurnedAway key r)) (ResumesNotAt c.args.number key r) _ _
     (λ other e. inl (
       ap (λ (k : ℕ). Some k) (sym e.0),
-      subst (λ (k : ℕ). IsUnheld k r.desk ⊎ CannotResumeAt k r) (sym e.0) (resume_or key r (c.asks_to_keep.ensures.not (search rules)) e.1),
+      subst (λ (k : ℕ). IsUnheld k r.pool ⊎ CannotResumeAt k r) (sym e.0) (resume_or key r (c.asks_to_keep.ensures.not (search rules)) e.1),
     ))
     c.start_kept.ensures.closes
 
@@ -40,7 +40,7 @@ returns-else-asks_to_keep-clause-resumes c = ok_more c.start_kept.result _ _ (λ
 
 pub returns-else-asks_to_keep-clause-spares : goal.returns-else-asks_to_keep-clause-spares
 returns-else-asks_to_keep-clause-spares c = λ reached.
-    spares_alone_on c.start_kept.result c.args.number c.args.key (hall_in c.args.self.now) (hall_in c.start_kept.new.self) c.start_kept.ensures.alone c.start_kept.ensures.moves
+    spares_alone_on c.start_kept.result c.args.number c.args.key (core_in c.args.self.now) (core_in c.start_kept.new.self) c.start_kept.ensures.alone c.start_kept.ensures.moves
 
 pub returns-else-asks_to_keep-clause-begins : goal.returns-else-asks_to_keep-clause-begins
 returns-else-asks_to_keep-clause-begins c = any_kept c.start_kept.result _ _ _ (any_refl c.args.self.now.links.items) c.start_kept.ensures.answers

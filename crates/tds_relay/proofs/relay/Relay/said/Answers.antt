@@ -1,49 +1,50 @@
-use Rattle.tds_relay.specs.Fronts.{house_in}
-use Rattle.tds_relay.specs.Ties.{Application, desk_in}
+use Rattle.tds_relay.specs.Fronts.{machine_in}
+use Rattle.tds_relay.specs.Ties.{Application, pool_in}
 use Rattle.tds_relay.proofs.steps.Staying.{opens_served}
 use Rattle.tds_relay.proofs.steps.Stepping.{steps_on_ok}
 use Rattle.tds_relay.proofs.steps.Told.{tells_ok, tells_steps}
 use Rattle.tds_relay.proofs.steps.Asked.{asks_ok}
 use Rattle.tds_relay.proofs.bytes.Calls.{stand_on}
-use Rattle.tds_relay.specs.Bodies.{body_of, standing_in, standing_open}
+use Rattle.tds_relay.specs.Bodies.{body_of, standing_in}
 use Rattle.tds_relay.proofs.steps.Carried.{carries_ok}
 use Rattle.tds_relay.proofs.steps.Reaching.{ok_more, reached_on}
-use Rattle.tds_relay.specs.Posts.{names_in}
+use Rattle.tds_relay.specs.Queues.{names_in}
 use Rattle.tds_relay.proofs.steps.Renaming.{names_on}
-use Rattle.tds_relay.specs.Reasons.{ForReasonOrWaiting, IsLentInVain}
-use Rattle.std.proofs.Common.{inl}
+use Rattle.tds_relay.specs.Waiting.{ForReasonOrWaiting, IsLentInVain, IsTakenTo}
+use Rattle.std.proofs.Common.{[], inl}
 use Rattle.tds_relay.proofs.spared.Closings.{closes_more, closes_with}
 use Rattle.tds_relay.proofs.spared.Reasons.{lent_behind}
 use Rattle.tds_relay.proofs.spared.Few.{few_behind, most_kept, none_stays}
 use Rattle.tds_relay.proofs.spared.Opening.{goes_last, opens_new_on, opens_same, grows_on, grows_stays}
 use Rattle.tds_relay.proofs.spared.Speaking.{others_served}
 use Rattle.tds_relay.proofs.spared.Elsewhere.{said_puts}
-use Rattle.tds_relay.proofs.steps.Heeding.{cancels_ok, goes_served}
+use Rattle.tds_relay.proofs.steps.Heeding.{cancels_served}
+use Rattle.tds_relay.proofs.steps.Tied.{relay_tied}
 use Rattle.tds_relay.proofs.relay.Relay.said.Goals as goal
 
 pub returns-clause-steps : goal.returns-clause-steps
 returns-clause-steps c =
-    steps_on_ok c.serve_line.result (Application c.args.key) (house_in c.args.self.now) _ _ _ _ (tells_steps c.args.key _ _ _ _ c.in_ok-take_all.ensures.tells)
+    steps_on_ok c.serve_line.result (Application c.args.key) (machine_in c.args.self.now) _ _ _ _ (tells_steps c.args.key _ _ _ _ c.in_ok-take_all.ensures.tells)
     c.serve_line.ensures.moves c.serve_line.ensures.kept
 
 pub returns-clause-tells : goal.returns-clause-tells
 returns-clause-tells c =
-    tells_ok c.serve_line.result c.args.key (house_in c.args.self.now) _ _ _ _ _ _ c.in_ok-take_all.ensures.tells c.serve_line.ensures.moves c.serve_line.ensures.kept
+    tells_ok c.serve_line.result c.args.key (machine_in c.args.self.now) _ _ _ _ _ _ c.in_ok-take_all.ensures.tells c.serve_line.ensures.moves c.serve_line.ensures.kept
 
 pub returns-clause-opens : goal.returns-clause-opens
 returns-clause-opens c = opens_served c.serve_line.result _ _ _ c.in_ok-take_all.ensures.read c.serve_line.ensures.opens
 
 pub returns-clause-asks : goal.returns-clause-asks
 returns-clause-asks c =
-    asks_ok c.serve_line.result c.args.key (house_in c.args.self.now) _ _ _ _ _ _ _ _ c.in_ok-take_all.ensures.asks c.serve_line.ensures.moves c.serve_line.ensures.kept c.serve_line.ensures.opens
+    asks_ok c.serve_line.result c.args.key (machine_in c.args.self.now) _ _ _ _ _ _ _ _ c.in_ok-take_all.ensures.asks c.serve_line.ensures.moves c.serve_line.ensures.kept c.serve_line.ensures.opens
 
 pub returns-clause-stand : goal.returns-clause-stand
 returns-clause-stand c = stand_on c.serve_line.result _ _ _ c.in_ok-take_all.ensures.stand c.serve_line.ensures.stand
 
 pub returns-clause-carries : goal.returns-clause-carries
 returns-clause-carries c = λ reached.
-    carries_ok c.serve_line.result c.args.key (house_in c.args.self.now) c.args.piece.now _ (body_of c.args.key c.args.self.now) (body_of c.args.key c.take_all.new.self) (body_of c.args.key c.serve_line.new.self) _ _ _ _ c.in_ok-take_all.ensures.carries c.serve_line.ensures.moves c.serve_line.ensures.kept
-    (ok_more c.serve_line.result _ _ (λ g. g.go (reached_on (Application c.args.key) _ _ c.in_ok-take_all.ensures.goes reached) c.args.key) c.serve_line.ensures.goes_on)
+    carries_ok c.serve_line.result c.args.key (machine_in c.args.self.now) c.args.piece.now _ (body_of c.args.key c.args.self.now) (body_of c.args.key c.take_all.new.self) (body_of c.args.key c.serve_line.new.self) _ _ _ _ c.in_ok-take_all.ensures.carries c.serve_line.ensures.moves c.serve_line.ensures.kept
+    (ok_more c.serve_line.result _ _ (λ g. g.go (reached_on (Application c.args.key) _ _ c.in_ok-take_all.ensures.goes reached) c.args.key) c.serve_line.ensures.goes_on) (relay_tied c.args.key c.serve_line.new.self)
 
 pub returns-clause-names : goal.returns-clause-names
 returns-clause-names c = names_on c.serve_line.result (names_in c.args.self.now.applications) c.take_all.new.self.applications c.serve_line.new.self.applications c.in_ok-take_all.ensures.names c.serve_line.ensures.kept
@@ -54,7 +55,15 @@ returns-clause-few c = few_behind c.serve_line.result _ _ _ _ _ (most_kept _ _ (
 pub returns-clause-closes : goal.returns-clause-closes
 returns-clause-closes c =
     let all = ForReasonOrWaiting c.args.key c.args.piece.now c.args.self.now in
-    closes_with c.serve_line.result (IsLentInVain c.take_all.new.self) all _ _ _ (lent_behind c.args.key c.args.piece.now c.args.self.now c.take_all.new.self c.in_ok-take_all.ensures.carries c.in_ok-take_all.ensures.read c.in_ok-take_all.ensures.goes) c.serve_line.ensures.vain
+    let taken : IsTakenTo c.args.key c.args.piece.now [] c.args.self.now c.take_all.new.self =
+    record {
+      carries = c.in_ok-take_all.ensures.carries;
+      heeds = c.in_ok-take_all.ensures.cancels;
+      stays = c.in_ok-take_all.ensures.read;
+      aside = λ reached. c.in_ok-take_all.ensures.aside reached;
+      right = λ right. c.in_ok-take_all.ensures.right right;
+    } in
+    closes_with c.serve_line.result (IsLentInVain c.take_all.new.self) all _ _ _ (lent_behind c.args.key c.args.piece.now c.args.self.now c.take_all.new.self taken c.in_ok-take_all.ensures.goes) c.serve_line.ensures.vain
     (closes_more _ all _ _ (λ other x. inl x) c.in_ok-take_all.ensures.closes)
 
 pub returns-clause-seated : goal.returns-clause-seated
@@ -67,7 +76,7 @@ pub returns-clause-others : goal.returns-clause-others
 returns-clause-others c = others_served c.serve_line.result c.args.key c.args.self.now c.take_all.new.self c.serve_line.new.self c.in_ok-take_all.ensures.goes c.in_ok-take_all.ensures.others c.serve_line.ensures.goes_on
 
 pub returns-clause-opening : goal.returns-clause-opening
-returns-clause-opening c = opens_new_on c.serve_line.result c.args.self.now c.take_all.new.self c.serve_line.new.self (opens_same c.args.self.now c.take_all.new.self c.take_all.ensures.opening (goes_last (Application c.args.key) (desk_in c.args.self.now.desk) (desk_in c.take_all.new.self.desk) c.in_ok-take_all.ensures.goes)) c.serve_line.ensures.opening
+returns-clause-opening c = opens_new_on c.serve_line.result c.args.self.now c.take_all.new.self c.serve_line.new.self (opens_same c.args.self.now c.take_all.new.self c.take_all.ensures.opening (goes_last (Application c.args.key) (pool_in c.args.self.now.pool) (pool_in c.take_all.new.self.pool) c.in_ok-take_all.ensures.goes)) c.serve_line.ensures.opening
 
 pub returns-clause-many : goal.returns-clause-many
 returns-clause-many c = grows_on c.serve_line.result c.args.self.now c.take_all.new.self c.serve_line.new.self (grows_stays c.args.self.now c.take_all.new.self c.take_all.ensures.opening c.in_ok-take_all.ensures.read) c.serve_line.ensures.many
@@ -79,7 +88,7 @@ returns-clause-puts c = λ reached.
 
 pub returns-clause-cancels : goal.returns-clause-cancels
 returns-clause-cancels c = λ reached.
-    cancels_ok c.serve_line.result c.args.key (house_in c.args.self.now) c.args.piece.now _ (standing_in c.args.key c.args.self.now) (standing_in c.args.key c.take_all.new.self) (standing_open c.args.key c.serve_line.new.self) _ _ _ _ c.in_ok-take_all.ensures.cancels
-    c.serve_line.ensures.moves c.serve_line.ensures.kept
-    (goes_served c.serve_line.result (body_of c.args.key c.take_all.new.self) (body_of c.args.key c.serve_line.new.self) c.take_all.new.self.links.items c.serve_line.new.self.links.items
-    (ok_more c.serve_line.result _ _ (λ g. g.go (reached_on (Application c.args.key) _ _ c.in_ok-take_all.ensures.goes reached) c.args.key) c.serve_line.ensures.goes_on) c.serve_line.ensures.opens)
+    let led = reached_on (Application c.args.key) _ _ c.in_ok-take_all.ensures.goes reached in
+    cancels_served c.serve_line.result c.args.key (machine_in c.args.self.now) c.args.piece.now (standing_in c.args.key c.args.self.now) c.take_all.new.self c.serve_line.new.self c.in_ok-take_all.ensures.cancels
+    c.serve_line.ensures.moves c.serve_line.ensures.kept (ok_more c.serve_line.result _ _ (λ g. g.go led c.args.key) c.serve_line.ensures.goes_on) (c.serve_line.ensures.aside led) c.serve_line.ensures.opens
+    (c.serve_line.ensures.fills led)

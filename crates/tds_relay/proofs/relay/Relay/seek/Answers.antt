@@ -1,8 +1,8 @@
-use Rattle.std.proofs.Common.{sym, refl, rules, ◌∙◌}
+use Rattle.std.proofs.Common.{sym, refl, rules, ◌∙◌, ap}
 use Rattle.tds_relay.specs.Ties.{Application}
 use Rattle.tds_relay.proofs.steps.Reaching.{ok_if, ok_more}
 use Rattle.tds_relay.proofs.steps.Staying.{stays_refl, stays_same}
-use Rattle.tds_relay.specs.Bodies.{body_of}
+use Rattle.tds_relay.specs.Bodies.{body_of, standing_in}
 use Rattle.tds_relay.proofs.steps.Bodied.{same_starts}
 use Rattle.tds_relay.proofs.spared.Closings.{closes_nobody}
 use Rattle.tds_relay.proofs.spared.Reasons.{for_that}
@@ -10,6 +10,9 @@ use Rattle.tds_relay.proofs.spared.Turned.{turned_held}
 use Rattle.tds_relay.proofs.spared.Cleaned.{not_both}
 use Rattle.tds_relay.proofs.spared.Speaking.{waited_rest}
 use Rattle.tds_relay.proofs.spared.Elsewhere.{aside_own, aside_refl, aside_waits}
+use Rattle.tds_relay.specs.Reads.{waits_on}
+use Rattle.tds_relay.proofs.steps.Still.{put_same}
+use Rattle.tds_relay.proofs.spared.Rightly.{held_right_on, waits_right_on}
 use Rattle.tds_relay.proofs.relay.Relay.seek.Goals as goal
 
 pub returns-in-None-clause-goes : goal.returns-in-None-clause-goes
@@ -53,3 +56,12 @@ returns-in-Some-clause-aside c = λ reached. aside_own c.start_kept.result c.arg
 
 pub returns-in-None-clause-aside : goal.returns-in-None-clause-aside
 returns-in-None-clause-aside c = λ reached. aside_waits c.wait.result c.args.key c.args.self.now c.args.self.now c.wait.new.self (aside_refl c.args.key c.args.self.now) c.wait.ensures.holds c.wait.ensures.links
+
+pub returns-in-None-clause-puts : goal.returns-in-None-clause-puts
+returns-in-None-clause-puts c = ok_if c.wait.result _ (put_same (standing_in c.args.key c.args.self.now) (standing_in c.args.key c.wait.new.self) (c.wait.ensures.body c.args.key) (λ number. ap (waits_on number) c.wait.ensures.links))
+
+pub returns-in-Some-clause-right : goal.returns-in-Some-clause-right
+returns-in-Some-clause-right c = held_right_on c.start_kept.result c.args.key c.start_kept.new.self c.start_kept.ensures.placed
+
+pub returns-in-None-clause-right : goal.returns-in-None-clause-right
+returns-in-None-clause-right c = waits_right_on c.wait.result c.args.key c.args.self.now c.wait.new.self c.wait.ensures.holds (sym c.hold_of.ensures ∙ c.in-None.is)

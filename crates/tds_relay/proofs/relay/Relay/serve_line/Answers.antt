@@ -7,25 +7,26 @@ use Rattle.tds_relay.proofs.steps.Reaching.{reaches_turn}
 use Rattle.tds_relay.proofs.steps.Staying.{opens_both, opens_refl}
 use Rattle.tds_relay.proofs.spared.Resting.{go_both, go_refl, reached_on_does, reached_serves, served_go}
 use Rattle.tds_relay.specs.Closings.{IsWaiting, Itself, register_in}
-use Rattle.tds_relay.specs.Reasons.{IsLentInVain}
+use Rattle.tds_relay.specs.Waiting.{IsLentInVain}
 use Rattle.tds_relay.proofs.spared.Turned.{lent_in_vain}
-use Rattle.tds_relay.specs.Fronts.{hall_in}
-use Rattle.tds_relay.specs.Ties.{desk_in, Serving}
+use Rattle.tds_relay.specs.Fronts.{core_in}
+use Rattle.tds_relay.specs.Ties.{pool_in, Serving}
 use Rattle.tds_relay.proofs.spared.Lines.{served_waited}
 use Rattle.tds_relay.proofs.spared.Closings.{closes_both, closes_more, closes_refl}
 use Rattle.tds_relay.proofs.spared.Lasting.{last_both, last_more, last_start}
 use Rattle.tds_relay.proofs.spared.Few.{few_lent, most_kept, none_refl}
-use Rattle.tds_relay.proofs.seats.Desks.{unserved}
+use Rattle.tds_relay.proofs.seats.Pools.{unserved}
 use Rattle.tds_relay.proofs.seats.Relays.{lent_if}
 use Rattle.tds_relay.proofs.spared.Opening.{grows_both, grows_refl, lent_opens, on_last, opens_new_both, opens_none, opens_same, turn_last}
-use Rattle.tds_relay.specs.Desk.{Serves}
+use Rattle.tds_relay.specs.Pool.{Serves}
 use Rattle.tds_relay.proofs.spared.Filling.{lends_more, lends_nothing, lends_refl}
+use Rattle.tds_relay.proofs.spared.Away.{away_lent, away_pool, away_refl}
 use Rattle.tds_relay.proofs.relay.Relay.serve_line.Goals as goal
 
 pub line-init : goal.line-init
 line-init c =
     let old = c.args.self.now in
-    let may = IsWaiting (desk_in old.desk).line in
+    let may = IsWaiting (pool_in old.pool).line in
     record {
       goes = λ by from h. h;
       kept = refl;
@@ -34,10 +35,10 @@ line-init c =
       stand = λ n r h. h;
       going = go_refl old;
       ordered = ordered_refl old.orders.items;
-      unserved = unserved_refl (hall_in old);
-      lends = lends_none (hall_in old);
+      unserved = unserved_refl (core_in old);
+      lends = lends_none (core_in old);
       few = inl (none_refl old.links.items);
-      shorter = zero-add (length old.desk.line.items);
+      shorter = zero-add (length old.pool.line.items);
       lasting = last_start may (register_in old);
       seated = λ s. s;
       counts = refl;
@@ -46,6 +47,7 @@ line-init c =
       vain = closes_refl (IsLentInVain old) (register_in old);
       fills = λ r. lends_refl old;
       many = grows_refl old;
+      aside = λ r. away_refl old;
     }
 
 pub line-preserved : goal.line-preserved
@@ -59,46 +61,51 @@ line-preserved c = record {
       go_both _ _ _ (λ r. reached_serves _ _ _ _ c.in_ok-served.ensures.ok.0 (reached_on_does _ _ c.line.invariant.goes r))
       (served_go _ _ _ c.line.invariant.goes c.line.invariant.going c.in_ok-served.ensures.holds refl refl) c.in_ok-lend-in-Some.ensures.goes_on;
   ordered = ordered_both _ _ _ c.line.invariant.ordered c.in_ok-lend-in-Some.ensures.ordered;
-  few = few_lent _ _ _ _ _ (desk_in c.line.self.desk) _ c.in-Some.served (most_kept _ _ c.line.invariant.closes.told) (c.is_full.ensures.lends (search rules)) c.in_ok-served.ensures.ok.1 c.in-Some.is c.in_ok-lend-in-Some.ensures.few c.line.invariant.few;
+  few = few_lent _ _ _ _ _ (pool_in c.line.self.pool) _ c.in-Some.served (most_kept _ _ c.line.invariant.closes.told) (c.is_full.ensures.lends (search rules)) c.in_ok-served.ensures.ok.1 c.in-Some.is c.in_ok-lend-in-Some.ensures.few c.line.invariant.few;
   closes =
-      closes_both (IsWaiting (desk_in c.args.self.now.desk).line) _ _ _ c.line.invariant.closes
-      (closes_more _ (IsWaiting (desk_in c.args.self.now.desk).line) _ _
-      (λ key e. served_waited (hall_in c.args.self.now) (hall_in c.line.self) _ c.in-Some.served c.line.invariant.unserved c.in_ok-served.ensures.ok.1 c.in-Some.is key e.0) c.in_ok-lend-in-Some.ensures.closes);
+      closes_both (IsWaiting (pool_in c.args.self.now.pool).line) _ _ _ c.line.invariant.closes
+      (closes_more _ (IsWaiting (pool_in c.args.self.now.pool).line) _ _
+      (λ key e. served_waited (core_in c.args.self.now) (core_in c.line.self) _ c.in-Some.served c.line.invariant.unserved c.in_ok-served.ensures.ok.1 c.in-Some.is key e.0) c.in_ok-lend-in-Some.ensures.closes);
   vain =
       closes_both (IsLentInVain c.args.self.now) _ _ _ c.line.invariant.vain
       (closes_more _ (IsLentInVain c.args.self.now) _ _
       (λ key e. lent_in_vain c.args.self.now c.line.self c.serve.new.self _ c.in-Some.served key c.line.invariant.unserved c.in_ok-served.ensures.ok.1 c.in-Some.is c.in_ok-served.ensures.ok.0 c.line.invariant.moves
       (served_go _ _ _ c.line.invariant.goes c.line.invariant.going c.in_ok-served.ensures.holds refl refl) c.line.invariant.opens c.line.invariant.fills e.0 e.1) c.in_ok-lend-in-Some.ensures.closes);
   shorter =
-      let gone : suc (length c.serve.new.self.line.items) ≡ length c.line.self.desk.line.items =
-      served_shorter (desk_in c.line.self.desk) (desk_in c.serve.new.self) _ c.in-Some.served _ _ c.in_ok-served.ensures.ok.1 c.in-Some.is c.in_ok-served.ensures.ok.0 in
-      let stays : length c.lend.new.self.desk.line.items ≡ length c.serve.new.self.line.items = ap (length {A = ℕ}) c.in_ok-lend-in-Some.ensures.alone.line in
+      let gone : suc (length c.serve.new.self.line.items) ≡ length c.line.self.pool.line.items =
+      served_shorter (pool_in c.line.self.pool) (pool_in c.serve.new.self) _ c.in-Some.served _ _ c.in_ok-served.ensures.ok.1 c.in-Some.is c.in_ok-served.ensures.ok.0 in
+      let stays : length c.lend.new.self.pool.line.items ≡ length c.serve.new.self.line.items = ap (length {A = ℕ}) c.in_ok-lend-in-Some.ensures.alone.line in
       omega (arith, c.line.invariant.shorter, gone, stays);
   lasting =
-      last_both (IsWaiting (desk_in c.args.self.now.desk).line) _ (register_in c.line.self) _ c.line.invariant.closes
-      (closes_more _ (IsWaiting (desk_in c.args.self.now.desk).line) _ _
-      (λ key e. served_waited (hall_in c.args.self.now) (hall_in c.line.self) _ c.in-Some.served c.line.invariant.unserved c.in_ok-served.ensures.ok.1 c.in-Some.is key e.0) c.in_ok-lend-in-Some.ensures.closes)
+      last_both (IsWaiting (pool_in c.args.self.now.pool).line) _ (register_in c.line.self) _ c.line.invariant.closes
+      (closes_more _ (IsWaiting (pool_in c.args.self.now.pool).line) _ _
+      (λ key e. served_waited (core_in c.args.self.now) (core_in c.line.self) _ c.in-Some.served c.line.invariant.unserved c.in_ok-served.ensures.ok.1 c.in-Some.is key e.0) c.in_ok-lend-in-Some.ensures.closes)
       c.line.invariant.lasting
-      (last_more (Itself c.in-Some.served.hold.key) (IsWaiting (desk_in c.args.self.now.desk).line) _ _
-      (served_waited (hall_in c.args.self.now) (hall_in c.line.self) _ c.in-Some.served c.line.invariant.unserved c.in_ok-served.ensures.ok.1 c.in-Some.is) c.in_ok-lend-in-Some.ensures.lasts);
+      (last_more (Itself c.in-Some.served.hold.key) (IsWaiting (pool_in c.args.self.now.pool).line) _ _
+      (served_waited (core_in c.args.self.now) (core_in c.line.self) _ c.in-Some.served c.line.invariant.unserved c.in_ok-served.ensures.ok.1 c.in-Some.is) c.in_ok-lend-in-Some.ensures.lasts);
   lends =
       lends_on _ _ _ _ _ _ c.in-Some.served _ _ c.line.invariant.lends c.in_ok-served.ensures.ok.1 c.in-Some.is c.in_ok-served.ensures.ok.0 refl c.in_ok-lend-in-Some.ensures.alone;
   unserved =
       unserved_on _ _ _ _ _ c.in-Some.served _ _ c.line.invariant.unserved c.in_ok-served.ensures.ok.1 c.in-Some.is c.in_ok-served.ensures.ok.0 refl c.in_ok-lend-in-Some.ensures.alone;
   seated = λ s.
       c.in_ok-lend-in-Some.ensures.seated
-      (lent_if c.line.self.desk c.serve.new.self c.in-Some.served c.in-Some.served.had _ _ _ refl refl c.in_ok-served.ensures.ok.0 (subst (Serving (desk_in c.line.self.desk)) c.in-Some.is c.in_ok-served.ensures.ok.1) (c.line.invariant.seated s));
+      (lent_if c.line.self.pool c.serve.new.self c.in-Some.served c.in-Some.served.had _ _ _ refl refl c.in_ok-served.ensures.ok.0 (subst (Serving (pool_in c.line.self.pool)) c.in-Some.is c.in_ok-served.ensures.ok.1) (c.line.invariant.seated s));
   counts = c.lend.ensures.counts ∙ c.line.invariant.counts;
   opening =
       opens_new_both c.args.self.now c.line.self c.lend.new.self c.line.invariant.opening
-      (lent_opens c.in-Some.served c.line.self c.lend.new.self (desk_in c.serve.new.self) _ _ c.in_ok-served.ensures.ok.0 (subst (Serving (desk_in c.line.self.desk)) c.in-Some.is c.in_ok-served.ensures.ok.1) c.in_ok-lend-in-Some.ensures.opening
-      (on_last (desk_in c.serve.new.self) (desk_in c.lend.new.self.desk) c.in_ok-lend-in-Some.ensures.goes));
+      (lent_opens c.in-Some.served c.line.self c.lend.new.self (pool_in c.serve.new.self) _ _ c.in_ok-served.ensures.ok.0 (subst (Serving (pool_in c.line.self.pool)) c.in-Some.is c.in_ok-served.ensures.ok.1) c.in_ok-lend-in-Some.ensures.opening
+      (on_last (pool_in c.serve.new.self) (pool_in c.lend.new.self.pool) c.in_ok-lend-in-Some.ensures.goes));
   fills = λ r.
       lends_more c.args.self.now c.line.self c.lend.new.self c.serve.new.self _ c.in-Some.served
       (reached_serves _ _ _ _ c.in_ok-served.ensures.ok.0 (reached_on_does _ _ c.line.invariant.goes r)) c.in_ok-served.ensures.ok.0 c.in_ok-served.ensures.ok.1 c.in-Some.is
-      (served_waited (hall_in c.args.self.now) (hall_in c.line.self) _ c.in-Some.served c.line.invariant.unserved c.in_ok-served.ensures.ok.1 c.in-Some.is c.in-Some.served.hold.key refl)
+      (served_waited (core_in c.args.self.now) (core_in c.line.self) _ c.in-Some.served c.line.invariant.unserved c.in_ok-served.ensures.ok.1 c.in-Some.is c.in-Some.served.hold.key refl)
       (λ its. c.in_ok-lend-in-Some.ensures.own (reached_serves _ _ _ _ c.in_ok-served.ensures.ok.0 (reached_on_does _ _ c.line.invariant.goes r)) its) (c.line.invariant.fills r);
   many = grows_both c.args.self.now c.line.self c.lend.new.self c.line.invariant.many c.in_ok-lend-in-Some.ensures.many;
+  aside = λ r.
+      away_lent c.in-Some.served.hold.key c.args.self.now _ c.lend.new.self
+      (served_waited (core_in c.args.self.now) (core_in c.line.self) _ c.in-Some.served c.line.invariant.unserved c.in_ok-served.ensures.ok.1 c.in-Some.is c.in-Some.served.hold.key refl)
+      (away_pool c.args.self.now c.line.self _ (reached_on_does _ _ c.line.invariant.goes r) (c.line.invariant.aside r) c.in_ok-served.ensures.holds refl refl)
+      (c.in_ok-lend-in-Some.ensures.others (reached_serves _ _ _ _ c.in_ok-served.ensures.ok.0 (reached_on_does _ _ c.line.invariant.goes r)));
 }
 
 pub returns-in-None-clause-apart : goal.returns-in-None-clause-apart
@@ -124,10 +131,10 @@ returns-then-is_full-clause-served c = inr (c.is_full.ensures.full (search rules
 
 pub returns-in-None-clause-seated : goal.returns-in-None-clause-seated
 returns-in-None-clause-seated c = λ s.
-    unserved (desk_in c.line.self.desk) (desk_in c.serve.new.self) _ _ c.line.self.links.items c.in_ok-served.ensures.ok.0 (subst (Serving (desk_in c.line.self.desk)) c.in-None.is c.in_ok-served.ensures.ok.1) (c.line.invariant.seated s)
+    unserved (pool_in c.line.self.pool) (pool_in c.serve.new.self) _ _ c.line.self.links.items c.in_ok-served.ensures.ok.0 (subst (Serving (pool_in c.line.self.pool)) c.in-None.is c.in_ok-served.ensures.ok.1) (c.line.invariant.seated s)
 
 pub returns-in-None-clause-opening : goal.returns-in-None-clause-opening
-returns-in-None-clause-opening c = opens_new_both c.args.self.now c.line.self _ c.line.invariant.opening (opens_same c.line.self _ refl (turn_last Serves (desk_in c.line.self.desk) (desk_in c.serve.new.self) _ _ c.in_ok-served.ensures.ok.0))
+returns-in-None-clause-opening c = opens_new_both c.args.self.now c.line.self _ c.line.invariant.opening (opens_same c.line.self _ refl (turn_last Serves (pool_in c.line.self.pool) (pool_in c.serve.new.self) _ _ c.in_ok-served.ensures.ok.0))
 
 pub returns-in-None-clause-lends : goal.returns-in-None-clause-lends
 returns-in-None-clause-lends c = lends_nobody _ _ _ _ _ _ _ c.line.invariant.lends c.in_ok-served.ensures.ok.1 c.in-None.is c.in_ok-served.ensures.ok.0 refl
@@ -137,3 +144,6 @@ returns-then-is_full-clause-lends c = c.line.invariant.lends
 
 pub returns-in-None-clause-fills : goal.returns-in-None-clause-fills
 returns-in-None-clause-fills c = λ r. lends_nothing c.args.self.now c.line.self c.serve.new.self _ c.in_ok-served.ensures.ok.0 c.in_ok-served.ensures.ok.1 c.in-None.is (c.line.invariant.fills r)
+
+pub returns-in-None-clause-aside : goal.returns-in-None-clause-aside
+returns-in-None-clause-aside c = λ r. away_pool c.args.self.now c.line.self _ (reached_on_does _ _ c.line.invariant.goes r) (c.line.invariant.aside r) c.in_ok-served.ensures.holds refl refl

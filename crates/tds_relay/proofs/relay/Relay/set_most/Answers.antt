@@ -1,6 +1,9 @@
 use Rattle.tds_relay.proofs.spared.Filling.{first_none, puts_on}
 use Rattle.std.proofs.Common.{refl}
 use Rattle.tds_relay.specs.Closings.{Nobody}
+use Rattle.tds_relay.specs.Waiting.{IsLentInVain}
+use Rattle.tds_relay.proofs.spared.Closings.{closes_more_on}
+use Rattle.tds_relay.specs.declared.relay.Relay as code
 use Rattle.tds_relay.proofs.relay.Relay.set_most.Goals as goal
 
 pub returns-clause-puts : goal.returns-clause-puts
@@ -10,3 +13,22 @@ returns-clause-puts c = λ reached.
 
 pub returns-clause-many : goal.returns-clause-many
 returns-clause-many c = c.serve_line.ensures.many
+
+pub returns-clause-closes : goal.returns-clause-closes
+returns-clause-closes c =
+    let old = c.args.self.now in
+    let mid : code.Relay = record old { most = c.args.most } in
+    closes_more_on c.serve_line.result (IsLentInVain mid) (IsLentInVain old) _ _
+    (λ other lent. record {
+      waits = lent.waits;
+      free = lent.free;
+      first = lent.first;
+      at = lent.at;
+      lent = lent.lent;
+      moved = lent.moved;
+      goes = record { go = lent.goes.go };
+      opens = lent.opens;
+      queues = lent.queues;
+      turned = lent.turned;
+    })
+    c.serve_line.ensures.vain

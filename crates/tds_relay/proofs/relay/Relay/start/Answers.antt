@@ -1,35 +1,36 @@
-use Rattle.std.proofs.Common.{◌∙◌, ap, refl, rules, sym, subst, inl, inr, ◌≡◌, None}
+use Rattle.std.proofs.Common.{◌∙◌, ℕ, ap, refl, rules, sym, subst, inl, inr, ◌≡◌, None}
 use Rattle.tds_relay.specs.Asking.{Opens}
-use Rattle.tds_relay.specs.Ties.{desk_in, IsReached}
+use Rattle.tds_relay.specs.Ties.{pool_in, IsReached}
 use Rattle.tds_relay.proofs.steps.Fronts.{moves_closes, moves_does, moves_same}
 use Rattle.tds_relay.proofs.steps.Reaching.{ok_more, reaches_turn}
 use Rattle.tds_relay.proofs.steps.Underway.{drains}
 use Rattle.tds_relay.proofs.bytes.Calls.{stand_on}
-use Rattle.tds_relay.specs.Bodies.{Body, Stays, Starts, body_of, going_of, held_of}
+use Rattle.tds_relay.specs.Bodies.{Body, Stays, Starts, body_of, going_of, held_of, PutsFrom, standing_in}
 use Rattle.slab.specs.Slab.{get}
 use Rattle.tds_relay.specs.Reads.{waits_on}
 use Rattle.tds_relay.specs.Sparing.{StartsBehind, Drains}
 use Rattle.tds_relay.proofs.steps.Bodied.{closed_body, closed_starts, shut_starts, shut}
 use Rattle.tds_relay.proofs.steps.Going.{behind_closed, behind_there, holds_stay, kept_at, starts_there}
-use Rattle.tds_relay.specs.Desk.{Desk, Asks}
+use Rattle.tds_relay.specs.Pool.{Pool, Asks}
 use Rattle.tds_relay.proofs.spared.Resting.{others_all, others_on, others_refl, put_rest, reached_does, same_on}
 use Rattle.tds_relay.specs.Sparing as sparing
 use Rattle.tds_relay.proofs.spared.Starting.{taken_back, unkept_closed, unkept_none, unkept_over, unkept_there}
-use Rattle.tds_relay.specs.declared.desk.Desk as desks
-use Rattle.tds_relay.specs.Fronts.{ends_in, hall_in, hall_of_ends}
-use Rattle.tds_relay.specs.Hall.{closes, end_at}
+use Rattle.tds_relay.specs.declared.pool.Pool as pools
+use Rattle.tds_relay.specs.Fronts.{ends_in, core_in, core_of_ends}
+use Rattle.tds_relay.specs.Core.{closes, end_at}
 use Rattle.tds_relay.proofs.spared.Apart.{alone_changed, alone_on, alone_same, line_does}
 use Rattle.tds_relay.proofs.spared.Ordered.{ordered_closing, ordered_refl}
 use Rattle.tds_relay.proofs.spared.Begun.{answers_refl, answers_unchanged}
 use Rattle.tds_relay.specs.Closings.{Itself, register_in}
 use Rattle.tds_relay.proofs.spared.Ended.{its_name}
 use Rattle.tds_relay.proofs.spared.Lasting.{last_closed, last_named, last_start, same_but}
-use Rattle.tds_relay.proofs.seats.Relays.{kept_end, desk_seated}
-use Rattle.tds_relay.proofs.seats.Desks.{deed_seated}
+use Rattle.tds_relay.proofs.seats.Relays.{kept_end, pool_seated}
+use Rattle.tds_relay.proofs.seats.Pools.{action_seated}
 use Rattle.tds_relay.proofs.spared.Reasons.{for_reason, for_that}
 use Rattle.tds_relay.specs.Reasons.{CannotStart, Unasked, Unput}
 use Rattle.tds_relay.proofs.spared.Turned.{ready_there}
 use Rattle.tds_relay.proofs.spared.Filling.{own_end, own_on, own_refl, own_same}
+use Rattle.tds_relay.proofs.steps.Still.{put_refl, put_shut, put_there}
 use Rattle.tds_relay.proofs.relay.Relay.start.Goals as goal
 
 pub returns-in-Ok-clause-goes : goal.returns-in-Ok-clause-goes
@@ -39,11 +40,11 @@ pub returns-in-Ok-clause-moves : goal.returns-in-Ok-clause-moves
 returns-in-Ok-clause-moves c = ok_more c.put_held.result _ _ (λ m may begun by from h. m by from (moves_does by from _ _ _ _ _ _ _ c.in-Ok.ensures.ok (tt, begun c.in-Some-hold_of.hold (sym c.hold_of.ensures ∙ c.in-Some-hold_of.is), may) tt refl h)) c.put_held.ensures.moves
 
 pub returns-in_default-hold_of-clause-moves : goal.returns-in_default-hold_of-clause-moves
-returns-in_default-hold_of-clause-moves c = ok_more c.end.result _ _ (λ e may begun by from h. moves_closes by from _ _ _ _ c.args.key (ap desk_in c.end.ensures.desk) e h) c.end.ensures.ends
+returns-in_default-hold_of-clause-moves c = ok_more c.end.result _ _ (λ e may begun by from h. moves_closes by from _ _ _ _ c.args.key (ap pool_in c.end.ensures.pool) e h) c.end.ensures.ends
 
 pub returns-then-application-2-clause-underway : goal.returns-then-application-2-clause-underway
 returns-then-application-2-clause-underway c = λ whole waits.
-    drains whole _ c.args.key (desk_in c.args.self.now.desk) c.args.self.now.applications c.in-Some.application.now c.in-Some-hold_of.hold c.in-Some.ensures (search rules)
+    drains whole _ c.args.key (pool_in c.args.self.now.pool) c.args.self.now.applications c.in-Some.application.now c.in-Some-hold_of.hold c.in-Some.ensures (search rules)
     (sym c.hold_of.ensures ∙ c.in-Some-hold_of.is)
 
 pub returns-then-not-is_open-clause-underway : goal.returns-then-not-is_open-clause-underway
@@ -75,19 +76,19 @@ returns-in-Ok-clause-body c =
     let kept = kept_at (get c.args.self.now.applications c.args.key) (going_of c.args.key c.args.self.now) c.in-Some.application.now c.in-Waits.kind c.in-Waits.whole c.in-Some.ensures c.if-application.false c.in-Waits.is in
     ok_more c.put_held.result _ _
     (λ g. subst (λ (b : Body). Starts b (body_of c.args.key c.put_held.new.self)) (sym kept)
-    (starts_there c.in-Waits.whole (held_of (get c.args.self.now.applications c.args.key)) c.in-Waits.kind c.args.key c.args.self.now.desk c.ask.new.self c.args.self.now.links.items _ c.in-Some-hold_of.hold (body_of c.args.key c.put_held.new.self) c.in-Ok.ensures.whose
-    (sym c.hold_of.ensures ∙ c.in-Some-hold_of.is) (holds_stay c.args.key _ (desk_in c.args.self.now.desk) (desk_in c.ask.new.self) _ _ c.in-Ok.ensures.ok) c.in-Ok.ensures.opened (c.is_open.ensures.there (search rules)) g))
+    (starts_there c.in-Waits.whole (held_of (get c.args.self.now.applications c.args.key)) c.in-Waits.kind c.args.key c.args.self.now.pool c.ask.new.self c.args.self.now.links.items _ c.in-Some-hold_of.hold (body_of c.args.key c.put_held.new.self) c.in-Ok.ensures.whose
+    (sym c.hold_of.ensures ∙ c.in-Some-hold_of.is) (holds_stay c.args.key _ (pool_in c.args.self.now.pool) (pool_in c.ask.new.self) _ _ c.in-Ok.ensures.ok) c.in-Ok.ensures.opened (c.is_open.ensures.there (search rules)) g))
     c.put_held.ensures.body
 
 pub returns-in-Ok-clause-others : goal.returns-in-Ok-clause-others
 returns-in-Ok-clause-others c = λ reached.
     others_on c.put_held.result c.args.key c.args.self.now _ c.put_held.new.self
-    (c.put_held.ensures.others (reached_does (desk_in c.args.self.now.desk) (desk_in c.ask.new.self) c.args.key Asks _ _ c.in-Ok.ensures.ok tt reached))
+    (c.put_held.ensures.others (reached_does (pool_in c.args.self.now.pool) (pool_in c.ask.new.self) c.args.key Asks _ _ c.in-Ok.ensures.ok tt reached))
     (put_rest c.args.key c.in-Some-hold_of.hold c.args.self.now _ c.ask.new.self reached (sym c.hold_of.ensures ∙ c.in-Some-hold_of.is) c.ask.ensures.others refl refl (λ k goes. refl))
 
 pub returns-in_default-hold_of-clause-others : goal.returns-in_default-hold_of-clause-others
 returns-in_default-hold_of-clause-others c = λ reached.
-    others_all c.end.result c.args.key c.args.self.now c.args.self.now c.end.new.self (same_on c.end.result c.args.self.now c.end.new.self c.end.ensures.desk c.end.ensures.links c.end.ensures.asks)
+    others_all c.end.result c.args.key c.args.self.now c.args.self.now c.end.new.self (same_on c.end.result c.args.self.now c.end.new.self c.end.ensures.pool c.end.ensures.links c.end.ensures.asks)
     (others_refl c.args.key c.args.self.now)
 
 pub returns-in_default-clause-waits : goal.returns-in_default-clause-waits
@@ -112,21 +113,21 @@ pub returns-in-Ok-clause-waits : goal.returns-in-Ok-clause-waits
 returns-in-Ok-clause-waits c = ok_more c.put_held.result _ _ (λ g. inl g) c.put_held.ensures.gone
 
 pub returns-in_default-hold_of-clause-alone : goal.returns-in_default-hold_of-clause-alone
-returns-in_default-hold_of-clause-alone c = ok_more c.end.result _ _ (λ e. alone_changed c.args.key closes (hall_in c.args.self.now) (hall_in c.end.new.self) e (ap (λ (d : desks.Desk). (desk_in d).line) c.end.ensures.desk)) c.end.ensures.ends
+returns-in_default-hold_of-clause-alone c = ok_more c.end.result _ _ (λ e. alone_changed c.args.key closes (core_in c.args.self.now) (core_in c.end.new.self) e (ap (λ (d : pools.Pool). (pool_in d).line) c.end.ensures.pool)) c.end.ensures.ends
 
 pub returns-in-Ok-clause-alone : goal.returns-in-Ok-clause-alone
 returns-in-Ok-clause-alone c =
-    alone_on c.put_held.result c.args.key (hall_in c.args.self.now) (hall_of_ends (desk_in c.ask.new.self) (ends_in c.args.self.now.applications)) _ c.put_held.ensures.alone
-    (alone_same c.args.key (hall_in c.args.self.now) (hall_of_ends (desk_in c.ask.new.self) (ends_in c.args.self.now.applications)) refl (line_does c.args.key _ _ _ _ _ c.in-Ok.ensures.ok))
+    alone_on c.put_held.result c.args.key (core_in c.args.self.now) (core_of_ends (pool_in c.ask.new.self) (ends_in c.args.self.now.applications)) _ c.put_held.ensures.alone
+    (alone_same c.args.key (core_in c.args.self.now) (core_of_ends (pool_in c.ask.new.self) (ends_in c.args.self.now.applications)) refl (line_does c.args.key _ _ _ _ _ c.in-Ok.ensures.ok))
 
 pub returns-in_default-hold_of-clause-ordered : goal.returns-in_default-hold_of-clause-ordered
 returns-in_default-hold_of-clause-ordered c = ordered_closing c.end.result _ _ _ _ c.end.ensures.ordered (ordered_refl _)
 
 pub returns-in-Ok-clause-closes : goal.returns-in-Ok-clause-closes
 returns-in-Ok-clause-closes c =
-    let ready = ready_there c.args.key c.args.self.now.applications c.args.self.now.desk c.args.self.now.links.items c.in-Some.application.now c.in-Some-hold_of.hold c.in-Some.ensures c.if-application.false (search rules)
+    let ready = ready_there c.args.key c.args.self.now.applications c.args.self.now.pool c.args.self.now.links.items c.in-Some.application.now c.in-Some-hold_of.hold c.in-Some.ensures c.if-application.false (search rules)
     (sym c.hold_of.ensures ∙ c.in-Some-hold_of.is) (c.is_open.ensures.open (search rules)) in
-    for_that c.put_held.result c.args.key _ _ _ _ (λ why. inr (subst (λ (b : Body). CannotStart c.args.key (end_at (ends_in c.args.self.now.applications) c.args.key) c.args.self.now.desk c.args.self.now.links.items b) (sym (kept_at (get c.args.self.now.applications c.args.key) (going_of c.args.key c.args.self.now) c.in-Some.application.now c.in-Waits.kind c.in-Waits.whole c.in-Some.ensures c.if-application.false c.in-Waits.is)) (ready, Unput _ c.in-Ok.ensures.whose c.ask.new.self c.in-Ok.ensures.ok c.in-Ok.ensures.opened why))) c.put_held.ensures.closes
+    for_that c.put_held.result c.args.key _ _ _ _ (λ why. inr (subst (λ (b : Body). CannotStart c.args.key (end_at (ends_in c.args.self.now.applications) c.args.key) c.args.self.now.pool c.args.self.now.links.items b) (sym (kept_at (get c.args.self.now.applications c.args.key) (going_of c.args.key c.args.self.now) c.in-Some.application.now c.in-Waits.kind c.in-Waits.whole c.in-Some.ensures c.if-application.false c.in-Waits.is)) (ready, Unput _ c.in-Ok.ensures.whose c.ask.new.self c.in-Ok.ensures.ok c.in-Ok.ensures.opened why))) c.put_held.ensures.closes
 
 pub returns-in_default-clause-placed : goal.returns-in_default-clause-placed
 returns-in_default-clause-placed c = inl (unkept_none c.args.self.now.applications c.args.key _ (search rules))
@@ -190,13 +191,13 @@ returns-in-Ok-clause-lasts c =
     last_named c.put_held.result c.args.key c.in-Some.application.now.tag (register_in c.args.self.now) c.put_held.new.self (its_name c.args.self.now c.args.key c.in-Some.application.now c.in-Some.ensures c.if-application.false) c.put_held.ensures.lasts
 
 pub returns-in-Ok-clause-seated : goal.returns-in-Ok-clause-seated
-returns-in-Ok-clause-seated c = λ s. c.put_held.ensures.seated (deed_seated c.args.key Asks (desk_in c.args.self.now.desk) (desk_in c.ask.new.self) _ _ c.args.self.now.links.items c.in-Ok.ensures.ok s)
+returns-in-Ok-clause-seated c = λ s. c.put_held.ensures.seated (action_seated c.args.key Asks (pool_in c.args.self.now.pool) (pool_in c.ask.new.self) _ _ c.args.self.now.links.items c.in-Ok.ensures.ok s)
 
 pub returns-in_ok-unless_memory-in-Err-clause-seated : goal.returns-in_ok-unless_memory-in-Err-clause-seated
-returns-in_ok-unless_memory-in-Err-clause-seated c = λ s. c.fail.ensures.seated (desk_seated (desk_in c.args.self.now.desk) (desk_in c.ask.new.self) c.args.self.now.links.items c.in-Err.ensures.err s)
+returns-in_ok-unless_memory-in-Err-clause-seated c = λ s. c.fail.ensures.seated (pool_seated (pool_in c.args.self.now.pool) (pool_in c.ask.new.self) c.args.self.now.links.items c.in-Err.ensures.err s)
 
 pub returns-in_default-hold_of-clause-seated : goal.returns-in_default-hold_of-clause-seated
-returns-in_default-hold_of-clause-seated c = λ s. kept_end c.end.result c.args.self.now c.end.new.self c.end.ensures.desk c.end.ensures.links s
+returns-in_default-hold_of-clause-seated c = λ s. kept_end c.end.result c.args.self.now c.end.new.self c.end.ensures.pool c.end.ensures.links s
 
 pub returns-in_ok-unless_memory-in-Err-clause-moves : goal.returns-in_ok-unless_memory-in-Err-clause-moves
 returns-in_ok-unless_memory-in-Err-clause-moves c = ok_more c.fail.result _ _ (λ m may begun by from h. m by from (moves_same by from _ _ _ _ c.in-Err.ensures.err refl h)) c.fail.ensures.moves
@@ -206,7 +207,7 @@ returns-in_ok-unless_memory-in-Err-clause-body c = ok_more c.fail.result _ _ (λ
 
 pub returns-in_ok-unless_memory-in-Err-clause-others : goal.returns-in_ok-unless_memory-in-Err-clause-others
 returns-in_ok-unless_memory-in-Err-clause-others c = λ reached.
-    others_all c.fail.result c.args.key c.args.self.now _ c.fail.new.self (c.fail.ensures.rests (subst (λ (d : Desk). IsReached d) (sym c.in-Err.ensures.err) reached))
+    others_all c.fail.result c.args.key c.args.self.now _ c.fail.new.self (c.fail.ensures.rests (subst (λ (d : Pool). IsReached d) (sym c.in-Err.ensures.err) reached))
     (put_rest c.args.key c.in-Some-hold_of.hold c.args.self.now _ c.ask.new.self reached (sym c.hold_of.ensures ∙ c.in-Some-hold_of.is) c.ask.ensures.others refl refl (λ k goes. refl))
 
 pub returns-in_ok-unless_memory-in-Err-clause-waits : goal.returns-in_ok-unless_memory-in-Err-clause-waits
@@ -214,8 +215,8 @@ returns-in_ok-unless_memory-in-Err-clause-waits c = ok_more c.fail.result _ _ (�
 
 pub returns-in_ok-unless_memory-in-Err-clause-alone : goal.returns-in_ok-unless_memory-in-Err-clause-alone
 returns-in_ok-unless_memory-in-Err-clause-alone c =
-    alone_on c.fail.result c.args.key (hall_in c.args.self.now) (hall_of_ends (desk_in c.ask.new.self) (ends_in c.args.self.now.applications)) _ c.fail.ensures.alone
-    (alone_same c.args.key (hall_in c.args.self.now) (hall_of_ends (desk_in c.ask.new.self) (ends_in c.args.self.now.applications)) refl (ap (λ (d : Desk). d.line) c.in-Err.ensures.err))
+    alone_on c.fail.result c.args.key (core_in c.args.self.now) (core_of_ends (pool_in c.ask.new.self) (ends_in c.args.self.now.applications)) _ c.fail.ensures.alone
+    (alone_same c.args.key (core_in c.args.self.now) (core_of_ends (pool_in c.ask.new.self) (ends_in c.args.self.now.applications)) refl (ap (λ (d : Pool). d.line) c.in-Err.ensures.err))
 
 pub returns-in_ok-unless_memory-in-Err-clause-placed : goal.returns-in_ok-unless_memory-in-Err-clause-placed
 returns-in_ok-unless_memory-in-Err-clause-placed c = ok_more c.fail.result _ _ (λ d. inl (unkept_closed _ (shut c.fail.new.self.applications c.args.key _ d))) c.fail.ensures.over
@@ -226,11 +227,11 @@ returns-in_ok-unless_memory-in-Err-clause-lasts c =
 
 pub returns-in_ok-unless_memory-in-Err-clause-closes : goal.returns-in_ok-unless_memory-in-Err-clause-closes
 returns-in_ok-unless_memory-in-Err-clause-closes c =
-    let ready = ready_there c.args.key c.args.self.now.applications c.args.self.now.desk c.args.self.now.links.items c.in-Some.application.now c.in-Some-hold_of.hold c.in-Some.ensures c.if-application.false (search rules)
+    let ready = ready_there c.args.key c.args.self.now.applications c.args.self.now.pool c.args.self.now.links.items c.in-Some.application.now c.in-Some-hold_of.hold c.in-Some.ensures c.if-application.false (search rules)
     (sym c.hold_of.ensures ∙ c.in-Some-hold_of.is) (c.is_open.ensures.open (search rules)) in
     let its = sym c.hold_of.ensures ∙ c.in-Some-hold_of.is in
     for_reason c.fail.result c.args.key _ _ _
-    (inr (subst (λ (b : Body). CannotStart c.args.key (end_at (ends_in c.args.self.now.applications) c.args.key) c.args.self.now.desk c.args.self.now.links.items b) (sym (kept_at (get c.args.self.now.applications c.args.key) (going_of c.args.key c.args.self.now) c.in-Some.application.now c.in-Waits.kind c.in-Waits.whole c.in-Some.ensures c.if-application.false c.in-Waits.is))
+    (inr (subst (λ (b : Body). CannotStart c.args.key (end_at (ends_in c.args.self.now.applications) c.args.key) c.args.self.now.pool c.args.self.now.links.items b) (sym (kept_at (get c.args.self.now.applications c.args.key) (going_of c.args.key c.args.self.now) c.in-Some.application.now c.in-Waits.kind c.in-Waits.whole c.in-Some.ensures c.if-application.false c.in-Waits.is))
     (ready, Unasked (record { hold = c.in-Some-hold_of.hold; its = its; refusal = c.in-Err.refusal; reason = c.in_ok-unless_memory-in-Err.ensures; refuses = λ count. c.in-Err.ensures.refused c.in-Some-hold_of.hold its })))) c.fail.ensures.closes
 
 pub returns-in_default-hold_of-clause-closes : goal.returns-in_default-hold_of-clause-closes
@@ -264,37 +265,67 @@ returns-in-Ok-clause-behind c =
     let kept = kept_at (get c.args.self.now.applications c.args.key) (going_of c.args.key c.args.self.now) c.in-Some.application.now c.in-Waits.kind c.in-Waits.whole c.in-Some.ensures c.if-application.false c.in-Waits.is in
     ok_more c.put_held.result _ _
     (λ g hold its. subst (λ (b : Body). StartsBehind (waits_on hold.number c.args.self.now.links.items) b (body_of c.args.key c.put_held.new.self)) (sym kept)
-    (behind_there c.in-Waits.whole (held_of (get c.args.self.now.applications c.args.key)) c.in-Waits.kind c.args.key c.args.self.now.desk c.ask.new.self c.args.self.now.links.items _ c.in-Some-hold_of.hold hold (body_of c.args.key c.put_held.new.self) c.in-Ok.ensures.whose
-    (sym c.hold_of.ensures ∙ c.in-Some-hold_of.is) its (holds_stay c.args.key _ (desk_in c.args.self.now.desk) (desk_in c.ask.new.self) _ _ c.in-Ok.ensures.ok) c.in-Ok.ensures.opened (c.is_open.ensures.there (search rules)) g))
+    (behind_there c.in-Waits.whole (held_of (get c.args.self.now.applications c.args.key)) c.in-Waits.kind c.args.key c.args.self.now.pool c.ask.new.self c.args.self.now.links.items _ c.in-Some-hold_of.hold hold (body_of c.args.key c.put_held.new.self) c.in-Ok.ensures.whose
+    (sym c.hold_of.ensures ∙ c.in-Some-hold_of.is) its (holds_stay c.args.key _ (pool_in c.args.self.now.pool) (pool_in c.ask.new.self) _ _ c.in-Ok.ensures.ok) c.in-Ok.ensures.opened (c.is_open.ensures.there (search rules)) g))
     c.put_held.ensures.body
 
 pub returns-in_default-clause-own : goal.returns-in_default-clause-own
-returns-in_default-clause-own c = λ reached. own_refl c.args.key c.args.self.now.desk.holds.items c.args.self.now.links.items
+returns-in_default-clause-own c = λ reached. own_refl c.args.key c.args.self.now.pool.holds.items c.args.self.now.links.items
 
 pub returns-then-application-clause-own : goal.returns-then-application-clause-own
-returns-then-application-clause-own c = λ reached. own_refl c.args.key c.args.self.now.desk.holds.items c.args.self.now.links.items
+returns-then-application-clause-own c = λ reached. own_refl c.args.key c.args.self.now.pool.holds.items c.args.self.now.links.items
 
 pub returns-in_default-asking-clause-own : goal.returns-in_default-asking-clause-own
-returns-in_default-asking-clause-own c = λ reached. own_refl c.args.key c.args.self.now.desk.holds.items c.args.self.now.links.items
+returns-in_default-asking-clause-own c = λ reached. own_refl c.args.key c.args.self.now.pool.holds.items c.args.self.now.links.items
 
 pub returns-then-application-2-clause-own : goal.returns-then-application-2-clause-own
-returns-then-application-2-clause-own c = λ reached. own_refl c.args.key c.args.self.now.desk.holds.items c.args.self.now.links.items
+returns-then-application-2-clause-own c = λ reached. own_refl c.args.key c.args.self.now.pool.holds.items c.args.self.now.links.items
 
 pub returns-then-not-is_open-clause-own : goal.returns-then-not-is_open-clause-own
-returns-then-not-is_open-clause-own c = λ reached. own_refl c.args.key c.args.self.now.desk.holds.items c.args.self.now.links.items
+returns-then-not-is_open-clause-own c = λ reached. own_refl c.args.key c.args.self.now.pool.holds.items c.args.self.now.links.items
 
 pub returns-in_default-hold_of-clause-own : goal.returns-in_default-hold_of-clause-own
-returns-in_default-hold_of-clause-own c = λ reached. own_end c.end.result c.args.key c.args.self.now c.end.new.self c.end.ensures.desk c.end.ensures.links
+returns-in_default-hold_of-clause-own c = λ reached. own_end c.end.result c.args.key c.args.self.now c.end.new.self c.end.ensures.pool c.end.ensures.links
 
 pub returns-in-Ok-clause-own : goal.returns-in-Ok-clause-own
 returns-in-Ok-clause-own c = λ reached.
-    own_on c.put_held.result c.args.key c.args.self.now.desk.holds.items c.ask.new.self.holds.items c.put_held.new.self.desk.holds.items c.args.self.now.links.items c.args.self.now.links.items c.put_held.new.self.links.items
-    (own_same c.args.key c.args.self.now.desk.holds.items c.args.self.now.links.items c.ask.new.self.holds.items c.args.self.now.links.items
-    (holds_stay c.args.key _ (desk_in c.args.self.now.desk) (desk_in c.ask.new.self) _ _ c.in-Ok.ensures.ok) (λ n. refl))
-    (c.put_held.ensures.own (reached_does (desk_in c.args.self.now.desk) (desk_in c.ask.new.self) c.args.key Asks _ _ c.in-Ok.ensures.ok tt reached))
+    own_on c.put_held.result c.args.key c.args.self.now.pool.holds.items c.ask.new.self.holds.items c.put_held.new.self.pool.holds.items c.args.self.now.links.items c.args.self.now.links.items c.put_held.new.self.links.items
+    (own_same c.args.key c.args.self.now.pool.holds.items c.args.self.now.links.items c.ask.new.self.holds.items c.args.self.now.links.items
+    (holds_stay c.args.key _ (pool_in c.args.self.now.pool) (pool_in c.ask.new.self) _ _ c.in-Ok.ensures.ok) (λ n. refl))
+    (c.put_held.ensures.own (reached_does (pool_in c.args.self.now.pool) (pool_in c.ask.new.self) c.args.key Asks _ _ c.in-Ok.ensures.ok tt reached))
 
 pub returns-in_ok-unless_memory-in-Err-clause-own : goal.returns-in_ok-unless_memory-in-Err-clause-own
 returns-in_ok-unless_memory-in-Err-clause-own c = λ reached.
-    own_on c.fail.result c.args.key c.args.self.now.desk.holds.items c.ask.new.self.holds.items c.fail.new.self.desk.holds.items c.args.self.now.links.items c.args.self.now.links.items c.fail.new.self.links.items
-    (own_same c.args.key c.args.self.now.desk.holds.items c.args.self.now.links.items c.ask.new.self.holds.items c.args.self.now.links.items
-    (ap (λ (d : Desk). d.holds) c.in-Err.ensures.err) (λ n. refl)) c.fail.ensures.own
+    own_on c.fail.result c.args.key c.args.self.now.pool.holds.items c.ask.new.self.holds.items c.fail.new.self.pool.holds.items c.args.self.now.links.items c.args.self.now.links.items c.fail.new.self.links.items
+    (own_same c.args.key c.args.self.now.pool.holds.items c.args.self.now.links.items c.ask.new.self.holds.items c.args.self.now.links.items
+    (ap (λ (d : Pool). d.holds) c.in-Err.ensures.err) (λ n. refl)) c.fail.ensures.own
+
+pub returns-in_default-clause-puts : goal.returns-in_default-clause-puts
+returns-in_default-clause-puts c = put_refl (standing_in c.args.key c.args.self.now)
+
+pub returns-then-application-clause-puts : goal.returns-then-application-clause-puts
+returns-then-application-clause-puts c = put_refl (standing_in c.args.key c.args.self.now)
+
+pub returns-in_default-asking-clause-puts : goal.returns-in_default-asking-clause-puts
+returns-in_default-asking-clause-puts c = put_refl (standing_in c.args.key c.args.self.now)
+
+pub returns-then-application-2-clause-puts : goal.returns-then-application-2-clause-puts
+returns-then-application-2-clause-puts c = put_refl (standing_in c.args.key c.args.self.now)
+
+pub returns-then-not-is_open-clause-puts : goal.returns-then-not-is_open-clause-puts
+returns-then-not-is_open-clause-puts c = put_refl (standing_in c.args.key c.args.self.now)
+
+pub returns-in_default-hold_of-clause-puts : goal.returns-in_default-hold_of-clause-puts
+returns-in_default-hold_of-clause-puts c = ok_more c.end.result _ _ (λ e. put_shut _ (body_of c.args.key c.args.self.now) (standing_in c.args.key c.end.new.self) (closed_body c.args.key c.end.new.self.applications _ (going_of c.args.key c.end.new.self) e)) c.end.ensures.ends
+
+pub returns-in_ok-unless_memory-in-Err-clause-puts : goal.returns-in_ok-unless_memory-in-Err-clause-puts
+returns-in_ok-unless_memory-in-Err-clause-puts c = ok_more c.fail.result _ _ (λ d. put_shut _ (body_of c.args.key c.args.self.now) (standing_in c.args.key c.fail.new.self) (shut c.fail.new.self.applications c.args.key (going_of c.args.key c.fail.new.self) d)) c.fail.ensures.over
+
+pub returns-in-Ok-clause-puts : goal.returns-in-Ok-clause-puts
+returns-in-Ok-clause-puts c =
+    let kept = kept_at (get c.args.self.now.applications c.args.key) (going_of c.args.key c.args.self.now) c.in-Some.application.now c.in-Waits.kind c.in-Waits.whole c.in-Some.ensures c.if-application.false c.in-Waits.is in
+    ok_more c.put_held.result _ _
+    (λ g. subst (λ (b : Body). PutsFrom (λ (number : ℕ). waits_on number c.args.self.now.links.items) b (standing_in c.args.key c.put_held.new.self)) (sym kept)
+    (put_there c.in-Waits.whole (held_of (get c.args.self.now.applications c.args.key)) c.in-Waits.kind c.args.key c.args.self.now.pool c.ask.new.self c.args.self.now.links.items _ c.in-Some-hold_of.hold (standing_in c.args.key c.put_held.new.self) c.in-Ok.ensures.whose
+    (sym c.hold_of.ensures ∙ c.in-Some-hold_of.is) (holds_stay c.args.key _ (pool_in c.args.self.now.pool) (pool_in c.ask.new.self) _ _ c.in-Ok.ensures.ok) c.in-Ok.ensures.opened (c.is_open.ensures.there (search rules)) g))
+    c.put_held.ensures.body

@@ -1,9 +1,9 @@
 use Rattle.std.proofs.Common.{◌≡◌, ◌∙◌, None, Some, inl, rules, sym, inr}
 use Rattle.tds_relay.specs.Waiting.{IsUnheldOrTurnedAway}
 use Rattle.tds_relay.specs.Asking.{Closes}
-use Rattle.tds_relay.specs.Bodies.{Stays, body_of, going_of}
-use Rattle.tds_relay.specs.Fronts.{hall_in}
-use Rattle.tds_relay.specs.Ties.{desk_in}
+use Rattle.tds_relay.specs.Bodies.{Stays, body_of, going_of, standing_in}
+use Rattle.tds_relay.specs.Fronts.{core_in}
+use Rattle.tds_relay.specs.Ties.{pool_in}
 use Rattle.tds_relay.specs.Sparing as sparing
 use Rattle.tds_relay.proofs.steps.Going.{behind_closed}
 use Rattle.tds_relay.proofs.steps.Bodied.{shut, shut_starts}
@@ -21,13 +21,14 @@ use Rattle.tds_relay.proofs.spared.Reasons.{for_reason, for_that}
 use Rattle.tds_relay.proofs.spared.Turned.{turned_by, unstarted_or}
 use Rattle.tds_relay.specs.Reasons.{ItselfFor}
 use Rattle.tds_relay.proofs.spared.Filling.{own_refl}
+use Rattle.tds_relay.proofs.steps.Still.{put_refl, put_shut}
 use Rattle.tds_relay.proofs.relay.Relay.start_kept.Goals as goal
 
 pub returns-in_default-clause-moves : goal.returns-in_default-clause-moves
 returns-in_default-clause-moves c =
     let none : c.hold_of.result ≡ None = search rules in
     let unheld = sym c.hold_of.ensures ∙ none in
-    ok_more c.start.result _ _ (λ m. m (unheld_reset (desk_in c.args.self.now.desk) c.args.key _ unheld) (λ hold its. absurd (let u : None ≡ Some hold = sym unheld ∙ its in let v : ⊥ = cc in v))) c.start.ensures.moves
+    ok_more c.start.result _ _ (λ m. m (unheld_reset (pool_in c.args.self.now.pool) c.args.key _ unheld) (λ hold its. absurd (let u : None ≡ Some hold = sym unheld ∙ its in let v : ⊥ = cc in v))) c.start.ensures.moves
 
 pub returns-then-may_ask-clause-moves : goal.returns-then-may_ask-clause-moves
 returns-then-may_ask-clause-moves c = ok_more c.start-then-may_ask.result _ _ (λ m. m (c.may_ask.ensures.reset (sym c.hold_of.ensures ∙ c.in-Some.is) (search rules)) (λ hold its. c.may_ask.ensures.begun (search rules))) c.start-then-may_ask.ensures.moves
@@ -48,7 +49,7 @@ pub returns-then-is_held_back-clause-waits : goal.returns-then-is_held_back-clau
 returns-then-is_held_back-clause-waits c = c.is_held_back.ensures.held (sym c.hold_of.ensures ∙ c.in-Some.is) (search rules)
 
 pub returns-then-is_held_back-clause-alone : goal.returns-then-is_held_back-clause-alone
-returns-then-is_held_back-clause-alone c = alone_refl c.args.key (hall_in c.args.self.now)
+returns-then-is_held_back-clause-alone c = alone_refl c.args.key (core_in c.args.self.now)
 
 pub returns-clause-underway : goal.returns-clause-underway
 returns-clause-underway c = λ whole waits. ok_more c.fail.result _ _ (λ d. Closes d) c.fail.ensures.over
@@ -104,7 +105,7 @@ pub returns-then-may_ask-clause-own : goal.returns-then-may_ask-clause-own
 returns-then-may_ask-clause-own c = λ reached. c.start-then-may_ask.ensures.own reached
 
 pub returns-then-is_held_back-clause-own : goal.returns-then-is_held_back-clause-own
-returns-then-is_held_back-clause-own c = λ reached. own_refl c.args.key c.args.self.now.desk.holds.items c.args.self.now.links.items
+returns-then-is_held_back-clause-own c = λ reached. own_refl c.args.key c.args.self.now.pool.holds.items c.args.self.now.links.items
 
 pub returns-clause-own : goal.returns-clause-own
 returns-clause-own c = λ reached. c.fail.ensures.own
@@ -117,5 +118,11 @@ returns-clause-closes c =
     let r = c.args.self.now in
     let its = sym c.hold_of.ensures ∙ c.in-Some.is in
     for_reason c.fail.result c.args.key (IsUnheldOrTurnedAway c.args.key r) _ _
-    (inr (turned_by c.args.key _ r.desk r.links.items (body_of c.args.key r) c.in-Some.hold its (c.is_held_back.ensures.waits (search rules)) (c.is_held_back.ensures.ready its (search rules)) (c.may_ask.ensures.not (search rules))))
+    (inr (turned_by c.args.key _ r.pool r.links.items (body_of c.args.key r) c.in-Some.hold its (c.is_held_back.ensures.waits (search rules)) (c.is_held_back.ensures.ready its (search rules)) (c.may_ask.ensures.not (search rules))))
     c.fail.ensures.closes
+
+pub returns-then-is_held_back-clause-puts : goal.returns-then-is_held_back-clause-puts
+returns-then-is_held_back-clause-puts c = put_refl (standing_in c.args.key c.args.self.now)
+
+pub returns-clause-puts : goal.returns-clause-puts
+returns-clause-puts c = ok_more c.fail.result _ _ (λ d. put_shut _ (body_of c.args.key c.args.self.now) (standing_in c.args.key c.fail.new.self) (shut c.fail.new.self.applications c.args.key (going_of c.args.key c.fail.new.self) d)) c.fail.ensures.over

@@ -6,13 +6,13 @@ use Rattle.tds_relay.specs.Bodies.{body_of}
 use Rattle.tds_relay.specs.Sparing.{IsHeldBack, IsUnkept, StartsThere}
 use Rattle.tds_relay.proofs.spared.Starting.{none_own, own_on}
 use Rattle.tds_relay.specs.Closings.{IsWho, Itself, register_in}
-use Rattle.tds_relay.specs.Hall.{holder}
-use Rattle.tds_relay.specs.Ties.{desk_in}
+use Rattle.tds_relay.specs.Core.{holder}
+use Rattle.tds_relay.specs.Ties.{pool_in}
 use Rattle.tds_relay.proofs.spared.Closings.{closes_more_on}
 use Rattle.tds_relay.proofs.spared.Turned.{turned_there}
 use Rattle.tds_relay.proofs.spared.Lasting.{last_more_on, last_start}
 use Rattle.tds_relay.proofs.spared.Apart.{none_alone, who_alone}
-use Rattle.tds_relay.specs.Fronts.{hall_in}
+use Rattle.tds_relay.specs.Fronts.{core_in}
 use Rattle.tds_relay.proofs.spared.Filling.{first_holder, first_refl}
 use Rattle.tds_relay.specs.Lent.{IsWithHolder}
 use Rattle.tds_relay.proofs.relay.Relay.start_on.Goals as goal
@@ -33,14 +33,14 @@ pub returns-in-Some-clause-closes : goal.returns-in-Some-clause-closes
 returns-in-Some-clause-closes c =
     let r = c.args.self.now in
     let number = c.args.number in
-    closes_more_on c.start_kept.result (ItselfFor c.in-Some.key (IsUnheldOrTurnedAway c.in-Some.key r)) (λ other. IsWho (holder (desk_in r.desk) number) other × IsTurnedAwayAt other r) _ _
+    closes_more_on c.start_kept.result (ItselfFor c.in-Some.key (IsUnheldOrTurnedAway c.in-Some.key r)) (λ other. IsWho (holder (pool_in r.pool) number) other × IsTurnedAwayAt other r) _ _
     (λ key e. (sym c.key_on.ensures ∙ c.in-Some.is ∙ ap (λ (k : ℕ). Some k) (sym e.0), subst (λ (k : ℕ). IsTurnedAwayAt k r) (sym e.0) (turned_there c.in-Some.key number r (sym c.key_on.ensures ∙ c.in-Some.is) e.1))) c.start_kept.ensures.closes
 
 pub returns-in-Some-clause-lasts : goal.returns-in-Some-clause-lasts
-returns-in-Some-clause-lasts c = last_more_on c.start_kept.result (Itself c.in-Some.key) (IsWho (holder (desk_in c.args.self.now.desk) c.args.number)) _ _ (λ key e. sym c.key_on.ensures ∙ c.in-Some.is ∙ ap (λ (k : ℕ). Some k) (sym e)) c.start_kept.ensures.lasts
+returns-in-Some-clause-lasts c = last_more_on c.start_kept.result (Itself c.in-Some.key) (IsWho (holder (pool_in c.args.self.now.pool) c.args.number)) _ _ (λ key e. sym c.key_on.ensures ∙ c.in-Some.is ∙ ap (λ (k : ℕ). Some k) (sym e)) c.start_kept.ensures.lasts
 
 pub returns-in-None-clause-lasts : goal.returns-in-None-clause-lasts
-returns-in-None-clause-lasts c = last_start (IsWho (holder (desk_in c.args.self.now.desk) c.args.number)) (register_in c.args.self.now)
+returns-in-None-clause-lasts c = last_start (IsWho (holder (pool_in c.args.self.now.pool) c.args.number)) (register_in c.args.self.now)
 
 pub returns-in-Some-clause-behind : goal.returns-in-Some-clause-behind
 returns-in-Some-clause-behind c = own_on c.start_kept.result _ c.in-Some.key (λ (k : ℕ). StartsThere k c.args.self.now c.start_kept.new.self) (sym c.key_on.ensures ∙ c.in-Some.is) c.start_kept.ensures.behind
@@ -49,10 +49,10 @@ pub returns-in-None-clause-behind : goal.returns-in-None-clause-behind
 returns-in-None-clause-behind c = none_own _ (λ (k : ℕ). StartsThere k c.args.self.now c.args.self.now) (sym c.key_on.ensures ∙ c.in-None.is)
 
 pub returns-in-Some-clause-alone : goal.returns-in-Some-clause-alone
-returns-in-Some-clause-alone c = who_alone c.start_kept.result c.in-Some.key (holder (desk_in c.args.self.now.desk) c.args.number) _ _ (sym c.key_on.ensures ∙ c.in-Some.is) c.start_kept.ensures.alone
+returns-in-Some-clause-alone c = who_alone c.start_kept.result c.in-Some.key (holder (pool_in c.args.self.now.pool) c.args.number) _ _ (sym c.key_on.ensures ∙ c.in-Some.is) c.start_kept.ensures.alone
 
 pub returns-in-None-clause-alone : goal.returns-in-None-clause-alone
-returns-in-None-clause-alone c = none_alone (holder (desk_in c.args.self.now.desk) c.args.number) (hall_in c.args.self.now)
+returns-in-None-clause-alone c = none_alone (holder (pool_in c.args.self.now.pool) c.args.number) (core_in c.args.self.now)
 
 pub returns-in-Some-clause-keeps : goal.returns-in-Some-clause-keeps
 returns-in-Some-clause-keeps c = λ reached. first_holder c.start_kept.result c.in-Some.key c.args.number c.args.self.now c.start_kept.new.self (sym c.key_on.ensures ∙ c.in-Some.is) (c.start_kept.ensures.own reached)

@@ -1,11 +1,11 @@
 use Rattle.tds_relay.specs.Bodies.{ClientStops}
-use Rattle.tds_relay.specs.Ties.{Application, desk_in}
+use Rattle.tds_relay.specs.Ties.{Application, pool_in}
 use Rattle.tds_relay.proofs.steps.Fronts.{moves_does, moves_same}
 use Rattle.tds_relay.proofs.steps.Reaching.{reaches_turn}
 use Rattle.tds_relay.proofs.spared.Reasons.{asked_not, is_asked, refused_there, unstopped}
-use Rattle.tds_relay.proofs.seats.Relays.{desk_seated}
-use Rattle.tds_relay.proofs.seats.Desks.{deed_seated}
-use Rattle.tds_relay.specs.Desk.{Desk, Stops}
+use Rattle.tds_relay.proofs.seats.Relays.{pool_seated}
+use Rattle.tds_relay.proofs.seats.Pools.{action_seated}
+use Rattle.tds_relay.specs.Pool.{Pool, Stops}
 use Rattle.std.proofs.Common.{ap, ◌≡◌, List, false, inr, ℕ, refl, rules, subst}
 use Rattle.tds_relay.proofs.spared.Speaking.{done_as}
 use Rattle.tds_service.specs.Service as calls
@@ -37,12 +37,12 @@ returns-then-matches-clause-stops c = record {
   hold = c.in-Ok.hold;
   its = c.in-Ok.ensures.whose;
   number_is = refl;
-  stops = subst (λ (xs : List ℕ). ClientStops c.args.key c.args.self.now.desk c.cancel.new.self xs c.cancel.new.out.items) (search rules) c.in-Ok.ensures.stops;
+  stops = subst (λ (xs : List ℕ). ClientStops c.args.key c.args.self.now.pool c.cancel.new.self xs c.cancel.new.out.items) (search rules) c.in-Ok.ensures.stops;
 }
 
 pub returns-in_ok-unless_memory-in-Err-clause-none : goal.returns-in_ok-unless_memory-in-Err-clause-none
 returns-in_ok-unless_memory-in-Err-clause-none c =
-    unstopped c.args.key c.args.self.now.desk (refused_there (λ lease count. calls.Cancel lease) c.args.key c.args.self.now.desk c.in-Err.refusal c.in_ok-unless_memory-in-Err.ensures (λ hold its count. c.in-Err.ensures.refused hold its))
+    unstopped c.args.key c.args.self.now.pool (refused_there (λ lease count. calls.Cancel lease) c.args.key c.args.self.now.pool c.in-Err.refusal c.in_ok-unless_memory-in-Err.ensures (λ hold its count. c.in-Err.ensures.refused hold its))
 
 pub returns-else-matches-clause-none : goal.returns-else-matches-clause-none
 returns-else-matches-clause-none c =
@@ -57,16 +57,16 @@ returns-else-matches-clause-none c =
     }))
 
 pub returns-then-matches-clause-seated : goal.returns-then-matches-clause-seated
-returns-then-matches-clause-seated c = λ s. deed_seated c.args.key Stops (desk_in c.args.self.now.desk) (desk_in c.cancel.new.self) _ _ c.args.self.now.links.items c.in-Ok.ensures.ok s
+returns-then-matches-clause-seated c = λ s. action_seated c.args.key Stops (pool_in c.args.self.now.pool) (pool_in c.cancel.new.self) _ _ c.args.self.now.links.items c.in-Ok.ensures.ok s
 
 pub returns-else-matches-clause-seated : goal.returns-else-matches-clause-seated
-returns-else-matches-clause-seated c = λ s. deed_seated c.args.key Stops (desk_in c.args.self.now.desk) (desk_in c.cancel.new.self) _ _ c.args.self.now.links.items c.in-Ok.ensures.ok s
+returns-else-matches-clause-seated c = λ s. action_seated c.args.key Stops (pool_in c.args.self.now.pool) (pool_in c.cancel.new.self) _ _ c.args.self.now.links.items c.in-Ok.ensures.ok s
 
 pub returns-in_ok-unless_memory-in-Err-clause-seated : goal.returns-in_ok-unless_memory-in-Err-clause-seated
-returns-in_ok-unless_memory-in-Err-clause-seated c = λ s. desk_seated (desk_in c.args.self.now.desk) (desk_in c.cancel.new.self) c.args.self.now.links.items c.in-Err.ensures.err s
+returns-in_ok-unless_memory-in-Err-clause-seated c = λ s. pool_seated (pool_in c.args.self.now.pool) (pool_in c.cancel.new.self) c.args.self.now.links.items c.in-Err.ensures.err s
 
 pub returns-in_err-unless_memory-in-Err-clause-seated : goal.returns-in_err-unless_memory-in-Err-clause-seated
-returns-in_err-unless_memory-in-Err-clause-seated c = λ s. desk_seated (desk_in c.args.self.now.desk) (desk_in c.cancel.new.self) c.args.self.now.links.items c.in-Err.ensures.err s
+returns-in_err-unless_memory-in-Err-clause-seated c = λ s. pool_seated (pool_in c.args.self.now.pool) (pool_in c.cancel.new.self) c.args.self.now.links.items c.in-Err.ensures.err s
 
 pub returns-then-matches-clause-others : goal.returns-then-matches-clause-others
 returns-then-matches-clause-others c = λ reached. done_as c.args.key c.args.self.now _ reached c.cancel.ensures.others refl (λ k goes. refl)
@@ -87,7 +87,7 @@ pub returns-else-matches-clause-holds : goal.returns-else-matches-clause-holds
 returns-else-matches-clause-holds c = c.in-Ok.ensures.stops.same
 
 pub returns-in_ok-unless_memory-in-Err-clause-holds : goal.returns-in_ok-unless_memory-in-Err-clause-holds
-returns-in_ok-unless_memory-in-Err-clause-holds c = ap (λ (d : Desk). d.holds) c.in-Err.ensures.err
+returns-in_ok-unless_memory-in-Err-clause-holds c = ap (λ (d : Pool). d.holds) c.in-Err.ensures.err
 
 pub returns-in_err-unless_memory-in-Err-clause-holds : goal.returns-in_err-unless_memory-in-Err-clause-holds
-returns-in_err-unless_memory-in-Err-clause-holds c = ap (λ (d : Desk). d.holds) c.in-Err.ensures.err
+returns-in_err-unless_memory-in-Err-clause-holds c = ap (λ (d : Pool). d.holds) c.in-Err.ensures.err

@@ -1,19 +1,19 @@
-use Rattle.std.proofs.Common.{◌≡◌, ◌∙◌, Some, false, ap, refl, rules, sym, subst, Bool, Option, option_map, ℕ}
+use Rattle.std.proofs.Common.{◌≡◌, ◌∙◌, inl, inr, Some, false, ap, refl, rules, sym, subst, Bool, Option, option_map, ℕ}
 use Rattle.std.specs.Prelude.{take}
-use Rattle.tds_relay.specs.Fronts.{end_of, ends_in, given_by, hall_in, house_in, hall_of_ends}
-use Rattle.tds_relay.specs.Hall.{closes_for, Open, asks_by, end_at}
-use Rattle.tds_relay.specs.Posts.{Posts, posts_in, names_of}
-use Rattle.tds_relay.specs.Ties.{Application, desk_in}
+use Rattle.tds_relay.specs.Fronts.{end_of, ends_in, given_by, core_in, machine_in, core_of_ends}
+use Rattle.tds_relay.specs.Core.{closes_for, Open, asks_by, end_at}
+use Rattle.tds_relay.specs.Queues.{Queues, queues_in, names_of}
+use Rattle.tds_relay.specs.Ties.{Application, pool_in}
 use Rattle.tds_relay.proofs.steps.Fed.{closed_fed, end_open, end_there, ends_written, is_fed, refused_is, waits_refused}
 use Rattle.tds_relay.proofs.steps.Fronts.{moved_same, ends_kept, moves_same, end_is}
-use Rattle.tds_relay.proofs.steps.Posting.{posts_kept}
+use Rattle.tds_relay.proofs.steps.Queueing.{queues_kept}
 use Rattle.tds_relay.proofs.steps.Told.{tells_fed, tells_refused}
 use Rattle.slab.specs.Slab.{with_value, get}
 use Rattle.tds_relay.proofs.steps.Asked.{asks_deaf, asks_fed, asks_links, asks_moved, asks_refused}
 use Rattle.tds_relay.proofs.steps.Underway.{none_deaf, over_deaf, written_there}
-use Rattle.tds_relay.proofs.steps.Staying.{stays_opens, fills_refl}
-use Rattle.tds_relay.specs.Bodies.{Body, Obeys, body_in, body_of, going_of, CancelsSaid, standing_in}
-use Rattle.tds_relay.proofs.steps.Bodied.{asks_kept, same_starts, shut_starts}
+use Rattle.tds_relay.proofs.steps.Staying.{stays_opens}
+use Rattle.tds_relay.specs.Bodies.{Body, Obeys, body_in, body_of, going_of, CancelsSaid, standing_in, PutsSaid}
+use Rattle.tds_relay.proofs.steps.Bodied.{asks_kept, same_starts, shut, shut_starts}
 use Rattle.tds_relay.proofs.steps.Carried.{carries_deaf, carries_fed, carries_moved, carries_refused}
 use Rattle.tds_relay.proofs.steps.Renaming.{names_given}
 use Rattle.tds_relay.specs.Closings.{Itself}
@@ -28,7 +28,15 @@ use Rattle.tds_relay.proofs.spared.Reasons.{may_before}
 use Rattle.tds_relay.proofs.spared.Resting.{others_both, others_refl, written_rest}
 use Rattle.tds_relay.proofs.spared.Elsewhere.{aside_refl}
 use Rattle.tds_relay.specs.Reads.{waits_on}
+use Rattle.tds_relay.proofs.steps.Tied.{goes_tied, relay_tied, slab_tied}
+use Rattle.tds_relay.specs.Pool.{find_key}
 use Rattle.tds_relay.proofs.steps.Heeding.{cancels_deaf, cancels_fed, cancels_moved, cancels_refused}
+use Rattle.tds_relay.proofs.steps.Still.{same_at}
+use Rattle.tds_relay.proofs.spared.Rightly.{deaf_right, right_by, unkept_right}
+use Rattle.tds_relay.specs.Asking.{IsTakenBack}
+use Rattle.tds_relay.specs.Sparing.{IsKept}
+use Rattle.tds_relay.proofs.spared.Starting.{unkept_over}
+use Rattle.tds_relay.specs.declared.relay.Relay as code
 use Rattle.tds_relay.proofs.relay.Relay.take.Goals as goal
 
 pub returns-in-Err-clause-tells : goal.returns-in-Err-clause-tells
@@ -39,23 +47,23 @@ returns-in-Err-clause-tells c = λ first bytes t.
     let here : a.is_over ≡ false = search rules in
     let was = end_there slab c.args.key a c.in-Some.ensures.value ∙ ap Some (end_open a here) in
     let says = sym c.feed.ensures.brings ∙ c.in-Err.is in
-    tells_refused c.args.key first bytes c.args.piece.now _ (house_in c.args.self.now) (hall_in c.expel_for.new.self) _ a.front a.is_withdrawn a.reset _ was
-    (waits_refused c.args.key es c.args.piece.now a.front a.is_withdrawn a.reset _ (posts_in slab) was says)
-    (refused_is c.args.key (desk_in c.args.self.now.desk) es c.args.piece.now a.front a.is_withdrawn a.reset _ was says)
+    tells_refused c.args.key first bytes c.args.piece.now _ (machine_in c.args.self.now) (core_in c.expel_for.new.self) _ a.front a.is_withdrawn a.reset _ was
+    (waits_refused c.args.key es c.args.piece.now a.front a.is_withdrawn a.reset _ (queues_in slab) was says)
+    (refused_is c.args.key (pool_in c.args.self.now.pool) es c.args.piece.now a.front a.is_withdrawn a.reset _ was says)
     (moved_same (Application c.args.key) _ _ _ _ _ refl
     (sym (closed_fed (closes_for (Some c.in-Err.fault)) es _ c.args.key _ (end_of a) (ap (closes_for (Some c.in-Err.fault)) (end_open a here) ∙ sym (ap (closes_for (Some c.in-Err.fault)) (end_open c.feed.new.self (c.feed.ensures.over ∙ here)))) (end_there slab c.args.key a c.in-Some.ensures.value) (ends_written slab c.args.key _))) c.in_ok-expel_for-in-Err.ensures.moves)
-    (c.in_ok-expel_for-in-Err.ensures.kept ∙ posts_kept slab c.args.key a _ c.in-Some.ensures.value c.feed.ensures.post) t
+    (c.in_ok-expel_for-in-Err.ensures.kept ∙ queues_kept slab c.args.key a _ c.in-Some.ensures.value c.feed.ensures.queue) t
 
 pub returns-clause-tells : goal.returns-clause-tells
 returns-clause-tells c = λ first bytes t.
     let slab = c.args.self.now.applications in
     let a = c.in-Some.application.now in
     let here : a.is_over ≡ false = search rules in
-    tells_fed c.args.key first bytes c.args.piece.now _ (desk_in c.args.self.now.desk) (ends_in slab) _ (posts_in slab) _ (hall_in c.obey.new.self) c.in-Ok.fed.said
+    tells_fed c.args.key first bytes c.args.piece.now _ (pool_in c.args.self.now.pool) (ends_in slab) _ (queues_in slab) _ (core_in c.obey.new.self) c.in-Ok.fed.said
     c.in_ok-obey.ensures.moves
     (is_fed c.args.key slab a c.feed.new.self c.args.piece.now c.in-Ok.fed.count c.in-Ok.fed.said c.in-Some.ensures.value here (c.feed.ensures.over ∙ here) c.feed.ensures.withdrawn c.in-Ok.ensures.asks
     c.feed.ensures.front (search rules)) refl
-    (c.in_ok-obey.ensures.given ∙ ap (λ (ps : Posts). given_by c.args.key c.in-Ok.fed.said ps) (posts_kept slab c.args.key a _ c.in-Some.ensures.value c.feed.ensures.post)) t
+    (c.in_ok-obey.ensures.given ∙ ap (λ (ps : Queues). given_by c.args.key c.in-Ok.fed.said ps) (queues_kept slab c.args.key a _ c.in-Some.ensures.value c.feed.ensures.queue)) t
 
 pub returns-in-Err-clause-asks : goal.returns-in-Err-clause-asks
 returns-in-Err-clause-asks c = λ first bytes t.
@@ -65,50 +73,51 @@ returns-in-Err-clause-asks c = λ first bytes t.
     let here : a.is_over ≡ false = search rules in
     let was = end_there slab c.args.key a c.in-Some.ensures.value ∙ ap Some (end_open a here) in
     let says = sym c.feed.ensures.brings ∙ c.in-Err.is in
-    asks_refused c.args.key first bytes c.args.piece.now _ _ (house_in c.args.self.now) (hall_in c.expel_for.new.self) _ a.front a.is_withdrawn a.reset _ was
-    (waits_refused c.args.key es c.args.piece.now a.front a.is_withdrawn a.reset _ (posts_in slab) was says)
-    (refused_is c.args.key (desk_in c.args.self.now.desk) es c.args.piece.now a.front a.is_withdrawn a.reset _ was says) says
+    asks_refused c.args.key first bytes c.args.piece.now _ _ (machine_in c.args.self.now) (core_in c.expel_for.new.self) _ a.front a.is_withdrawn a.reset _ was
+    (waits_refused c.args.key es c.args.piece.now a.front a.is_withdrawn a.reset _ (queues_in slab) was says)
+    (refused_is c.args.key (pool_in c.args.self.now.pool) es c.args.piece.now a.front a.is_withdrawn a.reset _ was says) says
     (moved_same (Application c.args.key) _ _ _ _ _ refl
     (sym (closed_fed (closes_for (Some c.in-Err.fault)) es _ c.args.key _ (end_of a) (ap (closes_for (Some c.in-Err.fault)) (end_open a here) ∙ sym (ap (closes_for (Some c.in-Err.fault)) (end_open c.feed.new.self (c.feed.ensures.over ∙ here)))) (end_there slab c.args.key a c.in-Some.ensures.value) (ends_written slab c.args.key _))) c.in_ok-expel_for-in-Err.ensures.moves)
-    (c.in_ok-expel_for-in-Err.ensures.kept ∙ posts_kept slab c.args.key a _ c.in-Some.ensures.value c.feed.ensures.post)
-    (asks_links c.args.key first (house_in c.args.self.now) bytes c.args.piece.now _ _ (stays_opens _ _ c.in_ok-expel_for-in-Err.ensures.read) t)
+    (c.in_ok-expel_for-in-Err.ensures.kept ∙ queues_kept slab c.args.key a _ c.in-Some.ensures.value c.feed.ensures.queue)
+    (asks_links c.args.key first (machine_in c.args.self.now) bytes c.args.piece.now _ _ (stays_opens _ _ c.in_ok-expel_for-in-Err.ensures.read) t)
 
 pub returns-clause-asks : goal.returns-clause-asks
 returns-clause-asks c = λ first bytes t.
     let slab = c.args.self.now.applications in
     let a = c.in-Some.application.now in
     let here : a.is_over ≡ false = search rules in
-    asks_fed c.args.key first bytes c.args.piece.now _ _ _ (desk_in c.args.self.now.desk) (ends_in slab) _ (posts_in slab) _ (hall_in c.obey.new.self) c.in-Ok.fed.said
+    asks_fed c.args.key first bytes c.args.piece.now _ _ _ (pool_in c.args.self.now.pool) (ends_in slab) _ (queues_in slab) _ (core_in c.obey.new.self) c.in-Ok.fed.said
     c.in_ok-obey.ensures.moves
     (is_fed c.args.key slab a c.feed.new.self c.args.piece.now c.in-Ok.fed.count c.in-Ok.fed.said c.in-Some.ensures.value here (c.feed.ensures.over ∙ here) c.feed.ensures.withdrawn c.in-Ok.ensures.asks
     c.feed.ensures.front (search rules))
     c.in_ok-obey.ensures.underway c.in_ok-obey.ensures.read refl
-    (c.in_ok-obey.ensures.given ∙ ap (λ (ps : Posts). given_by c.args.key c.in-Ok.fed.said ps) (posts_kept slab c.args.key a _ c.in-Some.ensures.value c.feed.ensures.post)) t
+    (c.in_ok-obey.ensures.given ∙ ap (λ (ps : Queues). given_by c.args.key c.in-Ok.fed.said ps) (queues_kept slab c.args.key a _ c.in-Some.ensures.value c.feed.ensures.queue)) t
 
 pub returns-in_default-clause-asks : goal.returns-in_default-clause-asks
 returns-in_default-clause-asks c = λ first bytes t.
-    asks_deaf c.args.key first (house_in c.args.self.now) bytes c.args.piece.now _ _ (none_deaf c.args.key c.args.self.now.applications (search rules)) t
+    asks_deaf c.args.key first (machine_in c.args.self.now) bytes c.args.piece.now _ _ (none_deaf c.args.key c.args.self.now.applications (search rules)) t
 
 pub returns-then-application-clause-asks : goal.returns-then-application-clause-asks
 returns-then-application-clause-asks c = λ first bytes t.
     let slab = c.args.self.now.applications in
     let a = c.in-Some.application.now in
-    asks_moved c.args.key first bytes _ _ (hall_in c.args.self.now) (hall_of_ends (desk_in c.args.self.now.desk) (ends_in (with_value slab c.args.key a))) (posts_in slab) (posts_in (with_value slab c.args.key a))
-    (λ from m. moves_same (Application c.args.key) from _ _ _ _ refl (ends_kept slab c.args.key a a c.in-Some.ensures.value refl) m) (posts_kept slab c.args.key a a c.in-Some.ensures.value refl)
-    (asks_deaf c.args.key first (house_in c.args.self.now) bytes c.args.piece.now _ _ (over_deaf c.args.key slab a c.in-Some.ensures.value (search rules)) t)
+    asks_moved c.args.key first bytes _ _ (core_in c.args.self.now) (core_of_ends (pool_in c.args.self.now.pool) (ends_in (with_value slab c.args.key a))) (queues_in slab) (queues_in (with_value slab c.args.key a))
+    (λ from m. moves_same (Application c.args.key) from _ _ _ _ refl (ends_kept slab c.args.key a a c.in-Some.ensures.value refl) m) (queues_kept slab c.args.key a a c.in-Some.ensures.value refl)
+    (asks_deaf c.args.key first (machine_in c.args.self.now) bytes c.args.piece.now _ _ (over_deaf c.args.key slab a c.in-Some.ensures.value (search rules)) t)
 
 pub returns-in_default-clause-carries : goal.returns-in_default-clause-carries
 returns-in_default-clause-carries c = λ first bytes at t.
-    carries_deaf c.args.key first (house_in c.args.self.now) bytes c.args.piece.now _ at (body_of c.args.key c.args.self.now) (none_deaf c.args.key c.args.self.now.applications (search rules)) t
+    carries_deaf c.args.key first (machine_in c.args.self.now) bytes c.args.piece.now _ at (body_of c.args.key c.args.self.now) (none_deaf c.args.key c.args.self.now.applications (search rules)) t
 
 pub returns-then-application-clause-carries : goal.returns-then-application-clause-carries
 returns-then-application-clause-carries c = λ first bytes at t.
     let slab = c.args.self.now.applications in
     let a = c.in-Some.application.now in
-    carries_moved c.args.key first bytes _ at (body_of c.args.key c.args.self.now) (body_in (get (with_value slab c.args.key a) c.args.key) (going_of c.args.key c.args.self.now)) (hall_in c.args.self.now) (hall_of_ends (desk_in c.args.self.now.desk) (ends_in (with_value slab c.args.key a))) (posts_in slab) (posts_in (with_value slab c.args.key a))
-    (λ from m. moves_same (Application c.args.key) from _ _ _ _ refl (ends_kept slab c.args.key a a c.in-Some.ensures.value refl) m) (posts_kept slab c.args.key a a c.in-Some.ensures.value refl)
+    carries_moved c.args.key first bytes _ at (body_of c.args.key c.args.self.now) (body_in (get (with_value slab c.args.key a) c.args.key) (going_of c.args.key c.args.self.now)) (core_in c.args.self.now) (core_of_ends (pool_in c.args.self.now.pool) (ends_in (with_value slab c.args.key a))) (queues_in slab) (queues_in (with_value slab c.args.key a))
+    (λ from m. moves_same (Application c.args.key) from _ _ _ _ refl (ends_kept slab c.args.key a a c.in-Some.ensures.value refl) m) (queues_kept slab c.args.key a a c.in-Some.ensures.value refl)
     (same_starts (body_of c.args.key c.args.self.now) (body_in (get (with_value slab c.args.key a) c.args.key) (going_of c.args.key c.args.self.now)) (asks_kept slab c.args.key a a c.in-Some.ensures.value (λ goes. refl) c.args.key (going_of c.args.key c.args.self.now)))
-    (carries_deaf c.args.key first (house_in c.args.self.now) bytes c.args.piece.now _ at (body_of c.args.key c.args.self.now) (over_deaf c.args.key slab a c.in-Some.ensures.value (search rules)) t)
+    (slab_tied (with_value slab c.args.key a) c.args.key (going_of c.args.key c.args.self.now) (λ end. goes_tied end c.args.self.now.pool.service c.args.self.now.links.items (find_key c.args.key c.args.self.now.pool.holds.items)))
+    (carries_deaf c.args.key first (machine_in c.args.self.now) bytes c.args.piece.now _ at (body_of c.args.key c.args.self.now) (over_deaf c.args.key slab a c.in-Some.ensures.value (search rules)) t)
 
 pub returns-in-Err-clause-carries : goal.returns-in-Err-clause-carries
 returns-in-Err-clause-carries c = λ first bytes at t.
@@ -118,13 +127,13 @@ returns-in-Err-clause-carries c = λ first bytes at t.
     let here : a.is_over ≡ false = search rules in
     let was = end_there slab c.args.key a c.in-Some.ensures.value ∙ ap Some (end_open a here) in
     let says = sym c.feed.ensures.brings ∙ c.in-Err.is in
-    carries_refused c.args.key first bytes c.args.piece.now _ at (body_of c.args.key c.args.self.now) (body_of c.args.key c.expel_for.new.self) (house_in c.args.self.now) (hall_in c.expel_for.new.self) _ a.front a.is_withdrawn a.reset _ was
-    (waits_refused c.args.key es c.args.piece.now a.front a.is_withdrawn a.reset _ (posts_in slab) was says)
-    (refused_is c.args.key (desk_in c.args.self.now.desk) es c.args.piece.now a.front a.is_withdrawn a.reset _ was says) says
+    carries_refused c.args.key first bytes c.args.piece.now _ at (body_of c.args.key c.args.self.now) (body_of c.args.key c.expel_for.new.self) (machine_in c.args.self.now) (core_in c.expel_for.new.self) _ a.front a.is_withdrawn a.reset _ was
+    (waits_refused c.args.key es c.args.piece.now a.front a.is_withdrawn a.reset _ (queues_in slab) was says)
+    (refused_is c.args.key (pool_in c.args.self.now.pool) es c.args.piece.now a.front a.is_withdrawn a.reset _ was says) says
     (moved_same (Application c.args.key) _ _ _ _ _ refl
     (sym (closed_fed (closes_for (Some c.in-Err.fault)) es _ c.args.key _ (end_of a) (ap (closes_for (Some c.in-Err.fault)) (end_open a here) ∙ sym (ap (closes_for (Some c.in-Err.fault)) (end_open c.feed.new.self (c.feed.ensures.over ∙ here)))) (end_there slab c.args.key a c.in-Some.ensures.value) (ends_written slab c.args.key _))) c.in_ok-expel_for-in-Err.ensures.moves)
-    (c.in_ok-expel_for-in-Err.ensures.kept ∙ posts_kept slab c.args.key a _ c.in-Some.ensures.value c.feed.ensures.post)
-    (shut_starts c.expel_for.new.self.applications c.args.key (body_of c.args.key c.args.self.now) (going_of c.args.key c.expel_for.new.self) c.in_ok-expel_for-in-Err.ensures.over) t
+    (c.in_ok-expel_for-in-Err.ensures.kept ∙ queues_kept slab c.args.key a _ c.in-Some.ensures.value c.feed.ensures.queue)
+    (shut_starts c.expel_for.new.self.applications c.args.key (body_of c.args.key c.args.self.now) (going_of c.args.key c.expel_for.new.self) c.in_ok-expel_for-in-Err.ensures.over) (relay_tied c.args.key c.expel_for.new.self) t
 
 pub returns-clause-carries : goal.returns-clause-carries
 returns-clause-carries c = λ first bytes at t.
@@ -132,26 +141,27 @@ returns-clause-carries c = λ first bytes at t.
     let a = c.in-Some.application.now in
     let here : a.is_over ≡ false = search rules in
     let same = asks_kept slab c.args.key a c.feed.new.self c.in-Some.ensures.value c.feed.ensures.body c.args.key (going_of c.args.key c.args.self.now) in
-    carries_fed c.args.key first bytes c.args.piece.now _ at (body_of c.args.key c.args.self.now) (body_of c.args.key c.obey.new.self) (desk_in c.args.self.now.desk) (ends_in slab) _ (posts_in slab) _ (hall_in c.obey.new.self) c.in-Ok.fed.said
+    carries_fed c.args.key first bytes c.args.piece.now _ at (body_of c.args.key c.args.self.now) (body_of c.args.key c.obey.new.self) (pool_in c.args.self.now.pool) (ends_in slab) _ (queues_in slab) _ (core_in c.obey.new.self) c.in-Ok.fed.said
     c.in_ok-obey.ensures.moves
     (is_fed c.args.key slab a c.feed.new.self c.args.piece.now c.in-Ok.fed.count c.in-Ok.fed.said c.in-Some.ensures.value here (c.feed.ensures.over ∙ here) c.feed.ensures.withdrawn c.in-Ok.ensures.asks
     c.feed.ensures.front (search rules))
     (subst (λ (b : Body). Obeys c.in-Ok.fed.said (take c.in-Ok.fed.count c.args.piece.now) b (body_of c.args.key c.obey.new.self)) same c.in_ok-obey.ensures.body) refl
-    (c.in_ok-obey.ensures.given ∙ ap (λ (ps : Posts). given_by c.args.key c.in-Ok.fed.said ps) (posts_kept slab c.args.key a _ c.in-Some.ensures.value c.feed.ensures.post))
-    (λ d. shut_starts c.obey.new.self.applications c.args.key (body_of c.args.key c.args.self.now) (going_of c.args.key c.obey.new.self) d) t
+    (c.in_ok-obey.ensures.given ∙ ap (λ (ps : Queues). given_by c.args.key c.in-Ok.fed.said ps) (queues_kept slab c.args.key a _ c.in-Some.ensures.value c.feed.ensures.queue))
+    (λ d. shut_starts c.obey.new.self.applications c.args.key (body_of c.args.key c.args.self.now) (going_of c.args.key c.obey.new.self) d) (relay_tied c.args.key c.obey.new.self) t
 
 pub returns-in_default-clause-cancels : goal.returns-in_default-clause-cancels
 returns-in_default-clause-cancels c = λ first bytes at t.
-    cancels_deaf c.args.key first (house_in c.args.self.now) bytes c.args.piece.now _ at (standing_in c.args.key c.args.self.now) (none_deaf c.args.key c.args.self.now.applications (search rules)) t
+    cancels_deaf c.args.key first (machine_in c.args.self.now) bytes c.args.piece.now _ at (standing_in c.args.key c.args.self.now) (none_deaf c.args.key c.args.self.now.applications (search rules)) t
 
 pub returns-then-application-clause-cancels : goal.returns-then-application-clause-cancels
 returns-then-application-clause-cancels c = λ first bytes at t.
     let slab = c.args.self.now.applications in
     let a = c.in-Some.application.now in
-    cancels_moved c.args.key first bytes _ at (standing_in c.args.key c.args.self.now) (body_in (get (with_value slab c.args.key a) c.args.key) (going_of c.args.key c.args.self.now), λ (number : ℕ). waits_on number c.args.self.now.links.items) (hall_in c.args.self.now) (hall_of_ends (desk_in c.args.self.now.desk) (ends_in (with_value slab c.args.key a))) (posts_in slab) (posts_in (with_value slab c.args.key a))
-    (λ from m. moves_same (Application c.args.key) from _ _ _ _ refl (ends_kept slab c.args.key a a c.in-Some.ensures.value refl) m) (posts_kept slab c.args.key a a c.in-Some.ensures.value refl)
-    (same_starts (body_of c.args.key c.args.self.now) (body_in (get (with_value slab c.args.key a) c.args.key) (going_of c.args.key c.args.self.now)) (asks_kept slab c.args.key a a c.in-Some.ensures.value (λ goes. refl) c.args.key (going_of c.args.key c.args.self.now)), λ number. fills_refl (waits_on number c.args.self.now.links.items))
-    (cancels_deaf c.args.key first (house_in c.args.self.now) bytes c.args.piece.now _ at (standing_in c.args.key c.args.self.now) (over_deaf c.args.key slab a c.in-Some.ensures.value (search rules)) t)
+    cancels_moved c.args.key first bytes _ at (standing_in c.args.key c.args.self.now) (body_in (get (with_value slab c.args.key a) c.args.key) (going_of c.args.key c.args.self.now), λ (number : ℕ). waits_on number c.args.self.now.links.items) (core_in c.args.self.now) (core_of_ends (pool_in c.args.self.now.pool) (ends_in (with_value slab c.args.key a))) (queues_in slab) (queues_in (with_value slab c.args.key a))
+    (λ from m. moves_same (Application c.args.key) from _ _ _ _ refl (ends_kept slab c.args.key a a c.in-Some.ensures.value refl) m) (queues_kept slab c.args.key a a c.in-Some.ensures.value refl)
+    (inl (asks_kept slab c.args.key a a c.in-Some.ensures.value (λ goes. refl) c.args.key (going_of c.args.key c.args.self.now), λ number. same_at (waits_on number c.args.self.now.links.items)))
+    (slab_tied (with_value slab c.args.key a) c.args.key (going_of c.args.key c.args.self.now) (λ end. goes_tied end c.args.self.now.pool.service c.args.self.now.links.items (find_key c.args.key c.args.self.now.pool.holds.items)))
+    (cancels_deaf c.args.key first (machine_in c.args.self.now) bytes c.args.piece.now _ at (standing_in c.args.key c.args.self.now) (over_deaf c.args.key slab a c.in-Some.ensures.value (search rules)) t)
 
 pub returns-in-Err-clause-cancels : goal.returns-in-Err-clause-cancels
 returns-in-Err-clause-cancels c = λ first bytes at t.
@@ -161,13 +171,13 @@ returns-in-Err-clause-cancels c = λ first bytes at t.
     let here : a.is_over ≡ false = search rules in
     let was = end_there slab c.args.key a c.in-Some.ensures.value ∙ ap Some (end_open a here) in
     let says = sym c.feed.ensures.brings ∙ c.in-Err.is in
-    cancels_refused c.args.key first bytes c.args.piece.now _ at (standing_in c.args.key c.args.self.now) (standing_in c.args.key c.expel_for.new.self) (house_in c.args.self.now) (hall_in c.expel_for.new.self) _ a.front a.is_withdrawn a.reset _ was
-    (waits_refused c.args.key es c.args.piece.now a.front a.is_withdrawn a.reset _ (posts_in slab) was says)
-    (refused_is c.args.key (desk_in c.args.self.now.desk) es c.args.piece.now a.front a.is_withdrawn a.reset _ was says) says
+    cancels_refused c.args.key first bytes c.args.piece.now _ at (standing_in c.args.key c.args.self.now) (standing_in c.args.key c.expel_for.new.self) (machine_in c.args.self.now) (core_in c.expel_for.new.self) _ a.front a.is_withdrawn a.reset _ was
+    (waits_refused c.args.key es c.args.piece.now a.front a.is_withdrawn a.reset _ (queues_in slab) was says)
+    (refused_is c.args.key (pool_in c.args.self.now.pool) es c.args.piece.now a.front a.is_withdrawn a.reset _ was says) says
     (moved_same (Application c.args.key) _ _ _ _ _ refl
     (sym (closed_fed (closes_for (Some c.in-Err.fault)) es _ c.args.key _ (end_of a) (ap (closes_for (Some c.in-Err.fault)) (end_open a here) ∙ sym (ap (closes_for (Some c.in-Err.fault)) (end_open c.feed.new.self (c.feed.ensures.over ∙ here)))) (end_there slab c.args.key a c.in-Some.ensures.value) (ends_written slab c.args.key _))) c.in_ok-expel_for-in-Err.ensures.moves)
-    (c.in_ok-expel_for-in-Err.ensures.kept ∙ posts_kept slab c.args.key a _ c.in-Some.ensures.value c.feed.ensures.post)
-    (shut_starts c.expel_for.new.self.applications c.args.key (body_of c.args.key c.args.self.now) (going_of c.args.key c.expel_for.new.self) c.in_ok-expel_for-in-Err.ensures.over, λ number. c.in_ok-expel_for-in-Err.ensures.read.fills number) t
+    (c.in_ok-expel_for-in-Err.ensures.kept ∙ queues_kept slab c.args.key a _ c.in-Some.ensures.value c.feed.ensures.queue)
+    (inr (shut c.expel_for.new.self.applications c.args.key (going_of c.args.key c.expel_for.new.self) c.in_ok-expel_for-in-Err.ensures.over, λ number. c.in_ok-expel_for-in-Err.ensures.read.fills number)) (relay_tied c.args.key c.expel_for.new.self) t
 
 pub returns-clause-cancels : goal.returns-clause-cancels
 returns-clause-cancels c = λ first bytes at t.
@@ -175,7 +185,7 @@ returns-clause-cancels c = λ first bytes at t.
     let a = c.in-Some.application.now in
     let here : a.is_over ≡ false = search rules in
     let same = asks_kept slab c.args.key a c.feed.new.self c.in-Some.ensures.value c.feed.ensures.body c.args.key (going_of c.args.key c.args.self.now) in
-    cancels_fed c.args.key first bytes c.args.piece.now _ at (standing_in c.args.key c.args.self.now) (standing_in c.args.key c.obey.new.self) (desk_in c.args.self.now.desk) (ends_in slab) _ (posts_in slab) _ (hall_in c.obey.new.self) c.in-Ok.fed.said
+    cancels_fed c.args.key first bytes c.args.piece.now _ at (standing_in c.args.key c.args.self.now) (standing_in c.args.key c.obey.new.self) (pool_in c.args.self.now.pool) (ends_in slab) _ (queues_in slab) _ (core_in c.obey.new.self) c.in-Ok.fed.said
     c.in_ok-obey.ensures.moves
     (is_fed c.args.key slab a c.feed.new.self c.args.piece.now c.in-Ok.fed.count c.in-Ok.fed.said c.in-Some.ensures.value here (c.feed.ensures.over ∙ here) c.feed.ensures.withdrawn c.in-Ok.ensures.asks
     c.feed.ensures.front (search rules))
@@ -183,25 +193,26 @@ returns-clause-cancels c = λ first bytes at t.
       obeys = subst (λ (b : Body). Obeys c.in-Ok.fed.said (take c.in-Ok.fed.count c.args.piece.now) b (body_of c.args.key c.obey.new.self)) same c.in_ok-obey.ensures.body;
       fills = λ number. c.in_ok-obey.ensures.read.fills number;
       cancels = subst (λ (b : Body). CancelsSaid c.in-Ok.fed.said b (standing_in c.args.key c.obey.new.self)) same c.in_ok-obey.ensures.cancels;
+      puts = subst (λ (b : Body). PutsSaid c.in-Ok.fed.said (take c.in-Ok.fed.count c.args.piece.now) (b, λ (number : ℕ). waits_on number c.args.self.now.links.items) (standing_in c.args.key c.obey.new.self)) same c.in_ok-obey.ensures.puts;
     }) refl
-    (c.in_ok-obey.ensures.given ∙ ap (λ (ps : Posts). given_by c.args.key c.in-Ok.fed.said ps) (posts_kept slab c.args.key a _ c.in-Some.ensures.value c.feed.ensures.post))
-    (λ d. (shut_starts c.obey.new.self.applications c.args.key (body_of c.args.key c.args.self.now) (going_of c.args.key c.obey.new.self) d, λ number. c.in_ok-obey.ensures.read.fills number)) t
+    (c.in_ok-obey.ensures.given ∙ ap (λ (ps : Queues). given_by c.args.key c.in-Ok.fed.said ps) (queues_kept slab c.args.key a _ c.in-Some.ensures.value c.feed.ensures.queue))
+    (λ d. inr (shut c.obey.new.self.applications c.args.key (going_of c.args.key c.obey.new.self) d, λ number. c.in_ok-obey.ensures.read.fills number)) (relay_tied c.args.key c.obey.new.self) t
 
 pub returns-in-Err-clause-names : goal.returns-in-Err-clause-names
 returns-in-Err-clause-names c =
-    ap names_of (c.in_ok-expel_for-in-Err.ensures.kept ∙ posts_kept c.args.self.now.applications c.args.key c.in-Some.application.now _ c.in-Some.ensures.value c.feed.ensures.post)
+    ap names_of (c.in_ok-expel_for-in-Err.ensures.kept ∙ queues_kept c.args.self.now.applications c.args.key c.in-Some.application.now _ c.in-Some.ensures.value c.feed.ensures.queue)
 
 pub returns-clause-names : goal.returns-clause-names
 returns-clause-names c =
     let slab = c.args.self.now.applications in
-    ap names_of (c.in_ok-obey.ensures.given ∙ ap (λ (ps : Posts). given_by c.args.key c.in-Ok.fed.said ps) (posts_kept slab c.args.key c.in-Some.application.now _ c.in-Some.ensures.value c.feed.ensures.post))
-    ∙ names_given c.args.key c.in-Ok.fed.said (posts_in slab)
+    ap names_of (c.in_ok-obey.ensures.given ∙ ap (λ (ps : Queues). given_by c.args.key c.in-Ok.fed.said ps) (queues_kept slab c.args.key c.in-Some.application.now _ c.in-Some.ensures.value c.feed.ensures.queue))
+    ∙ names_given c.args.key c.in-Ok.fed.said (queues_in slab)
 
 pub returns-then-application-clause-names : goal.returns-then-application-clause-names
-returns-then-application-clause-names c = ap names_of (posts_kept c.args.self.now.applications c.args.key c.in-Some.application.now c.in-Some.application.now c.in-Some.ensures.value refl)
+returns-then-application-clause-names c = ap names_of (queues_kept c.args.self.now.applications c.args.key c.in-Some.application.now c.in-Some.application.now c.in-Some.ensures.value refl)
 
 pub returns-then-application-clause-closes : goal.returns-then-application-clause-closes
-returns-then-application-clause-closes c = closes_kept _ _ _ (ends_kept c.args.self.now.applications c.args.key c.in-Some.application.now c.in-Some.application.now c.in-Some.ensures.value refl) (posts_kept c.args.self.now.applications c.args.key c.in-Some.application.now c.in-Some.application.now c.in-Some.ensures.value refl) refl (kept_refl c.args.self.now.links.items) (unclosed _ _ refl)
+returns-then-application-clause-closes c = closes_kept _ _ _ (ends_kept c.args.self.now.applications c.args.key c.in-Some.application.now c.in-Some.application.now c.in-Some.ensures.value refl) (queues_kept c.args.self.now.applications c.args.key c.in-Some.application.now c.in-Some.application.now c.in-Some.ensures.value refl) refl (kept_refl c.args.self.now.links.items) (unclosed _ _ refl)
 
 pub returns-in-Err-clause-closes : goal.returns-in-Err-clause-closes
 returns-in-Err-clause-closes c =
@@ -213,7 +224,7 @@ returns-in-Err-clause-closes c =
     subst (ReasonBy c.args.piece.now c.args.key r) (sym was)
     (subst (ReasonWith c.args.piece.now c.args.key r (fed a.front c.args.piece.now).front a.is_withdrawn a.reset) (c.feed.ensures.brings) (subst (ReasonWith c.args.piece.now c.args.key r (fed a.front c.args.piece.now).front a.is_withdrawn a.reset) (sym c.in-Err.is) tt)) in
     closes_both (ItselfFor c.args.key (GivesReason c.args.piece.now c.args.key r)) _ _ _
-    (closes_written _ c.args.self.now.applications c.args.key c.in-Some.application.now c.feed.new.self _ _ c.in-Some.ensures.value c.feed.ensures.over refl refl (posts_kept c.args.self.now.applications c.args.key c.in-Some.application.now c.feed.new.self c.in-Some.ensures.value c.feed.ensures.post) refl (kept_refl c.args.self.now.links.items) (unclosed _ _ refl))
+    (closes_written _ c.args.self.now.applications c.args.key c.in-Some.application.now c.feed.new.self _ _ c.in-Some.ensures.value c.feed.ensures.over refl refl (queues_kept c.args.self.now.applications c.args.key c.in-Some.application.now c.feed.new.self c.in-Some.ensures.value c.feed.ensures.queue) refl (kept_refl c.args.self.now.links.items) (unclosed _ _ refl))
     (closes_more (Itself c.args.key) (ItselfFor c.args.key (GivesReason c.args.piece.now c.args.key r)) _ _ (λ other same. (same, why)) c.in_ok-expel_for-in-Err.ensures.closes)
 
 pub returns-clause-closes : goal.returns-clause-closes
@@ -234,13 +245,13 @@ returns-clause-closes c =
     let rooms : room_left (get (with_value slab c.args.key b) c.args.key) ≡ room_left (get slab c.args.key) =
     ap room_left (written_there slab c.args.key a b c.in-Some.ensures.value) ∙ c.feed.ensures.room ∙ ap room_left c.in-Some.ensures.value in
     closes_both (ItselfFor c.args.key (GivesReason piece c.args.key r)) _ _ _
-    (closes_written _ c.args.self.now.applications c.args.key c.in-Some.application.now c.feed.new.self _ _ c.in-Some.ensures.value c.feed.ensures.over refl refl (posts_kept c.args.self.now.applications c.args.key c.in-Some.application.now c.feed.new.self c.in-Some.ensures.value c.feed.ensures.post) refl (kept_refl c.args.self.now.links.items) (unclosed _ _ refl))
+    (closes_written _ c.args.self.now.applications c.args.key c.in-Some.application.now c.feed.new.self _ _ c.in-Some.ensures.value c.feed.ensures.over refl refl (queues_kept c.args.self.now.applications c.args.key c.in-Some.application.now c.feed.new.self c.in-Some.ensures.value c.feed.ensures.queue) refl (kept_refl c.args.self.now.links.items) (unclosed _ _ refl))
     (closes_more _ (ItselfFor c.args.key (GivesReason piece c.args.key r)) _ _
     (λ other x. (
       x.0,
       subst (ReasonBy piece c.args.key r) (sym was)
           (subst (ReasonWith piece c.args.key r behind a.is_withdrawn a.reset) c.feed.ensures.brings (subst (ReasonWith piece c.args.key r behind a.is_withdrawn a.reset) (sym c.in-Ok.is)
-          (may_before said (take c.in-Ok.fed.count piece) c.args.key _ _ _ _ r.desk r.links.items _ _ _ _ now rooms (posts_kept slab c.args.key a b c.in-Some.ensures.value c.feed.ensures.post) same x.1))),
+          (may_before said (take c.in-Ok.fed.count piece) c.args.key _ _ _ _ r.pool r.links.items _ _ _ _ now rooms (queues_kept slab c.args.key a b c.in-Some.ensures.value c.feed.ensures.queue) same x.1))),
     ))
     c.in_ok-obey.ensures.closes)
 
@@ -267,3 +278,31 @@ returns-in-Err-clause-aside c = λ reached. c.in_ok-expel_for-in-Err.ensures.asi
 
 pub returns-clause-aside : goal.returns-clause-aside
 returns-clause-aside c = λ reached. c.in_ok-obey.ensures.aside reached
+
+pub returns-in_default-clause-right : goal.returns-in_default-clause-right
+returns-in_default-clause-right c = λ right. right
+
+pub returns-then-application-clause-right : goal.returns-then-application-clause-right
+returns-then-application-clause-right c = λ right.
+    let r = c.args.self.now in
+    let a = c.in-Some.application.now in
+    let slab = r.applications in
+    let back : code.Relay = record r { applications = with_value slab c.args.key a } in
+    unkept_right c.args.key back (unkept_over (with_value slab c.args.key a) c.args.key a (going_of c.args.key back) (sym (written_there slab c.args.key a a c.in-Some.ensures.value)) (search rules))
+
+pub returns-in-Err-clause-right : goal.returns-in-Err-clause-right
+returns-in-Err-clause-right c = λ right. deaf_right c.args.key c.expel_for.new.self c.in_ok-expel_for-in-Err.ensures.over
+
+pub returns-clause-right : goal.returns-clause-right
+returns-clause-right c = λ right.
+    let slab = c.args.self.now.applications in
+    let a = c.in-Some.application.now in
+    let b = c.feed.new.self in
+    let r = c.args.self.now in
+    let here : a.is_over ≡ false = search rules in
+    let was = end_there slab c.args.key a c.in-Some.ensures.value ∙ ap Some (end_open a here) in
+    let now = end_is (with_value slab c.args.key b) c.args.key ∙ ap (option_map end_of) (written_there slab c.args.key a b c.in-Some.ensures.value) ∙ ap Some (end_open b (c.feed.ensures.over ∙ here)) in
+    let fed_in : code.Relay = record r { applications = with_value slab c.args.key b } in
+    let same = asks_kept slab c.args.key a b c.in-Some.ensures.value c.feed.ensures.body c.args.key (going_of c.args.key r) in
+    c.in_ok-obey.ensures.right
+    (right_by c.args.key r fed_in refl (λ taken. subst IsTakenBack (sym now) (c.feed.ensures.withdrawn ∙ subst IsTakenBack was taken)) (λ kept. subst IsKept same kept) (λ n some. some) right)

@@ -1,14 +1,15 @@
 use Rattle.std.proofs.Common.{◌≡◌, ◌≤◌, ◌+◌, length}
 use Rattle.tds_relay.specs.Asking.{Asks}
 use Rattle.tds_relay.specs.Bodies.{HeedsAll, Carries, body_of, standing_in}
-use Rattle.tds_relay.specs.Fronts.{house_in}
-use Rattle.tds_relay.specs.Posts.{names_in}
+use Rattle.tds_relay.specs.Fronts.{machine_in}
+use Rattle.tds_relay.specs.Queues.{names_in}
 use Rattle.tds_relay.specs.Reads.{Stays}
-use Rattle.tds_relay.specs.Reasons.{HasReason, ItselfFor}
+use Rattle.tds_relay.specs.Waiting.{HasReason, IsRightlyKept}
+use Rattle.tds_relay.specs.Reasons.{ItselfFor}
 use Rattle.tds_relay.specs.Taking.{Tells}
 use Rattle.tds_relay.specs.Sparing.{OthersRest}
-use Rattle.tds_relay.specs.Ties.{Application, Goes, IsReached, desk_in}
-use Rattle.tds_relay.specs.Walkers.{AllStand}
+use Rattle.tds_relay.specs.Ties.{Application, Goes, IsReached, pool_in}
+use Rattle.tds_relay.specs.TokenParsers.{AllStand}
 use Rattle.tds_relay.specs.Closings.{ClosesOnly, register_in}
 use Rattle.tds_relay.specs.Few.{IsSeated}
 use Rattle.tds_relay.specs.Lent.{OthersKeepAt}
@@ -18,17 +19,18 @@ use Rattle.tds_relay.proofs.relay.Relay.take_all.Given as goal
 abbrev pub invariant-taking : goal.invariant-taking
 invariant-taking l = record {
   turns : length l.rest + l.counter ≤ length l.fn.piece;
-  goes : Goes (Application l.fn.key) (desk_in l.fn.self.desk) (desk_in l.self.desk);
+  goes : Goes (Application l.fn.key) (pool_in l.fn.self.pool) (pool_in l.self.pool);
   names : names_in l.self.applications ≡ names_in l.fn.self.applications;
-  tells : Tells l.fn.key (house_in l.fn.self) l.fn.piece l.rest (house_in l.self);
-  asks : Asks l.fn.key (house_in l.fn.self) l.fn.piece l.rest l.self.links.items (house_in l.self);
-  carries : Carries l.fn.key (house_in l.fn.self) l.fn.piece l.rest (body_of l.fn.key l.fn.self) (body_of l.fn.key l.self) (house_in l.self);
-  cancels : HeedsAll l.fn.key (house_in l.fn.self) l.fn.piece l.rest (standing_in l.fn.key l.fn.self) (standing_in l.fn.key l.self) (house_in l.self);
+  tells : Tells l.fn.key (machine_in l.fn.self) l.fn.piece l.rest (machine_in l.self);
+  asks : Asks l.fn.key (machine_in l.fn.self) l.fn.piece l.rest l.self.links.items (machine_in l.self);
+  carries : Carries l.fn.key (machine_in l.fn.self) l.fn.piece l.rest (body_of l.fn.key l.fn.self) (body_of l.fn.key l.self) (machine_in l.self);
+  cancels : HeedsAll l.fn.key (machine_in l.fn.self) l.fn.piece l.rest (standing_in l.fn.key l.fn.self) (standing_in l.fn.key l.self) (machine_in l.self);
   read : Stays l.fn.self.links.items l.self.links.items;
-  stand : AllStand l.fn.self.desk.service l.self.desk.service;
+  stand : AllStand l.fn.self.pool.service l.self.pool.service;
   closes : ClosesOnly (ItselfFor l.fn.key (HasReason l.fn.key l.fn.piece l.fn.self)) (register_in l.fn.self) (register_in l.self);
   seated : IsSeated l.fn.self → IsSeated l.self;
   opening : opens_in l.self.orders.items ≡ opens_in l.fn.self.orders.items;
-  others : IsReached (desk_in l.fn.self.desk) → OthersRest l.fn.key l.fn.self l.self;
-  aside : IsReached (desk_in l.fn.self.desk) → OthersKeepAt l.fn.key l.fn.self l.self;
+  others : IsReached (pool_in l.fn.self.pool) → OthersRest l.fn.key l.fn.self l.self;
+  right : IsRightlyKept l.fn.key l.fn.self → IsRightlyKept l.fn.key l.self;
+  aside : IsReached (pool_in l.fn.self.pool) → OthersKeepAt l.fn.key l.fn.self l.self;
 }

@@ -1,9 +1,9 @@
 use Rattle.std.proofs.Common.{◌∙◌, List, ap, inl, inr, refl, subst, sym, ℕ, ◌≡◌, Some}
 use Rattle.tds_relay.specs.declared.link.Link.{Link}
 use Rattle.tds_relay.specs.Anew.{AsksNothing}
-use Rattle.tds_relay.specs.Fronts.{ends_in, hall_in, hall_of_ends, withdraws}
-use Rattle.tds_relay.specs.Hall.{Hall, IsHere, Moves, change_end, closes}
-use Rattle.tds_relay.specs.Ties.{Application, desk_in, Reaches}
+use Rattle.tds_relay.specs.Fronts.{ends_in, core_in, core_of_ends, withdraws}
+use Rattle.tds_relay.specs.Core.{Core, IsHere, Moves, change_end, closes}
+use Rattle.tds_relay.specs.Ties.{Application, pool_in, Reaches}
 use Rattle.tds_relay.proofs.steps.Fed.{closed_as_fed, taken_back_at}
 use Rattle.tds_relay.proofs.steps.Quieting.{moves_unwaits, stops_unwaits}
 use Rattle.tds_relay.proofs.steps.Fronts.{moves_closes, moves_does, moves_same, no_moves, open_closed}
@@ -17,13 +17,14 @@ use Rattle.tds_relay.proofs.spared.Closings.{closes_both, closes_first}
 use Rattle.tds_relay.specs.Reasons.{HasNoRoom}
 use Rattle.tds_relay.proofs.spared.Reasons.{for_reason, for_that, halts_unfit, none_of, some_of}
 use Rattle.tds_relay.proofs.seats.Relays.{kept_seated, unwaited}
-use Rattle.tds_relay.specs.declared.desk.Desk as code
+use Rattle.tds_relay.specs.declared.pool.Pool as code
 use Rattle.tds_relay.proofs.spared.Speaking.{filled_at, halting_held, reached_by}
 use Rattle.tds_relay.proofs.spared.Resting.{all_others, all_rest, asks_on, others_both, others_on}
-use Rattle.tds_relay.specs.Desk.{find_key, Desk}
+use Rattle.tds_relay.specs.Pool.{find_key, Pool}
 use Rattle.tds_relay.proofs.spared.Elsewhere.{aside_both, aside_on, aside_same}
 use Rattle.tds_relay.specs.Bodies.{body_of, going_of, standing_in}
 use Rattle.tds_relay.proofs.steps.Halting.{cancelled_shut, taken_back}
+use Rattle.tds_relay.proofs.steps.Tied.{closed_asks}
 use Rattle.tds_relay.proofs.relay.Relay.take_back.Goals as goal
 
 pub returns-in-Some-clause-moves : goal.returns-in-Some-clause-moves
@@ -32,14 +33,14 @@ returns-in-Some-clause-moves c =
     let now = ends_in c.args.self.now.applications in
     let same = c.stop.ensures.ends ∙ c.forget_request.ensures.ends in
     let behind = c.withdraw.ensures.ends ∙ ap (change_end c.args.key withdraws) same in
-    let d = desk_in c.args.self.now.desk in
+    let d = pool_in c.args.self.now.pool in
     ok_more c.send_stop.result _ _
     (λ m quiet before bytes f. inl (record {
-      mid = hall_of_ends d before;
-      first = no_moves by (hall_of_ends d before);
+      mid = core_of_ends d before;
+      first = no_moves by (core_of_ends d before);
       same = refl;
-      next = subst (λ (h : Hall). Moves by h (hall_in c.send_stop.new.self)) (sym (taken_back_at c.args.key d before now (ends_in c.withdraw.new.self.applications) bytes f behind))
-          (m by _ (moves_same by _ _ _ _ _ (ap desk_in c.withdraw.ensures.desk) refl
+      next = subst (λ (h : Core). Moves by h (core_in c.send_stop.new.self)) (sym (taken_back_at c.args.key d before now (ends_in c.withdraw.new.self.applications) bytes f behind))
+          (m by _ (moves_same by _ _ _ _ _ (ap pool_in c.withdraw.ensures.pool) refl
           (moves_unwaits c.args.key _ _ _ now _ (stops_unwaits c.args.key _ _ _ _ _ _ _ c.forget_request.ensures.turns (some_of _ c.in-Some.number _ c.in-Some.is c.in_ok-number.ensures.some).2) behind quiet (no_moves by _))));
     }))
     c.send_stop.ensures.moves
@@ -51,7 +52,7 @@ returns-in-None-clause-moves c =
     let same = c.stop.ensures.ends ∙ c.forget_request.ensures.ends in
     ok_more c.expel.result _ _
     (λ m quiet before bytes f.
-    let from = hall_of_ends (desk_in c.args.self.now.desk) before in
+    let from = core_of_ends (pool_in c.args.self.now.pool) before in
     let last = m _ (no_moves by _) in
     inr (record {
       moves = m from
@@ -61,7 +62,7 @@ returns-in-None-clause-moves c =
           (moves_does by from _ _ (change_end c.args.key closes before) _ _ _ _ c.forget_request.ensures.turns (open_closed AsksNothing before c.args.key) refl refl
           (moves_closes by from _ _ before _ c.args.key refl refl (no_moves by from)))));
       deaf = deaf_behind c.args.key _ _ last (deaf_closed c.args.key (ends_in c.stop.new.self.applications));
-      nothing = λ posts. refl;
+      nothing = λ queues. refl;
     }))
     c.expel.ensures.moves
 
@@ -72,7 +73,7 @@ pub returns-in-None-clause-read : goal.returns-in-None-clause-read
 returns-in-None-clause-read c = stays_from c.expel.result _ _ _ (c.stop.ensures.links ∙ c.forget_request.ensures.links) c.expel.ensures.read
 
 pub returns-in-Some-clause-stand : goal.returns-in-Some-clause-stand
-returns-in-Some-clause-stand c = stand_on c.send_stop.result _ _ _ (stand_at _ _ _ (λ n r h. c.stop.ensures.stand n r (c.forget_request.ensures.stand n r h)) c.withdraw.ensures.desk) c.send_stop.ensures.stand
+returns-in-Some-clause-stand c = stand_on c.send_stop.result _ _ _ (stand_at _ _ _ (λ n r h. c.stop.ensures.stand n r (c.forget_request.ensures.stand n r h)) c.withdraw.ensures.pool) c.send_stop.ensures.stand
 
 pub returns-in-None-clause-stand : goal.returns-in-None-clause-stand
 returns-in-None-clause-stand c = stand_on c.expel.result _ _ _ (λ n r h. c.stop.ensures.stand n r (c.forget_request.ensures.stand n r h)) c.expel.ensures.stand
@@ -95,7 +96,7 @@ returns-in-Some-clause-closes c =
     closes_first c.send_stop.result _ _ _ _
     (for_that c.send_stop.result c.args.key _ _ _ _
     (λ none. record {
-      mid = mid.desk;
+      mid = mid.pool;
       holds = c.forget_request.ensures.holds;
       service = c.forget_request.ensures.service;
       cannot =
@@ -110,7 +111,7 @@ pub returns-in-None-clause-closes : goal.returns-in-None-clause-closes
 returns-in-None-clause-closes c =
     for_reason c.expel.result c.args.key _ _ _
     (record {
-      mid = c.forget_request.new.self.desk;
+      mid = c.forget_request.new.self.pool;
       holds = c.forget_request.ensures.holds;
       service = c.forget_request.ensures.service;
       cannot = inl (none_of _ _ c.in-None.is c.in_ok-number.ensures.none);
@@ -118,15 +119,15 @@ returns-in-None-clause-closes c =
     (closes_first c.expel.result (Itself c.args.key) _ _ _ c.expel.ensures.closes (closes_both Nobody _ _ _ c.forget_request.ensures.closes c.stop.ensures.closes))
 
 pub returns-in-Some-clause-seated : goal.returns-in-Some-clause-seated
-returns-in-Some-clause-seated c = λ s. c.send_stop.ensures.seated (kept_seated c.stop.new.self c.withdraw.new.self c.withdraw.ensures.desk c.withdraw.ensures.links (c.stop.ensures.seated (unwaited c.args.key c.args.self.now.desk c.forget_request.new.self c.args.self.now.links.items c.forget_request.ensures.turns c.forget_request.ensures.service c.forget_request.ensures.links s)))
+returns-in-Some-clause-seated c = λ s. c.send_stop.ensures.seated (kept_seated c.stop.new.self c.withdraw.new.self c.withdraw.ensures.pool c.withdraw.ensures.links (c.stop.ensures.seated (unwaited c.args.key c.args.self.now.pool c.forget_request.new.self c.args.self.now.links.items c.forget_request.ensures.turns c.forget_request.ensures.service c.forget_request.ensures.links s)))
 
 pub returns-in-None-clause-seated : goal.returns-in-None-clause-seated
-returns-in-None-clause-seated c = λ s. c.expel.ensures.seated (c.stop.ensures.seated (unwaited c.args.key c.args.self.now.desk c.forget_request.new.self c.args.self.now.links.items c.forget_request.ensures.turns c.forget_request.ensures.service c.forget_request.ensures.links s))
+returns-in-None-clause-seated c = λ s. c.expel.ensures.seated (c.stop.ensures.seated (unwaited c.args.key c.args.self.now.pool c.forget_request.new.self c.args.self.now.links.items c.forget_request.ensures.turns c.forget_request.ensures.service c.forget_request.ensures.links s))
 
 pub returns-in-Some-clause-goes : goal.returns-in-Some-clause-goes
 returns-in-Some-clause-goes c =
     ok_more c.send_stop.result _ _ (λ g from h. g (Application c.args.key) from
-    (subst (λ (d : code.Desk). Reaches (Application c.args.key) from (desk_in d)) (sym c.withdraw.ensures.desk) (c.stop.ensures.goes from (c.forget_request.ensures.goes from h)))) c.send_stop.ensures.goes
+    (subst (λ (d : code.Pool). Reaches (Application c.args.key) from (pool_in d)) (sym c.withdraw.ensures.pool) (c.stop.ensures.goes from (c.forget_request.ensures.goes from h)))) c.send_stop.ensures.goes
 
 pub returns-in-Some-clause-others : goal.returns-in-Some-clause-others
 returns-in-Some-clause-others c = λ reached.
@@ -134,22 +135,22 @@ returns-in-Some-clause-others c = λ reached.
     let b = c.forget_request.new.self in
     let d = c.stop.new.self in
     let e = c.withdraw.new.self in
-    let led = reached_by c.args.key a.desk b.desk c.forget_request.ensures.goes reached in
-    let stopped = reached_by c.args.key b.desk d.desk c.stop.ensures.goes led in
+    let led = reached_by c.args.key a.pool b.pool c.forget_request.ensures.goes reached in
+    let stopped = reached_by c.args.key b.pool d.pool c.stop.ensures.goes led in
     let halts = some_of _ c.in-Some.number _ c.in-Some.is c.in_ok-number.ensures.stops in
     others_on c.send_stop.result c.args.key a e c.send_stop.new.self
-    (c.send_stop.ensures.others (filled_at d e c.withdraw.ensures.desk stopped) halts.hold
-    (subst (λ (x : code.Desk). find_key c.args.key x.holds.items ≡ Some halts.hold) (sym c.withdraw.ensures.desk) (halting_held c.in-Some.number c.args.key b d halts)) (sym halts.number_is))
+    (c.send_stop.ensures.others (filled_at d e c.withdraw.ensures.pool stopped) halts.hold
+    (subst (λ (x : code.Pool). find_key c.args.key x.holds.items ≡ Some halts.hold) (sym c.withdraw.ensures.pool) (halting_held c.in-Some.number c.args.key b d halts)) (sym halts.number_is))
     (others_both c.args.key a b e c.forget_request.ensures.others
-    (others_both c.args.key b d e (c.stop.ensures.others led) (all_others c.args.key d e (all_rest d e c.withdraw.ensures.desk c.withdraw.ensures.links (asks_on d e c.withdraw.ensures.asks)))))
+    (others_both c.args.key b d e (c.stop.ensures.others led) (all_others c.args.key d e (all_rest d e c.withdraw.ensures.pool c.withdraw.ensures.links (asks_on d e c.withdraw.ensures.asks)))))
 
 pub returns-in-None-clause-others : goal.returns-in-None-clause-others
 returns-in-None-clause-others c = λ reached.
     let a = c.args.self.now in
     let b = c.forget_request.new.self in
     let d = c.stop.new.self in
-    let led = reached_by c.args.key a.desk b.desk c.forget_request.ensures.goes reached in
-    others_on c.expel.result c.args.key a d c.expel.new.self (c.expel.ensures.others (reached_by c.args.key b.desk d.desk c.stop.ensures.goes led))
+    let led = reached_by c.args.key a.pool b.pool c.forget_request.ensures.goes reached in
+    others_on c.expel.result c.args.key a d c.expel.new.self (c.expel.ensures.others (reached_by c.args.key b.pool d.pool c.stop.ensures.goes led))
     (others_both c.args.key a b d c.forget_request.ensures.others (c.stop.ensures.others led))
 
 pub returns-in-Some-clause-aside : goal.returns-in-Some-clause-aside
@@ -158,30 +159,31 @@ returns-in-Some-clause-aside c = λ reached.
     let b = c.forget_request.new.self in
     let d = c.stop.new.self in
     let e = c.withdraw.new.self in
-    let led = reached_by c.args.key a.desk b.desk c.forget_request.ensures.goes reached in
-    let stopped = reached_by c.args.key b.desk d.desk c.stop.ensures.goes led in
+    let led = reached_by c.args.key a.pool b.pool c.forget_request.ensures.goes reached in
+    let stopped = reached_by c.args.key b.pool d.pool c.stop.ensures.goes led in
     let halts = some_of _ c.in-Some.number _ c.in-Some.is c.in_ok-number.ensures.stops in
     aside_on c.send_stop.result c.args.key a e c.send_stop.new.self
-    (aside_both c.args.key a b e (aside_same c.args.key a b (ap (λ (x : Desk). x.holds) c.forget_request.ensures.turns.desk_is) c.forget_request.ensures.links)
-    (aside_both c.args.key b d e (aside_same c.args.key b d c.stop.ensures.holds c.stop.ensures.links) (aside_same c.args.key d e (ap (λ (x : code.Desk). x.holds.items) c.withdraw.ensures.desk) c.withdraw.ensures.links)))
-    (c.send_stop.ensures.aside (filled_at d e c.withdraw.ensures.desk stopped) halts.hold
-    (subst (λ (x : code.Desk). find_key c.args.key x.holds.items ≡ Some halts.hold) (sym c.withdraw.ensures.desk) (halting_held c.in-Some.number c.args.key b d halts)) (sym halts.number_is))
+    (aside_both c.args.key a b e (aside_same c.args.key a b (ap (λ (x : Pool). x.holds) c.forget_request.ensures.turns.pool_is) c.forget_request.ensures.links)
+    (aside_both c.args.key b d e (aside_same c.args.key b d c.stop.ensures.holds c.stop.ensures.links) (aside_same c.args.key d e (ap (λ (x : code.Pool). x.holds.items) c.withdraw.ensures.pool) c.withdraw.ensures.links)))
+    (c.send_stop.ensures.aside (filled_at d e c.withdraw.ensures.pool stopped) halts.hold
+    (subst (λ (x : code.Pool). find_key c.args.key x.holds.items ≡ Some halts.hold) (sym c.withdraw.ensures.pool) (halting_held c.in-Some.number c.args.key b d halts)) (sym halts.number_is))
 
 pub returns-in-None-clause-aside : goal.returns-in-None-clause-aside
 returns-in-None-clause-aside c = λ reached.
     let a = c.args.self.now in
     let b = c.forget_request.new.self in
     let d = c.stop.new.self in
-    let led = reached_by c.args.key a.desk b.desk c.forget_request.ensures.goes reached in
+    let led = reached_by c.args.key a.pool b.pool c.forget_request.ensures.goes reached in
     aside_on c.expel.result c.args.key a d c.expel.new.self
-    (aside_both c.args.key a b d (aside_same c.args.key a b (ap (λ (x : Desk). x.holds) c.forget_request.ensures.turns.desk_is) c.forget_request.ensures.links) (aside_same c.args.key b d c.stop.ensures.holds c.stop.ensures.links))
-    (c.expel.ensures.aside (reached_by c.args.key b.desk d.desk c.stop.ensures.goes led))
+    (aside_both c.args.key a b d (aside_same c.args.key a b (ap (λ (x : Pool). x.holds) c.forget_request.ensures.turns.pool_is) c.forget_request.ensures.links) (aside_same c.args.key b d c.stop.ensures.holds c.stop.ensures.links))
+    (c.expel.ensures.aside (reached_by c.args.key b.pool d.pool c.stop.ensures.goes led))
 
 pub returns-in-Some-clause-cancels : goal.returns-in-Some-clause-cancels
 returns-in-Some-clause-cancels c =
     ok_more c.send_stop.result _ _
     (λ s. taken_back c.args.key c.in-Some.number c.args.self.now c.forget_request.new.self c.stop.new.self c.withdraw.new.self c.send_stop.new.self c.forget_request.ensures.holds c.forget_request.ensures.service
-    (c.withdraw.ensures.links ∙ c.stop.ensures.links ∙ c.forget_request.ensures.links) c.withdraw.ensures.outbox (some_of _ c.in-Some.number _ c.in-Some.is c.in_ok-number.ensures.stops) s)
+    (c.withdraw.ensures.links ∙ c.stop.ensures.links ∙ c.forget_request.ensures.links) c.withdraw.ensures.outbox
+    (λ e goes. c.withdraw.ensures.asks c.args.key goes ∙ c.stop.ensures.asks c.args.key goes ∙ closed_asks c.args.key c.args.self.now c.forget_request.new.self c.forget_request.ensures.ends e goes) (some_of _ c.in-Some.number _ c.in-Some.is c.in_ok-number.ensures.stops) s)
     c.send_stop.ensures.sends
 
 pub returns-in-None-clause-cancels : goal.returns-in-None-clause-cancels

@@ -1,7 +1,7 @@
 use Rattle.std.proofs.Common.{◌∙◌, ap, Some, Option, subst, sym, ℕ}
 use Rattle.tds_relay.specs.Fronts.{ends_in}
 use Rattle.tds_relay.specs.Reasons.{HasTakenBack}
-use Rattle.tds_relay.specs.declared.desk.coming.What.TheVariants as whats
+use Rattle.tds_relay.specs.declared.pool.coming.What.TheVariants as whats
 use Rattle.tds_relay.proofs.steps.Fronts.{told_as, told_nobody}
 use Rattle.tds_relay.proofs.spared.Ordered.{ordered_closed}
 use Rattle.tds_relay.proofs.spared.Waking.{not_silent}

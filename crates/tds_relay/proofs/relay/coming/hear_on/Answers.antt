@@ -14,14 +14,14 @@ invariant_of-link-2 c =
     let direction : c.hear_packet.new.link.reader.direction ≡ ToClient = search rules in
     record {
       reads =
-          done_keeps c.args.number (reading_on c.args.number c.args.desk.now.service) _ _ _ _ _ _ _ _
+          done_keeps c.args.number (reading_on c.args.number c.args.pool.now.service) _ _ _ _ _ _ _ _
           c.in_ok-heard.ensures.brings c.in_ok-heard.ensures.reader c.done.ensures.next c.done.ensures.same ∙ direction;
       unread = λ closed. absurd (let no : true ≡ false = sym (c.hear_packet.ensures.is_open ∙ c.requires) ∙ closed in let u : ⊥ = cc in u);
     }
 
 pub returns-clause-hears : goal.returns-clause-hears
 returns-clause-hears c =
-    hears_is c.reads_packets.ensures.less c.reads_packets.ensures.nothing c.args.number (reading_on c.args.number c.args.desk.now.service) c.args.link.now _ c.args.piece.now _ _ _ _ _ _
+    hears_is c.reads_packets.ensures.less c.reads_packets.ensures.nothing c.args.number (reading_on c.args.number c.args.pool.now.service) c.args.link.now _ c.args.piece.now _ _ _ _ _ _
     c.feed.ensures.taken c.in-Ok.ensures.count c.in_ok-heard.ensures.brings c.in_ok-heard.ensures.reader c.done.ensures.next c.done.ensures.same
 
 pub returns-clause-read : goal.returns-clause-read

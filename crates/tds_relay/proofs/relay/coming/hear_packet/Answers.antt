@@ -2,17 +2,17 @@ use Rattle.std.proofs.Common.{◌≡◌, ◌∙◌, ◌&&◌, not, Bool, Option,
 use Rattle.std.specs.Prelude.{IsSome}
 use Rattle.tds_service.specs.Table.{reading_on}
 use Rattle.tds_relay.specs.declared.link.News.{News}
-use Rattle.tds_relay.specs.Desk.{owes_reset, whose}
-use Rattle.tds_relay.specs.declared.desk.coming.What.TheVariants as whats
+use Rattle.tds_relay.specs.Pool.{owes_reset, whose}
+use Rattle.tds_relay.specs.declared.pool.coming.What.TheVariants as whats
 use Rattle.tds_relay.specs.Fronts.{end_of, ends_in}
-use Rattle.tds_relay.specs.Hall.{End}
+use Rattle.tds_relay.specs.Core.{End}
 use Rattle.tds_relay.specs.Handing.{IsBy, PassesAs, IsKnown, news_for}
-use Rattle.tds_relay.specs.House.{IsTold, Withheld, closes, end_whose, handed, hears_of_reset, is_said, news_in}
-use Rattle.tds_relay.specs.Posts.{posts_in, names_of}
-use Rattle.tds_relay.specs.Ties.{Connection, desk_in, part_on}
+use Rattle.tds_relay.specs.Machine.{IsTold, Withheld, closes, end_whose, handed, hears_of_reset, is_said, news_in}
+use Rattle.tds_relay.specs.Queues.{queues_in, names_of}
+use Rattle.tds_relay.specs.Ties.{Connection, pool_in, part_on}
 use Rattle.tds_relay.proofs.steps.Fronts.{ends_kept}
-use Rattle.tds_relay.proofs.steps.Handed.{cut_as, end_whose_is, handed_for, handed_is, has_walker, knows_by, passing, to_absent, to_closed, to_deaf, to_nobody, to_one, withheld_for, withheld_is}
-use Rattle.tds_relay.proofs.steps.Posting.{posts_kept}
+use Rattle.tds_relay.proofs.steps.Handed.{cut_as, end_whose_is, handed_for, handed_is, has_parser, knows_by, passing, to_absent, to_closed, to_deaf, to_nobody, to_one, withheld_for, withheld_is}
+use Rattle.tds_relay.proofs.steps.Queueing.{queues_kept}
 use Rattle.tds_relay.proofs.steps.Reaching.{reaches_turn}
 use Rattle.tds_relay.proofs.steps.Resets.{heard_so, told_for, unowed}
 use Rattle.tds_relay.proofs.bytes.Reader.{has_read}
@@ -45,57 +45,57 @@ pub returns-then-matches-clause-brings : goal.returns-then-matches-clause-brings
 returns-then-matches-clause-brings c =
     let turned = c.in_ok-heard.ensures.ok in
     let heard = c.in_ok-heard.heard in
-    let d = desk_in c.args.desk.now in
+    let d = pool_in c.args.pool.now in
     let es = ends_in c.args.applications.now in
-    let posts = posts_in c.args.applications.now in
-    let walker = reading_on c.args.number c.args.desk.now.service in
-    let there : (key : ℕ) → whose d c.args.number ≡ Some key → IsSome walker = λ key e. has_walker d c.args.number key c.args.desk.now.service.seats.items refl e in
+    let queues = queues_in c.args.applications.now in
+    let parser = reading_on c.args.number c.args.pool.now.service in
+    let there : (key : ℕ) → whose d c.args.number ≡ Some key → IsSome parser = λ key e. has_parser d c.args.number key c.args.pool.now.service.seats.items refl e in
     let unsaid : is_said heard.what (end_whose heard.key es) ≡ false = to_closed heard.what (end_whose heard.key es) (search rules) in
-    passing c.args.number walker none c.args.link.now.answer c.args.link.now.answer c.args.link.now.reader heard d _ es posts _ c.in-Some.packet.header c.in-Some.packet.«data».now c.ends-ends.result turned.0 Withheld _ _
+    passing c.args.number parser none c.args.link.now.answer c.args.link.now.answer c.args.link.now.reader heard d _ es queues _ c.in-Some.packet.header c.in-Some.packet.«data».now c.ends-ends.result turned.0 Withheld _ _
     c.in-Some.ensures.lent c.ends-ends.ensures turned.1 c.in_ok-heard.ensures.whose c.in_ok-heard.ensures.heard there
-    (withheld_for _ none c.args.link.now.answer _ _ unsaid) refl tt (withheld_is (whose d c.args.number) c.in-Some.packet.header c.in-Some.packet.«data».now posts)
+    (withheld_for _ none c.args.link.now.answer _ _ unsaid) refl tt (withheld_is (whose d c.args.number) c.in-Some.packet.header c.in-Some.packet.«data».now queues)
 
 pub returns-in_default-key-clause-brings : goal.returns-in_default-key-clause-brings
 returns-in_default-key-clause-brings c =
     let turned = c.in_ok-heard.ensures.ok in
     let heard = c.in_ok-heard.heard in
-    let d = desk_in c.args.desk.now in
+    let d = pool_in c.args.pool.now in
     let es = ends_in c.args.applications.now in
-    let posts = posts_in c.args.applications.now in
-    let walker = reading_on c.args.number c.args.desk.now.service in
-    let there : (key : ℕ) → whose d c.args.number ≡ Some key → IsSome walker = λ key e. has_walker d c.args.number key c.args.desk.now.service.seats.items refl e in
+    let queues = queues_in c.args.applications.now in
+    let parser = reading_on c.args.number c.args.pool.now.service in
+    let there : (key : ℕ) → whose d c.args.number ≡ Some key → IsSome parser = λ key e. has_parser d c.args.number key c.args.pool.now.service.seats.items refl e in
     let unsaid : is_said heard.what (end_whose heard.key es) ≡ false = to_nobody heard.what heard.key es (search rules) in
-    passing c.args.number walker none c.args.link.now.answer c.args.link.now.answer c.args.link.now.reader heard d _ es posts _ c.in-Some.packet.header c.in-Some.packet.«data».now c.ends-ends.result turned.0 Withheld _ _
+    passing c.args.number parser none c.args.link.now.answer c.args.link.now.answer c.args.link.now.reader heard d _ es queues _ c.in-Some.packet.header c.in-Some.packet.«data».now c.ends-ends.result turned.0 Withheld _ _
     c.in-Some.ensures.lent c.ends-ends.ensures turned.1 c.in_ok-heard.ensures.whose c.in_ok-heard.ensures.heard there
-    (withheld_for _ none c.args.link.now.answer _ _ unsaid) refl tt (withheld_is (whose d c.args.number) c.in-Some.packet.header c.in-Some.packet.«data».now posts)
+    (withheld_for _ none c.args.link.now.answer _ _ unsaid) refl tt (withheld_is (whose d c.args.number) c.in-Some.packet.header c.in-Some.packet.«data».now queues)
 
 pub returns-in_default-get_mut-clause-brings : goal.returns-in_default-get_mut-clause-brings
 returns-in_default-get_mut-clause-brings c =
     let turned = c.in_ok-heard.ensures.ok in
     let heard = c.in_ok-heard.heard in
-    let d = desk_in c.args.desk.now in
+    let d = pool_in c.args.pool.now in
     let es = ends_in c.args.applications.now in
-    let posts = posts_in c.args.applications.now in
-    let walker = reading_on c.args.number c.args.desk.now.service in
-    let there : (key : ℕ) → whose d c.args.number ≡ Some key → IsSome walker = λ key e. has_walker d c.args.number key c.args.desk.now.service.seats.items refl e in
+    let queues = queues_in c.args.applications.now in
+    let parser = reading_on c.args.number c.args.pool.now.service in
+    let there : (key : ℕ) → whose d c.args.number ≡ Some key → IsSome parser = λ key e. has_parser d c.args.number key c.args.pool.now.service.seats.items refl e in
     let unsaid : is_said heard.what (end_whose heard.key es) ≡ false = to_absent heard.what c.args.applications.now heard.key c.in-Some-key.key (search rules) (search rules) in
-    passing c.args.number walker none c.args.link.now.answer c.args.link.now.answer c.args.link.now.reader heard d _ es posts _ c.in-Some.packet.header c.in-Some.packet.«data».now c.ends-ends.result turned.0 Withheld _ _
+    passing c.args.number parser none c.args.link.now.answer c.args.link.now.answer c.args.link.now.reader heard d _ es queues _ c.in-Some.packet.header c.in-Some.packet.«data».now c.ends-ends.result turned.0 Withheld _ _
     c.in-Some.ensures.lent c.ends-ends.ensures turned.1 c.in_ok-heard.ensures.whose c.in_ok-heard.ensures.heard there
-    (withheld_for _ none c.args.link.now.answer _ _ unsaid) refl tt (withheld_is (whose d c.args.number) c.in-Some.packet.header c.in-Some.packet.«data».now posts)
+    (withheld_for _ none c.args.link.now.answer _ _ unsaid) refl tt (withheld_is (whose d c.args.number) c.in-Some.packet.header c.in-Some.packet.«data».now queues)
 
 pub returns-then-not-hears-clause-brings : goal.returns-then-not-hears-clause-brings
 returns-then-not-hears-clause-brings c =
     let turned = c.in_ok-heard.ensures.ok in
     let heard = c.in_ok-heard.heard in
-    let d = desk_in c.args.desk.now in
+    let d = pool_in c.args.pool.now in
     let es = ends_in c.args.applications.now in
-    let posts = posts_in c.args.applications.now in
-    let walker = reading_on c.args.number c.args.desk.now.service in
-    let there : (key : ℕ) → whose d c.args.number ≡ Some key → IsSome walker = λ key e. has_walker d c.args.number key c.args.desk.now.service.seats.items refl e in
+    let queues = queues_in c.args.applications.now in
+    let parser = reading_on c.args.number c.args.pool.now.service in
+    let there : (key : ℕ) → whose d c.args.number ≡ Some key → IsSome parser = λ key e. has_parser d c.args.number key c.args.pool.now.service.seats.items refl e in
     let unsaid : is_said heard.what (end_whose heard.key es) ≡ false = to_deaf heard.what c.args.applications.now heard.key c.in-Some-key.key c.in-Some-get_mut.application.now (search rules) c.in-Some-get_mut.ensures.value (search rules) in
-    passing c.args.number walker none c.args.link.now.answer c.args.link.now.answer c.args.link.now.reader heard d _ es posts _ c.in-Some.packet.header c.in-Some.packet.«data».now c.ends-ends.result turned.0 Withheld _ _
+    passing c.args.number parser none c.args.link.now.answer c.args.link.now.answer c.args.link.now.reader heard d _ es queues _ c.in-Some.packet.header c.in-Some.packet.«data».now c.ends-ends.result turned.0 Withheld _ _
     c.in-Some.ensures.lent c.ends-ends.ensures turned.1 c.in_ok-heard.ensures.whose c.in_ok-heard.ensures.heard there
-    (withheld_for _ none c.args.link.now.answer _ _ unsaid) refl tt (posts_kept c.args.applications.now c.in-Some-key.key c.in-Some-get_mut.application.now c.in-Some-get_mut.application.now c.in-Some-get_mut.ensures.value refl ∙ withheld_is (whose d c.args.number) c.in-Some.packet.header c.in-Some.packet.«data».now posts)
+    (withheld_for _ none c.args.link.now.answer _ _ unsaid) refl tt (queues_kept c.args.applications.now c.in-Some-key.key c.in-Some-get_mut.application.now c.in-Some-get_mut.application.now c.in-Some-get_mut.ensures.value refl ∙ withheld_is (whose d c.args.number) c.in-Some.packet.header c.in-Some.packet.«data».now queues)
 
 pub returns-clause-brings : goal.returns-clause-brings
 returns-clause-brings c =
@@ -104,18 +104,18 @@ returns-clause-brings c =
     let number = c.args.number in
     let header = c.in-Some.packet.header in
     let content = c.in-Some.packet.«data».now in
-    let d = desk_in c.args.desk.now in
+    let d = pool_in c.args.pool.now in
     let es = ends_in c.args.applications.now in
-    let posts = posts_in c.args.applications.now in
-    let walker = reading_on number c.args.desk.now.service in
-    let there : (key : ℕ) → whose d number ≡ Some key → IsSome walker = λ key e. has_walker d number key c.args.desk.now.service.seats.items refl e in
+    let queues = queues_in c.args.applications.now in
+    let parser = reading_on number c.args.pool.now.service in
+    let there : (key : ℕ) → whose d number ≡ Some key → IsSome parser = λ key e. has_parser d number key c.args.pool.now.service.seats.items refl e in
     let passes = c.in_ok-hand_on.ensures.passes in
     let a = c.in-Some-get_mut.application.now in
     let its : heard.key ≡ Some c.in-Some-key.key = search rules in
     let closed : closes heard.what ≡ false = search rules in
     let hears : is_said whats.Goes (Some (end_of a)) ≡ true = search rules in
     let said : is_said heard.what (end_whose heard.key es) ≡ true = to_one heard.what c.args.applications.now heard.key c.in-Some-key.key a closed its c.in-Some-get_mut.ensures.value hears in
-    let part = part_on walker content c.ends-ends.result in
+    let part = part_on parser content c.ends-ends.result in
     let mine : whose d number ≡ Some c.in-Some-key.key = sym c.in_ok-heard.ensures.whose ∙ its in
     let told = heard_so d number c.in-Some-key.key part heard turned.0 _ _ _ turned.1 mine its c.in_ok-heard.ensures.heard closed c.owes_reset-owed.result c.owes_reset.result c.owes_reset-owed.ensures c.owes_reset.ensures in
     let asks = c.is_told-asks.ensures hears ∙ ap (λ (o : Option End). hears_of_reset heard.what o) (sym (end_whose_is c.args.applications.now heard.key c.in-Some-key.key a its c.in-Some-get_mut.ensures.value)) in
@@ -131,8 +131,8 @@ returns-clause-brings c =
     subst (λ (b : Bool). IsTold (owes_reset number d) b passes.manner part) asks
     (told_for (owes_reset number d) c.is_told-asks.result (c.owes_reset-owed.result && not c.owes_reset.result) c.owes_reset-owed.result c.holds.result c.args.link.now.answer header content passes.manner part told
     (unowed c.owes_reset-owed.result c.owes_reset.result c.holds.result) by) in
-    passing number walker (news_for c.is_told-asks.result (c.owes_reset-owed.result && not c.owes_reset.result) c.owes_reset-owed.result c.holds.result) c.args.link.now.answer c.hand_on.new.answer c.args.link.now.reader heard
-    d _ es posts _ header content c.ends-ends.result turned.0 passes.manner _ _
+    passing number parser (news_for c.is_told-asks.result (c.owes_reset-owed.result && not c.owes_reset.result) c.owes_reset-owed.result c.holds.result) c.args.link.now.answer c.hand_on.new.answer c.args.link.now.reader heard
+    d _ es queues _ header content c.ends-ends.result turned.0 passes.manner _ _
     c.in-Some.ensures.lent c.ends-ends.ensures turned.1 c.in_ok-heard.ensures.whose c.in_ok-heard.ensures.heard there
     (handed_for _ _ c.args.link.now.answer _ _ passes.manner said by) cut tells
     (handed_is (whose d number) c.in-Some-key.key header content passes.manner c.args.applications.now a c.hand_on.new.application
@@ -163,7 +163,7 @@ returns-clause-read c = has_read c.args.number _ c.in-Some.packet.header c.in-So
 
 pub returns-then-not-hears-clause-names : goal.returns-then-not-hears-clause-names
 returns-then-not-hears-clause-names c =
-    ap names_of (posts_kept c.args.applications.now c.in-Some-key.key c.in-Some-get_mut.application.now c.in-Some-get_mut.application.now c.in-Some-get_mut.ensures.value refl)
+    ap names_of (queues_kept c.args.applications.now c.in-Some-key.key c.in-Some-get_mut.application.now c.in-Some-get_mut.application.now c.in-Some-get_mut.ensures.value refl)
 
 pub returns-clause-names : goal.returns-clause-names
 returns-clause-names c =
@@ -172,7 +172,7 @@ returns-clause-names c =
     let content = c.in-Some.packet.«data».now in
     ap names_of (handed_is (Some c.in-Some-key.key) c.in-Some-key.key header content passes.manner c.args.applications.now c.in-Some-get_mut.application.now c.hand_on.new.application refl
     c.in-Some-get_mut.ensures.value passes.is)
-    ∙ names_handed (Some c.in-Some-key.key) (handed passes.manner header content) (posts_in c.args.applications.now)
+    ∙ names_handed (Some c.in-Some-key.key) (handed passes.manner header content) (queues_in c.args.applications.now)
 
 pub returns-then-not-hears-clause-asks : goal.returns-then-not-hears-clause-asks
 returns-then-not-hears-clause-asks c =
@@ -233,7 +233,7 @@ returns-clause-known c =
     c.in_ok-hand_on.ensures.known
 
 pub returns-in_default-clause-seats : goal.returns-in_default-clause-seats
-returns-in_default-clause-seats c = λ reached. stays_refl c.args.number (desk_in c.args.desk.now).service
+returns-in_default-clause-seats c = λ reached. stays_refl c.args.number (pool_in c.args.pool.now).service
 
 pub returns-then-matches-clause-seats : goal.returns-then-matches-clause-seats
 returns-then-matches-clause-seats c = λ reached. c.in_ok-heard.ensures.seats reached

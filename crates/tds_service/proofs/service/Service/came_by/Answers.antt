@@ -28,11 +28,11 @@ returns-in-Some-clause-ok c =
     IfOk-weaker c.came_at.result _ _
     (λ came h.
     let k = h here.seat here.at_lent in
-    let part = packet_part here.seat.connection.walker c.args.bytes.now c.args.ends in
+    let part = packet_part here.seat.connection.parser c.args.bytes.now c.args.ends in
     let tokens = told_of_part (line_in here.seat.connection) part in
     let did = comes_here old c.args.number part came.lease came.request (outcome_answer came.request came.outcome) items c.deref_mut.result.now news index here k.0 [] tokens
     refl c.deref_mut.ensures.value k.1 k.2 k.3 k.4 k.5 k.6 refl in (
-      here.seat.connection.walker,
+      here.seat.connection.parser,
       reading_here (has_number c.args.number) items c.deref_mut.result.now index here,
       tokens,
       subst (λ (s : Service). Comes old s c.args.number part came.lease came.request (outcome_answer came.request came.outcome) [] tokens)
@@ -64,9 +64,9 @@ returns-in-Some-clause-reads c =
     let k = h here.seat here.at_lent in
     let now = reading_behind c.args.number items lent news index here k.0 c.deref_mut.ensures.value k.1 k.2 in
     let was = same_inside _ r (sym (reading_here (has_number c.args.number) items lent index here) ∙ e) in (
-      k.0.connection.walker,
+      k.0.connection.parser,
       ap (reading_by (has_number c.args.number)) items_are ∙ now,
-      subst (λ (r : Reading). Reads came.outcome c.args.ends (tokens_in r c.args.bytes.now).stop k.0.connection.walker) was k.3,
+      subst (λ (r : Reading). Reads came.outcome c.args.ends (tokens_in r c.args.bytes.now).stop k.0.connection.parser) was k.3,
     ))
     c.came_at.ensures.reads
 

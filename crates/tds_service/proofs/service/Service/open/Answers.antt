@@ -70,7 +70,7 @@ returns-clause-begins c = λ none.
     let items = s.seats.items in
     let new : code.Seat = record { number = s.last + 1; place = places.Leased c.args.lease; connection = c.in-Ok.connection } in
     let same : ((s.last + 1) == (s.last + 1)) ≡ true = grind (arith, nat_tests) in (
-      c.in-Ok.connection.walker,
+      c.in-Ok.connection.parser,
       ap (reading_by (has_number (s.last + 1))) (c.push_reserved.ensures.items ∙ ap (λ (cs : List code.Seat). cs ++ new ∷ []) c.reserve.ensures.items)
           ∙ reads_added (has_number (s.last + 1)) new items none same,
       c.in-Ok.ensures.begins,

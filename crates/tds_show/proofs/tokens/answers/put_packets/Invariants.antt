@@ -7,7 +7,7 @@ use Rattle.tds_show.proofs.tokens.answers.put_packets.Given as goal
 abbrev pub invariant-packets : goal.invariant-packets
 invariant-packets l = record {
   does : shown_after (string_bytes l.fn.text) (shown l.fn.bytes) ≡ shown_after (string_bytes l.text) (shown_from l.most l.message.items l.rest);
-  plain : IsPlain l.walker;
+  plain : IsPlain l.parser;
 }
 
 abbrev pub decreases-packets : goal.decreases-packets

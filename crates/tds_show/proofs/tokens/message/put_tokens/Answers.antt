@@ -9,15 +9,15 @@ pub returns-in-Err-clause-lines : goal.returns-in-Err-clause-lines
 returns-in-Err-clause-lines c =
     let m : 0 < c.tokens.most = search rules in
     let n : 0 < length c.tokens.rest.now = search rules in
-    let fits : c.tokens.walker.start + length c.tokens.rest.now ≤ 18446744073709551615 = search rules in
-    ends_refused _ _ c.tokens.most c.tokens.walker c.tokens.rest.now c.in-Err.refusal m n c.tokens.invariant.plain c.tokens.invariant.ready fits
+    let fits : c.tokens.parser.start + length c.tokens.rest.now ≤ 18446744073709551615 = search rules in
+    ends_refused _ _ c.tokens.most c.tokens.parser c.tokens.rest.now c.in-Err.refusal m n c.tokens.invariant.plain c.tokens.invariant.ready fits
     (c.tokens_are_passed.ensures _ _ c.tokens.invariant.ready) c.in-Err.ensures.exact c.tokens.invariant.does
 
 pub returns-in-None-clause-lines : goal.returns-in-None-clause-lines
 returns-in-None-clause-lines c =
     let m : 0 < c.tokens.most = search rules in
     let n : 0 < length c.tokens.rest.now = search rules in
-    ends_inside _ _ c.tokens.most c.tokens.walker c.feed.new.self c.tokens.rest.now m n c.tokens.invariant.plain
+    ends_inside _ _ c.tokens.most c.tokens.parser c.feed.new.self c.tokens.rest.now m n c.tokens.invariant.plain
     (c.tokens_are_passed.ensures _ _ c.tokens.invariant.ready)
     (ap (λ (t : Option Token). found_to t c.feed.new.self (drop c.in-Ok.fed.count c.tokens.rest.now)) (sym c.in-None.is) ∙ c.in-Ok.ensures.exact)
     c.tokens.invariant.does
@@ -36,10 +36,10 @@ pub tokens-preserved : goal.tokens-preserved
 tokens-preserved c =
     let m : 0 < c.tokens.most = search rules in
     let n : 0 < length c.tokens.rest.now = search rules in
-    let fits : c.tokens.walker.start + length c.tokens.rest.now ≤ 18446744073709551615 = search rules in
+    let fits : c.tokens.parser.start + length c.tokens.rest.now ≤ 18446744073709551615 = search rules in
     let shorter : length (drop c.in-Ok.fed.count c.tokens.rest.now) ≤ length c.tokens.rest.now = rw (length-drop c.in-Ok.fed.count c.tokens.rest.now) (omega arith) in
     let t =
-    one_more _ _ c.tokens.most c.tokens.walker c.feed.new.self c.tokens.rest.now (drop c.in-Ok.fed.count c.tokens.rest.now) c.in-Some.token m n
+    one_more _ _ c.tokens.most c.tokens.parser c.feed.new.self c.tokens.rest.now (drop c.in-Ok.fed.count c.tokens.rest.now) c.in-Some.token m n
     c.tokens.invariant.plain c.tokens.invariant.ready fits shorter (c.tokens_are_passed.ensures _ _ c.tokens.invariant.ready)
     (ap (λ (u : Option Token). found_to u c.feed.new.self (drop c.in-Ok.fed.count c.tokens.rest.now)) (sym c.in-Some.is) ∙ c.in-Ok.ensures.exact)
     (at_some _ c.in-Some.is c.in-Ok.ensures.start) c.tokens.invariant.does in

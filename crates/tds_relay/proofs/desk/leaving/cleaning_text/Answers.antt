@@ -1,7 +1,0 @@
-use Rattle.std.proofs.Common.{refl}
-use Rattle.tds_relay.specs.Cleaning.{text_of_cleaning, two_bytes_each}
-use Rattle.tds_relay.proofs.desk.leaving.cleaning_text.Goals as goal
-
-pub returns : goal.returns
-unfolding text_of_cleaning two_bytes_each
-returns c = refl

@@ -1,6 +1,0 @@
-use Rattle.std.proofs.Common.{◌≡◌, drop}
-use Rattle.tds_relay.specs.Hall.{is_in}
-use Rattle.tds_relay.proofs.desk.lists.has_key.Given as goal
-
-abbrev pub invariant-loop-waits : goal.invariant-loop-waits
-invariant-loop-waits l = is_in l.key (drop l.waits-index l.line) ≡ is_in l.key l.line
