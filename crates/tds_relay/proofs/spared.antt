@@ -7,6 +7,7 @@ pub mod Cleaned
 pub mod Closings
 pub mod Coming
 pub mod Counted
+pub mod Drained
 pub mod Elsewhere
 pub mod Ended
 pub mod Few

@@ -1,5 +1,5 @@
 -- What the relay puts on a connection itself, where an application lets that go: what cancels its request, and a cleaning.
-use Rattle.std.specs.Prelude.{◌≡◌, ◌⊎◌, ◌==◌, ℕ, codes, Bool, true, false, List, [], ◌∷◌, ◌++◌, Option, Some, None, IsSome, length}
+use Rattle.std.specs.Prelude.{◌≡◌, ◌⊎◌, ◌==◌, ℕ, codes, Bool, true, false, List, [], ◌∷◌, ◌++◌, Option, Some, None, IsSome, length, option_map}
 use Rattle.tds_client.specs.declared.message.MessageKind.TheVariants.{Batch}
 use Rattle.tds_client.specs.Session as session
 use Rattle.tds_client.specs.Session.{ClientSession, Stage}
@@ -20,11 +20,13 @@ use Rattle.tds_relay.specs.declared.link.Link.{Link}
 use Rattle.tds_relay.specs.declared.relay.Relay as code
 use Rattle.tds_relay.specs.Bodies.{ArePut}
 use Rattle.tds_relay.specs.Closings.{IsWaiting, Register, Settings, register_in}
-use Rattle.tds_relay.specs.Pool.{Brings, Pool, Way, find_key, next, turn}
+use Rattle.tds_relay.specs.Few.{has_seat}
+use Rattle.tds_relay.specs.Pool.{Brings, Leaves, Pool, Way, find_key, next, turn}
+use Rattle.tds_relay.specs.Queues.{Queue, fits, nothing}
 use Rattle.tds_relay.specs.Lent.{HasClosed, IsMade}
-use Rattle.tds_relay.specs.Reads.{CalledAt, bytes_on, open_at, open_waits, reader_at, seen_at, waits_on}
+use Rattle.tds_relay.specs.Reads.{CalledAt, bytes_on, open_at, open_waits, queue_on, reader_at, seen_at, waits_on}
 use Rattle.tds_relay.specs.Core.{holder}
-use Rattle.tds_relay.specs.Ties.{pool_in}
+use Rattle.tds_relay.specs.Ties.{GoesOn, pool_in}
 
 -- ---- What a cleaning says
 
@@ -58,7 +60,24 @@ pub record IsPutBehind (Is : List ℕ → Type 0) (before after : List ℕ) : Ty
 
 -- A cleaning was, where this is nobody; or nothing.
 abbrev pub MayClean : Option ℕ → List ℕ → List ℕ → Type 0
-MayClean who before after = (after ≡ before) ⊎ ((who ≡ None) × IsPutBehind (IsBatch text_of_cleaning) before after)
+MayClean who before after = (after ≡ before) ⊎ ((who ≡ None) × IsPutBehind (IsCleaning text_of_cleaning) before after)
+
+-- These are cleanings, one behind the other.
+pub data AreCleanings : List ℕ → Type 0 where
+  NoCleaning : AreCleanings []
+  AndACleaning : (out more : List ℕ) → AreCleanings out → IsCleaning text_of_cleaning more → AreCleanings (out ++ more)
+
+-- Cleanings alone were put there, behind what waited; or the connection is there no more.
+abbrev pub CleansAlone : Option (List ℕ) → Option (List ℕ) → Type 0
+CleansAlone old None = Unit {0}
+CleansAlone None (Some new) = ⊥
+CleansAlone (Some waits) (Some new) = (out : List ℕ) × AreCleanings out × (new ≡ waits ++ out)
+
+-- And more may wait behind them, where it is lent to somebody since.
+abbrev pub CleansOn : Type 0 → Option (List ℕ) → Option (List ℕ) → Type 0
+CleansOn lent old None = Unit {0}
+CleansOn lent None (Some new) = ⊥
+CleansOn lent (Some waits) (Some new) = (out : List ℕ) × (more : List ℕ) × AreCleanings out × (new ≡ (waits ++ out) ++ more) × ((more ≡ []) ⊎ lent)
 
 -- Whether nothing is to come any more once what is underway is cancelled.
 abbrev pub rests_once : Stage → Bool
@@ -129,21 +148,38 @@ abbrev pub CountsBrought : Option ℕ → ℕ × ℕ → ℕ × ℕ → Type 0
 CountsBrought None old new = new ≡ old
 CountsBrought (Some number) old new = CountsOnce old new
 
--- Where it is there still, what goes out by that waits: it is counted as cleaned; and as closed instead where it isn't there.
-abbrev pub CountsSent : Option (List ℕ) → ℕ × ℕ → ℕ × ℕ → Type 0
-CountsSent None old new = new ≡ (old.0, next old.1)
-CountsSent (Some waits) old new = new ≡ (next old.0, old.1)
+-- Where it is there still, what goes out by that waits: it is counted as cleaned; and as closed instead where it isn't there, for this reason.
+abbrev pub CountsSent : Type 0 → Option (List ℕ) → ℕ × ℕ → ℕ × ℕ → Type 0
+CountsSent Fails None old new = (new ≡ (old.0, next old.1)) × Fails
+CountsSent Fails (Some waits) old new = new ≡ (next old.0, old.1)
 
--- So it is where an application held one that was there.
+-- These bytes don't fit there.
+abbrev pub IsUnfit : List ℕ → Option Queue → Type 0
+IsUnfit out queue = option_map (λ (p : Queue). fits p out) queue ≡ Some false
+
+-- The pool has this connection no more as this application lets it go: memory was refused to that, or to its cleaning.
+pub record IsGivenUp (key number : ℕ) (old new : Pool) : Type 0 where
+  pub gives : Bool
+  pub way : Way
+  pub lost : has_seat number (turn old (Leaves key gives way)).pool.service ≡ false
+  pub goes : GoesOn (turn old (Leaves key gives way)).pool new
+
+-- So it is with what this application held; or what goes out there doesn't fit.
+abbrev pub CannotClean : ℕ → Hold → code.Relay → code.Relay → Type 0
+CannotClean key hold old new =
+    IsGivenUp key hold.number (pool_in old.pool) (pool_in new.pool)
+    ⊎ ((out : List ℕ) × GoesOutAtEnd text_of_cleaning (client_of hold.lease old.pool.service) out × IsUnfit out (queue_on hold.number old.links.items))
+
+-- It is counted so where an application held one that was there, and for that as closed instead.
 abbrev pub CountsAtEnd : ℕ → code.Relay → code.Relay → Type 0
 CountsAtEnd key old new = (hold : Hold) → find_key key old.pool.holds.items ≡ Some hold → IsSome (waits_on hold.number old.links.items)
-    → CountsSent (waits_on hold.number new.links.items) (cleaned_in old) (cleaned_in new)
+    → CountsSent (CannotClean key hold old new) (waits_on hold.number new.links.items) (cleaned_in old) (cleaned_in new)
 
--- Then those who wait are served: what is counted as cleaned is there, or was lost with one of them; what is counted as closed isn't there, but for
--- another by its number that is yet to be opened.
-pub data CountsSince (Lost : Type 0) (number : ℕ) (old new : ℕ × ℕ) (ls : List Link) : Type 0 where
-  IsCleaned : new ≡ (next old.0, old.1) → IsSome (waits_on number ls) ⊎ Lost → CountsSince Lost number old new ls
-  IsFailed : new ≡ (old.0, next old.1) → CalledAt None (seen_at number ls) → CountsSince Lost number old new ls
+-- Then those who wait are served: what is counted as cleaned is there, or was lost with one of them; what is counted as closed is so for this
+-- reason, and isn't there, but for another by its number that is yet to be opened.
+pub data CountsSince (Fails Lost : Type 0) (number : ℕ) (old new : ℕ × ℕ) (ls : List Link) : Type 0 where
+  IsCleaned : new ≡ (next old.0, old.1) → IsSome (waits_on number ls) ⊎ Lost → CountsSince Fails Lost number old new ls
+  IsFailed : new ≡ (old.0, next old.1) → CalledAt None (seen_at number ls) → Fails → CountsSince Fails Lost number old new ls
 
 -- one of them is closed since
 abbrev pub LosesWaiting : Register → code.Relay → code.Relay → Type 0
@@ -151,13 +187,17 @@ LosesWaiting was old new = HasClosed (IsWaiting (pool_in old.pool).line) was (re
 
 abbrev pub CountsSinceEnd : ℕ → Register → code.Relay → code.Relay → Type 0
 CountsSinceEnd key was old new = (hold : Hold) → find_key key old.pool.holds.items ≡ Some hold → IsSome (waits_on hold.number old.links.items)
-    → CountsSince (LosesWaiting was old new) hold.number (cleaned_in old) (cleaned_in new) new.links.items
+    → CountsSince (CannotClean key hold old new) (LosesWaiting was old new) hold.number (cleaned_in old) (cleaned_in new) new.links.items
 
--- Nothing is counted; or the connection of this number was closed instead, which nobody held: it is there no more.
+-- A cleaning doesn't fit where nothing waits, behind packets of this size.
+abbrev pub IsTooLong : ℕ → Type 0
+IsTooLong size = (out : List ℕ) × IsCleaning text_of_cleaning out × (fits (nothing size) out ≡ false)
+
+-- Nothing is counted; or one more was counted as closed instead, and the connection of this number is there no more.
 abbrev pub CountsLost : ℕ → code.Relay → code.Relay → Type 0
 CountsLost number old new = (cleaned_in new ≡ cleaned_in old) ⊎ ((cleaned_in new ≡ (old.cleanings, next old.failed)) × (reader_at number new.links.items ≡ None))
 
--- it isn't open any more
+-- or it isn't open
 abbrev pub CountsGone : ℕ → code.Relay → code.Relay → Type 0
 CountsGone number old new = (cleaned_in new ≡ cleaned_in old) ⊎ ((cleaned_in new ≡ (old.cleanings, next old.failed)) × (open_at number new.links.items ≡ None))
 

@@ -33,6 +33,12 @@ pub record OpensNew (old new : code.Relay) : Type 0 where
   pub are : opens_in new.orders.items ≡ opens_in old.orders.items ++ more
   pub rise : Rise old.pool.service.last new.pool.service.last more
 
+-- More were ordered opened since, each once, and by a number above this one.
+pub record OpensAbove (number : ℕ) (old new : code.Relay) : Type 0 where
+  pub more : List ℕ
+  pub are : opens_in new.orders.items ≡ opens_in old.orders.items ++ more
+  pub rise : Rise number new.pool.service.last more
+
 -- As many more as were ordered opened since have come to be there, at most.
 abbrev pub GrowsByOrders : code.Relay → code.Relay → Type 0
 GrowsByOrders old new = length new.links.items + length (opens_in old.orders.items) ≤ length old.links.items + length (opens_in new.orders.items)

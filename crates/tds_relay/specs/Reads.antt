@@ -159,13 +159,18 @@ pub record Stays (old new : List Link) : Type 0 where
   pub begins : (number : ℕ) → MayBegin (answer_at number old) (answer_at number new)
   pub fullness : (number : ℕ) → StaysAt (fullness_at number old) (fullness_at number new)
 
+-- No connection is full that wasn't, whether it is open or yet to be opened.
+abbrev pub NoneFills : List Link → List Link → Type 0
+NoneFills old new = (number size : ℕ) → fullness_at number new ≡ Some (size, true) → fullness_at number old ≡ Some (size, true)
+
 -- Each connection that is open was so, with the same of a packet, and as full, and what waited there waits still. Others may be there that are yet
--- to be opened. Each is called as it was. What is known of a message stays, or the next one begins.
+-- to be opened, and none is full that wasn't. Each is called as it was. What is known of a message stays, or the next one begins.
 pub record Opens (old new : List Link) : Type 0 where
   pub opens : (number : ℕ) → StaysAt (open_at number old) (open_at number new)
   pub fills : (number : ℕ) → FillsAt (open_waits number old) (open_waits number new)
   pub begins : (number : ℕ) → MayBegin (open_answer number old) (open_answer number new)
   pub fullness : (number : ℕ) → StaysAt (open_fullness number old) (open_fullness number new)
+  pub full : NoneFills old new
   pub called : (number : ℕ) → CalledAt (seen_at number old) (seen_at number new)
 
 -- Of the one of this number that it was open, how full it was, what waited there, and what it is called, alone.
@@ -174,6 +179,7 @@ pub record OpensOthers (number : ℕ) (old new : List Link) : Type 0 where
   pub fills : (other : ℕ) → FillsAt (open_waits other old) (open_waits other new)
   pub begins : (other : ℕ) → other ≢ number → MayBegin (open_answer other old) (open_answer other new)
   pub fullness : (other : ℕ) → StaysAt (open_fullness other old) (open_fullness other new)
+  pub full : NoneFills old new
   pub called : (other : ℕ) → CalledAt (seen_at other old) (seen_at other new)
 
 -- what has come of a packet on each that is open when the one of this number is opened
@@ -194,18 +200,19 @@ with_tag tag seen = (seen.0, seen.1, Some tag)
 abbrev pub named_seen : ℕ → ℕ → ℕ → List Link → Option Seen
 named_seen tag number other ls = if other == number then option_map (with_tag tag) (seen_at other ls) else seen_at other ls
 
--- The one of this number is opened, with what its reader had, and what waited there, as full as it was.
+-- The one of this number is opened, with what its reader had, and what waited there, as full as it was, and none is full that wasn't.
 pub record OpensOne (number : ℕ) (old new : List Link) : Type 0 where
   pub opens : (other : ℕ) → StaysAt (opened_at number other old) (open_at other new)
   pub fills : (other : ℕ) → FillsAt (if_open (opened_at number other old) (waits_on other old)) (open_waits other new)
   pub begins : (other : ℕ) → MayBegin (if_open (opened_at number other old) (answer_at other old)) (open_answer other new)
   pub fullness : (other : ℕ) → StaysAt (if_open (opened_at number other old) (fullness_at other old)) (open_fullness other new)
+  pub full : NoneFills old new
   pub called : (other : ℕ) → CalledAt (opened_seen number other old) (seen_at other new)
 
--- One has come that is open, with nothing of a packet, and no other is open; or none has.
+-- One has come that is open, with nothing of a packet, no other is open, and none is full; or none has.
 abbrev pub OpensFirst : Option ℕ → List Link → List Link → Type 0
 OpensFirst None old new = new ≡ old
-OpensFirst (Some number) old new = (other : ℕ) → IfSome (open_at other new) (λ r. (other ≡ number) × (r.taken ≡ []))
+OpensFirst (Some number) old new = (other : ℕ) → IfSome (open_at other new) (λ r. (other ≡ number) × (r.taken ≡ [])) × IfSome (fullness_at other new) (λ f. f.1 ≡ false)
 
 -- ---- Packets that are handed on
 

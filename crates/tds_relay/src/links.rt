@@ -114,7 +114,8 @@ fn place_anew(list: &[Link], places: &mut Vec<Indexed<usize>>)
     }
 }
 
-/// What is to be sent on a connection waits there. False where more would wait than may.
+/// What is to be sent on a connection waits there. False where more would wait than may: then nothing has
+/// changed.
 #[tactic(auto, using(crate::proofs::steps::Staying::stays_written, crate::proofs::steps::Staying::stays_refl))]
 pub(crate) fn append_to(links: &mut Links, number: u64, bytes: &[u8]) -> Result<bool, NoMemory>
     ensures read { Stays links.old.items links.new.items }
@@ -168,6 +169,8 @@ pub(crate) fn set_tag(links: &mut Links, number: u64, tag: usize)
         → seen_at other links.new.items ≡ named_seen tag number other links.old.items }
     ensures waits { (other : ℕ)
         → waits_on other links.new.items ≡ waits_on other links.old.items }
+    ensures queues { (other : ℕ)
+        → queue_on other links.new.items ≡ queue_on other links.old.items }
     ensures answers { (other : ℕ)
         → answer_at other links.new.items ≡ answer_at other links.old.items }
 {

@@ -1,5 +1,5 @@
 -- What a cleaning puts, and what goes out where a connection is let go.
-use Rattle.std.proofs.Common.{◌≡◌, ◌∙◌, ◌==◌, ◌++◌, ℕ, Bool, true, false, not, List, [], ◌∷◌, Option, Some, None, inl, inr, refl, sym, ap, subst, append_assoc, option_map, if◌then◌else◌}
+use Rattle.std.proofs.Common.{◌≡◌, ◌∙◌, ◌==◌, ◌&&◌, ◌++◌, ℕ, Bool, true, false, not, List, [], ◌∷◌, Option, Some, None, inl, inr, refl, sym, ap, subst, append_assoc, option_map, if◌then◌else◌}
 use Rattle.std.specs.Prelude.{IsSome, OnOk, Result, Ok, Err, ◌⊎◌}
 use Rattle.std.proofs.lemmas.Bool.{eqb-true, eq-eqb}
 use Rattle.tds_client.specs.declared.message.MessageKind.TheVariants.{Batch}
@@ -14,15 +14,19 @@ use Rattle.tds_relay.specs.declared.pool.Hold.{Hold}
 use Rattle.tds_relay.specs.declared.pool.leaving.Left.{Left}
 use Rattle.tds_relay.specs.declared.link.Link.{Link}
 use Rattle.tds_relay.specs.declared.relay.Relay as code
-use Rattle.tds_relay.specs.Cleaning.{CleansOnce, GoesOutAtEnd, GoesOutBy, IsBatch, IsCleaning, WaitsAtEnd, OfItsHold, MayClean, IsPutBehind, CountsAtEnd, CountsHold, CountsSent, CountsSince, CountsSinceEnd, LosesWaiting, cleaned_in, rests_once, text_of_cleaning}
+use Rattle.tds_relay.specs.Cleaning.{CleansOnce, GoesOutAtEnd, GoesOutBy, IsBatch, IsCleaning, WaitsAtEnd, OfItsHold, MayClean, IsPutBehind, CannotClean, CountsAtEnd, CountsHold, CountsSent, CountsSince, CountsSinceEnd, IsGivenUp, IsTooLong, IsUnfit, LosesWaiting, cleaned_in, rests_once, text_of_cleaning}
 use Rattle.tds_relay.specs.Cleaning as cleaning
 use Rattle.tds_relay.specs.Pool as pool
 use Rattle.tds_relay.specs.Pool.{Pool, find_key, find_lease, find_number, whose_by, without_lease, next}
 use Rattle.tds_relay.specs.Promises.{Each}
 use Rattle.tds_relay.specs.Closings.{ClosesOnly, IsWaiting, Nobody, Register, open_name, register_in}
-use Rattle.tds_relay.specs.Lent.{HasClosed, LastBut}
-use Rattle.tds_relay.specs.Reads.{CalledAt, FillsBy, Opens as OpensLinks, Seen, bytes_on, link_at, reader_at, reader_of, seen_at, seen_of, waits_on}
-use Rattle.tds_relay.specs.Ties.{IsNumberOf, IsReached, Turns, pool_in}
+use Rattle.tds_relay.specs.Lent.{HasClosed, IsMade, LastBut}
+use Rattle.tds_relay.specs.Reads.{CalledAt, FillsBy, Opens as OpensLinks, Seen, bytes_on, link_at, queue_on, reader_at, reader_of, seen_at, seen_of, waits_on}
+use Rattle.tds_relay.specs.Few.{LeavesSeat, SeatStays, has_seat}
+use Rattle.tds_relay.specs.Queues.{Queue, fits, nothing, queue_in}
+use Rattle.tds_relay.specs.Reasons.{HasNoRoom}
+use Rattle.tds_wire.specs.declared.features.Features.{Features}
+use Rattle.tds_relay.specs.Ties.{GoesOn, IsNumberOf, IsReached, Reaches, Turns, pool_in}
 use Rattle.tds_relay.proofs.held.Sitting.{Sits}
 use Rattle.tds_relay.proofs.spared.Held.{Seated, same_lease, seated, sits_at, sound_at}
 
@@ -226,33 +230,78 @@ failed_is p q u n same is e =
 -- ---- Which of the two
 
 -- what was put waits
-pub sent_there : (o w : Option (List ℕ)) (out : List ℕ) (p q : ℕ × ℕ) → w ≡ option_map (λ (waits : List ℕ). waits ++ out) o → IsSome o → q ≡ (next p.0, p.1) → CountsSent w p q
-sent_there None w out p q e there more = absurd (let u : ⊥ = cc in u)
-sent_there (Some waits) w out p q e there more = subst (λ (x : Option (List ℕ)). CountsSent x p q) (sym e) more
+pub sent_there : (Fails : Type 0) (o w : Option (List ℕ)) (out : List ℕ) (p q : ℕ × ℕ) → w ≡ option_map (λ (waits : List ℕ). waits ++ out) o → IsSome o → q ≡ (next p.0, p.1) → CountsSent Fails w p q
+sent_there Fails None w out p q e there more = absurd (let u : ⊥ = cc in u)
+sent_there Fails (Some waits) w out p q e there more = subst (λ (x : Option (List ℕ)). CountsSent Fails x p q) (sym e) more
 
-pub sent_gone : (number : ℕ) (ls : List Link) (p q : ℕ × ℕ) → waits_on number ls ≡ None → q ≡ (p.0, next p.1) → CountsSent (waits_on number ls) p q
-sent_gone number ls p q gone failed = subst (λ (x : Option (List ℕ)). CountsSent x p q) (sym gone) failed
+pub sent_gone : (Fails : Type 0) (number : ℕ) (ls : List Link) (p q : ℕ × ℕ) → waits_on number ls ≡ None → q ≡ (p.0, next p.1) → Fails → CountsSent Fails (waits_on number ls) p q
+sent_gone Fails number ls p q gone failed why = subst (λ (x : Option (List ℕ)). CountsSent Fails x p q) (sym gone) (failed, why)
+
+-- for another reason, to which that leads
+sent_for : (F G : Type 0) (w : Option (List ℕ)) (p q : ℕ × ℕ) → (F → G) → CountsSent F w p q → CountsSent G w p q
+sent_for F G None p q more h = (h.0, more h.1)
+sent_for F G (Some waits) p q more h = h
+
+unfit_of : (out : List ℕ) (o : Option Link) → option_map (λ (l : Link). fits (queue_in l.out) out) o ≡ Some false → option_map (λ (p : Queue). fits p out) (option_map (λ (l : Link). queue_in l.out) o) ≡ Some false
+unfit_of out None h = absurd (let u : ⊥ = cc in u)
+unfit_of out (Some l) h = h
+
+pub unfit_there : (number : ℕ) (out : List ℕ) (ls : List Link) → HasNoRoom number out ls → IsUnfit out (queue_on number ls)
+unfit_there number out ls h = unfit_of out (link_at number ls) h
 
 -- what an application held
 pub counted_by : {A E : Type 0} (r : Result A E) (key : ℕ) (left : Left) (o : Option Hold) (gives : Bool) (way : pool.Way) (old mid new : code.Relay) (d : pools.Pool) (before after : List ℕ) → o ≡ find_key key old.pool.holds.items
     → IsNumberOf o (Some left) → left.is_there ≡ true → IsReached (pool_in old.pool) → (l : Option Left) → l ≡ Some left
     → (IsReached (pool_in old.pool) → GoesOutBy old.pool.service (find_key key old.pool.holds.items) l before after)
-    → Turns (pool.Leaves key gives way) (pool_in old.pool) (pool_in d) before after → mid.pool ≡ d → mid.links.items ≡ old.links.items → cleaned_in mid ≡ cleaned_in old
-    → (find_number left.number (pool_in mid.pool).holds ≡ None → IsSome (waits_on left.number mid.links.items) → OnOk r (CountsSent (waits_on left.number new.links.items) (cleaned_in mid) (cleaned_in new)))
+    → Turns (pool.Leaves key gives way) (pool_in old.pool) (pool_in d) before after → mid.pool ≡ d → mid.links.items ≡ old.links.items → cleaned_in mid ≡ cleaned_in old → before ≡ [] → mid.outbox.items ≡ after
+    → (find_number left.number (pool_in mid.pool).holds ≡ None → IsSome (waits_on left.number mid.links.items)
+    → OnOk r (CountsSent (HasNoRoom left.number mid.outbox.items mid.links.items) (waits_on left.number new.links.items) (cleaned_in mid) (cleaned_in new)))
     → OnOk r (CountsAtEnd key old new)
-counted_by (Ok x) key left o gives way old mid new d before after same is there reached l its_left ends t at links figures counts = λ hold its was.
+counted_by (Ok x) key left o gives way old mid new d before after same is there reached l its_left ends t at links figures empty out counts = λ hold its was.
     let free = left_free key left o gives way old mid d before after same is there reached l its_left ends t at hold its in
-    subst (λ (n : ℕ). CountsSent (waits_on n new.links.items) (cleaned_in old) (cleaned_in new)) free.0
-    (subst (λ (p : ℕ × ℕ). CountsSent (waits_on left.number new.links.items) p (cleaned_in new)) figures
-    (counts free.1 (subst (λ (n : ℕ). IsSome (waits_on n mid.links.items)) (sym free.0) (subst (λ (ls : List Link). IsSome (waits_on hold.number ls)) (sym links) was))))
-counted_by (Err x) key left o gives way old mid new d before after same is there reached l its_left ends t at links figures counts = tt
+    let e : IsPutBehind (GoesOutAtEnd text_of_cleaning (client_of hold.lease old.pool.service)) before after =
+    subst (λ (p : Option Hold). GoesOutBy old.pool.service p (Some left) before after) its (subst (λ (y : Option Left). GoesOutBy old.pool.service (find_key key old.pool.holds.items) y before after) its_left (ends reached)) there in
+    let puts : mid.outbox.items ≡ e.out = out ∙ e.appended ∙ ap (λ (xs : List ℕ). xs ++ e.out) empty in
+    let why : HasNoRoom left.number mid.outbox.items mid.links.items → CannotClean key hold old new = λ full.
+    inr (
+      e.out,
+      e.is,
+      unfit_there hold.number e.out old.links.items
+          (subst (λ (n : ℕ). HasNoRoom n e.out old.links.items) free.0
+          (subst (λ (xs : List ℕ). HasNoRoom left.number xs old.links.items) puts (subst (λ (ls : List Link). HasNoRoom left.number mid.outbox.items ls) links full))),
+    ) in
+    subst (λ (n : ℕ). CountsSent (CannotClean key hold old new) (waits_on n new.links.items) (cleaned_in old) (cleaned_in new)) free.0
+    (subst (λ (p : ℕ × ℕ). CountsSent (CannotClean key hold old new) (waits_on left.number new.links.items) p (cleaned_in new)) figures
+    (sent_for (HasNoRoom left.number mid.outbox.items mid.links.items) (CannotClean key hold old new) (waits_on left.number new.links.items) (cleaned_in mid) (cleaned_in new) why
+    (counts free.1 (subst (λ (n : ℕ). IsSome (waits_on n mid.links.items)) (sym free.0) (subst (λ (ls : List Link). IsSome (waits_on hold.number ls)) (sym links) was)))))
+counted_by (Err x) key left o gives way old mid new d before after same is there reached l its_left ends t at links figures empty out counts = tt
+
+-- the pool has it no more
+given_up : (key : ℕ) (left : Left) (gives : Bool) (way : pool.Way) (old new : code.Relay) (d : pools.Pool) (before after : List ℕ) (l : Option Left) → IsReached (pool_in old.pool) → l ≡ Some left
+    → (IsReached (pool_in old.pool) → LeavesSeat l (pool_in old.pool).service (pool_in d).service) → left.is_there ≡ false → Turns (pool.Leaves key gives way) (pool_in old.pool) (pool_in d) before after → new.pool ≡ d
+    → IsGivenUp key left.number (pool_in old.pool) (pool_in new.pool)
+given_up key left gives way old new d before after l reached its_left seats gone t at =
+    let stays : SeatStays left.is_there left.number (pool_in old.pool).service (pool_in d).service =
+    subst (λ (o : Option Left). LeavesSeat o (pool_in old.pool).service (pool_in d).service) its_left (seats reached) in
+    let none : has_seat left.number (pool_in d).service ≡ false = stays.here ∙ ap (λ (b : Bool). b && has_seat left.number (pool_in old.pool).service) gone in
+    record {
+      gives = gives;
+      way = way;
+      lost = ap (λ (x : Pool). has_seat left.number x.service) (sym t.pool_is) ∙ none;
+      goes = λ by from h. subst (λ (x : Pool). Reaches by from x) (sym (ap pool_in at ∙ t.pool_is)) h;
+    }
 
 pub shut_counted : {A E : Type 0} (r : Result A E) (key : ℕ) (left : Left) (o : Option Hold) (old new : code.Relay) → o ≡ find_key key old.pool.holds.items → IsNumberOf o (Some left) → cleaned_in new ≡ (old.cleanings, next old.failed)
-    → OnOk r (waits_on left.number new.links.items ≡ None) → OnOk r (CountsAtEnd key old new)
-shut_counted (Ok x) key left o old new same is failed gone = λ hold its was.
+    → OnOk r (waits_on left.number new.links.items ≡ None) → (gives : Bool) (way : pool.Way) (d : pools.Pool) (before after : List ℕ) (l : Option Left) → IsReached (pool_in old.pool) → l ≡ Some left
+    → (IsReached (pool_in old.pool) → LeavesSeat l (pool_in old.pool).service (pool_in d).service) → left.is_there ≡ false → Turns (pool.Leaves key gives way) (pool_in old.pool) (pool_in d) before after → new.pool ≡ d
+    → OnOk r (CountsAtEnd key old new)
+shut_counted (Ok x) key left o old new same is failed gone gives way d before after l reached its_left seats none t at = λ hold its was.
     let number : left.number ≡ hold.number = subst (λ (p : Option Hold). IsNumberOf p (Some left)) (same ∙ its) is in
-    subst (λ (n : ℕ). CountsSent (waits_on n new.links.items) (cleaned_in old) (cleaned_in new)) number (sent_gone left.number new.links.items (cleaned_in old) (cleaned_in new) gone failed)
-shut_counted (Err x) key left o old new same is failed gone = tt
+    let up : IsGivenUp key hold.number (pool_in old.pool) (pool_in new.pool) =
+    subst (λ (n : ℕ). IsGivenUp key n (pool_in old.pool) (pool_in new.pool)) number (given_up key left gives way old new d before after l reached its_left seats none t at) in
+    subst (λ (n : ℕ). CountsSent (CannotClean key hold old new) (waits_on n new.links.items) (cleaned_in old) (cleaned_in new)) number
+    (sent_gone (CannotClean key hold old new) left.number new.links.items (cleaned_in old) (cleaned_in new) gone failed (inl up))
+shut_counted (Err x) key left o old new same is failed gone gives way d before after l reached its_left seats none t at = tt
 
 pub nobody_counted : (key : ℕ) (o : Option Hold) (old new : code.Relay) → o ≡ find_key key old.pool.holds.items → IsNumberOf o None → CountsAtEnd key old new
 nobody_counted key o old new same is = λ hold its was. absurd (subst (λ (p : Option Hold). IsNumberOf p None) (same ∙ its) is)
@@ -263,20 +312,24 @@ seen_none : (o : Option Link) → option_map bytes_on o ≡ None → option_map 
 seen_none None e = refl
 seen_none (Some l) e = absurd (let u : ⊥ = cc in u)
 
-gone_or : {Was : Option (List ℕ)} (Lost : Type 0) (number : ℕ) (p q u : ℕ × ℕ) (ns : List Link) (w : List ℕ) → u ≡ (next p.0, p.1) → (Was ≡ None) ⊎ Lost → Was ≡ Some w → CountsSince Lost number p u ns
-gone_or Lost number p q u ns w counts (inl none) was = absurd (let e : Some w ≡ None = sym was ∙ none in let f : ⊥ = cc in f)
-gone_or Lost number p q u ns w counts (inr gone) was = cleaning.IsCleaned counts (inr gone)
+gone_or : {Was : Option (List ℕ)} (Fails Lost : Type 0) (number : ℕ) (p q u : ℕ × ℕ) (ns : List Link) (w : List ℕ) → u ≡ (next p.0, p.1) → (Was ≡ None) ⊎ Lost → Was ≡ Some w → CountsSince Fails Lost number p u ns
+gone_or Fails Lost number p q u ns w counts (inl none) was = absurd (let e : Some w ≡ None = sym was ∙ none in let f : ⊥ = cc in f)
+gone_or Fails Lost number p q u ns w counts (inr gone) was = cleaning.IsCleaned counts (inr gone)
 
-since_by : (Lost : Type 0) (number : ℕ) (p q u : ℕ × ℕ) (ms ns : List Link) (w v : Option (List ℕ)) → waits_on number ms ≡ w → waits_on number ns ≡ v → CountsSent w p q → u ≡ q → CalledAt (seen_at number ms) (seen_at number ns)
-    → (waits_on number ns ≡ None → (waits_on number ms ≡ None) ⊎ Lost) → CountsSince Lost number p u ns
-since_by Lost number p q u ms ns None v was is counts same called lost =
-    cleaning.IsFailed (same ∙ counts) (subst (λ (o : Option Seen). CalledAt o (seen_at number ns)) (seen_none (link_at number ms) was) called)
-since_by Lost number p q u ms ns (Some w) (Some v) was is counts same called lost = cleaning.IsCleaned (same ∙ counts) (inl (subst IsSome (sym is) refl))
-since_by Lost number p q u ms ns (Some w) None was is counts same called lost = gone_or Lost number p q u ns w (same ∙ counts) (lost is) was
+since_by : (Fails Lost : Type 0) (number : ℕ) (p q u : ℕ × ℕ) (ms ns : List Link) (w v : Option (List ℕ)) → waits_on number ms ≡ w → waits_on number ns ≡ v → CountsSent Fails w p q → u ≡ q
+    → CalledAt (seen_at number ms) (seen_at number ns) → (waits_on number ns ≡ None → (waits_on number ms ≡ None) ⊎ Lost) → CountsSince Fails Lost number p u ns
+since_by Fails Lost number p q u ms ns None v was is counts same called lost =
+    cleaning.IsFailed (same ∙ counts.0) (subst (λ (o : Option Seen). CalledAt o (seen_at number ns)) (seen_none (link_at number ms) was) called) counts.1
+since_by Fails Lost number p q u ms ns (Some w) (Some v) was is counts same called lost = cleaning.IsCleaned (same ∙ counts) (inl (subst IsSome (sym is) refl))
+since_by Fails Lost number p q u ms ns (Some w) None was is counts same called lost = gone_or Fails Lost number p q u ns w (same ∙ counts) (lost is) was
 
-pub since_at : (Lost : Type 0) (number : ℕ) (p q u : ℕ × ℕ) (ms ns : List Link) → CountsSent (waits_on number ms) p q → u ≡ q → OpensLinks ms ns → (waits_on number ns ≡ None → (waits_on number ms ≡ None) ⊎ Lost)
-    → CountsSince Lost number p u ns
-since_at Lost number p q u ms ns counts same opens lost = since_by Lost number p q u ms ns (waits_on number ms) (waits_on number ns) refl refl counts same (opens.called number) lost
+pub since_at : (Fails Lost : Type 0) (number : ℕ) (p q u : ℕ × ℕ) (ms ns : List Link) → CountsSent Fails (waits_on number ms) p q → u ≡ q → OpensLinks ms ns
+    → (waits_on number ns ≡ None → (waits_on number ms ≡ None) ⊎ Lost) → CountsSince Fails Lost number p u ns
+since_at Fails Lost number p q u ms ns counts same opens lost = since_by Fails Lost number p q u ms ns (waits_on number ms) (waits_on number ns) refl refl counts same (opens.called number) lost
+
+cannot_on : (key : ℕ) (hold : Hold) (old mid new : code.Relay) → GoesOn (pool_in mid.pool) (pool_in new.pool) → CannotClean key hold old mid → CannotClean key hold old new
+cannot_on key hold old mid new on (inl up) = inl (record { gives = up.gives; way = up.way; lost = up.lost; goes = λ by from h. on by from (up.goes by from h) })
+cannot_on key hold old mid new on (inr x) = inr x
 
 -- of who waited somebody is closed, where more is gone
 lost_since : (May : ℕ → Type 0) (a b c : Register) → ((key tag : ℕ) → open_name key b ≡ Some tag → open_name key a ≡ Some tag) → LastBut May b c → (number : ℕ) → waits_on number c.links ≡ None
@@ -284,21 +337,40 @@ lost_since : (May : ℕ → Type 0) (a b c : Register) → ((key tag : ℕ) → 
 lost_since May a b c were (inl all) number e = inl (all number e)
 lost_since May a b c were (inr y) number e = inr (record { key = y.key; may = y.may; tag = y.tag; was = were y.key y.tag y.was; closed = y.closed })
 
-pub since_served : (key : ℕ) (was : Register) (old mid new : code.Relay) → CountsAtEnd key old mid → OpensLinks mid.links.items new.links.items → cleaned_in new ≡ cleaned_in mid → ClosesOnly Nobody was (register_in mid)
+pub since_served : (key : ℕ) (was : Register) (old mid new : code.Relay) → CountsAtEnd key old mid → GoesOn (pool_in mid.pool) (pool_in new.pool) → OpensLinks mid.links.items new.links.items → cleaned_in new ≡ cleaned_in mid → ClosesOnly Nobody was (register_in mid)
     → LastBut (IsWaiting (pool_in old.pool).line) (register_in mid) (register_in new) → CountsSinceEnd key was old new
-since_served key was old mid new counts opens same closes lasts = λ hold its there.
-    since_at (LosesWaiting was old new) hold.number (cleaned_in old) (cleaned_in mid) (cleaned_in new) mid.links.items new.links.items (counts hold its there) same opens
+since_served key was old mid new counts on opens same closes lasts = λ hold its there.
+    since_at (CannotClean key hold old new) (LosesWaiting was old new) hold.number (cleaned_in old) (cleaned_in mid) (cleaned_in new) mid.links.items new.links.items
+    (sent_for (CannotClean key hold old mid) (CannotClean key hold old new) (waits_on hold.number mid.links.items) (cleaned_in old) (cleaned_in mid) (cannot_on key hold old mid new on) (counts hold its there)) same opens
     (lost_since (IsWaiting (pool_in old.pool).line) was (register_in mid) (register_in new) closes.were_open lasts hold.number)
 
-pub since_served_on : {A E : Type 0} (r : Result A E) (key : ℕ) (was : Register) (old mid new : code.Relay) → CountsAtEnd key old mid → OnOk r (OpensLinks mid.links.items new.links.items) → cleaned_in new ≡ cleaned_in mid
-    → ClosesOnly Nobody was (register_in mid) → OnOk r (LastBut (IsWaiting (pool_in old.pool).line) (register_in mid) (register_in new)) → OnOk r (CountsSinceEnd key was old new)
-since_served_on (Ok x) key was old mid new counts opens same closes lasts = since_served key was old mid new counts opens same closes lasts
-since_served_on (Err e) key was old mid new counts opens same closes lasts = tt
+pub since_served_on : {A E : Type 0} (r : Result A E) (key : ℕ) (was : Register) (old mid new : code.Relay) → CountsAtEnd key old mid → OnOk r (GoesOn (pool_in mid.pool) (pool_in new.pool))
+    → OnOk r (OpensLinks mid.links.items new.links.items) → cleaned_in new ≡ cleaned_in mid → ClosesOnly Nobody was (register_in mid) → OnOk r (LastBut (IsWaiting (pool_in old.pool).line) (register_in mid) (register_in new)) → OnOk r (CountsSinceEnd key was old new)
+since_served_on (Ok x) key was old mid new counts on opens same closes lasts = since_served key was old mid new counts on opens same closes lasts
+since_served_on (Err e) key was old mid new counts on opens same closes lasts = tt
 
--- one was brought
-pub since_brought : (number : ℕ) (old mid new : code.Relay) → CountsSent (waits_on number mid.links.items) (cleaned_in old) (cleaned_in mid) → OpensLinks mid.links.items new.links.items → cleaned_in new ≡ cleaned_in mid
+-- ---- One was brought
+
+-- nothing waits there, and a cleaning doesn't fit
+pub too_long : (size number : ℕ) (features : Features) (l : Link) (ls ms : List Link) (before outbox : List ℕ) → ls ≡ [] → ms ≡ ls ++ l ∷ [] → l.number ≡ number → IsMade size features l → bytes_on l ≡ [] → before ≡ []
+    → (p : IsPutBehind (IsCleaning text_of_cleaning) before outbox) → HasNoRoom number outbox ms → IsTooLong size
+too_long size number features l ls ms before outbox empty more is made none nothing_before p full =
+    let out : outbox ≡ p.out = p.appended ∙ ap (λ (xs : List ℕ). xs ++ p.out) nothing_before in
+    let here : (l.number == number) ≡ true = eq-eqb l.number number is in
+    let there : link_at number ms ≡ Some l = ap (link_at number) (more ∙ ap (λ (xs : List Link). xs ++ l ∷ []) empty) ∙ ap (λ (b : Bool). if b then Some l else None) here in
+    let unfit : Some (fits (queue_in l.out) p.out) ≡ Some false =
+    sym (ap (option_map (λ (x : Link). fits (queue_in x.out) p.out)) there) ∙ subst (λ (xs : List ℕ). HasNoRoom number xs ms) out full in
+    let one : fits (queue_in l.out) p.out ≡ false = (let u : Some (fits (queue_in l.out) p.out) ≡ Some false = unfit in cc) in
+    let queue : queue_in l.out ≡ nothing size =
+    ap (λ (n : ℕ). record { tag = None; size = n; bytes = bytes_on l; is_full = l.out.is_full }) made.2
+    ∙ ap (λ (xs : List ℕ). record { tag = None; size = size; bytes = xs; is_full = l.out.is_full }) none
+    ∙ ap (λ (b : Bool). record { tag = None; size = size; bytes = []; is_full = b }) made.5 in
+    (p.out, p.is, ap (λ (q : Queue). fits q p.out) (sym queue) ∙ one)
+
+pub since_brought : (Fails Now : Type 0) (number : ℕ) (old mid new : code.Relay) → (Now → Fails) → CountsSent Now (waits_on number mid.links.items) (cleaned_in old) (cleaned_in mid) → OpensLinks mid.links.items new.links.items → cleaned_in new ≡ cleaned_in mid
     → ((key tag : ℕ) → open_name key (register_in mid) ≡ Some tag → open_name key (register_in old) ≡ Some tag) → LastBut (IsWaiting (pool_in old.pool).line) (register_in mid) (register_in new)
-    → CountsSince (LosesWaiting (register_in old) old new) number (cleaned_in old) (cleaned_in new) new.links.items
-since_brought number old mid new counts opens same were lasts =
-    since_at (LosesWaiting (register_in old) old new) number (cleaned_in old) (cleaned_in mid) (cleaned_in new) mid.links.items new.links.items counts same opens
+    → CountsSince Fails (LosesWaiting (register_in old) old new) number (cleaned_in old) (cleaned_in new) new.links.items
+since_brought Fails Now number old mid new why counts opens same were lasts =
+    since_at Fails (LosesWaiting (register_in old) old new) number (cleaned_in old) (cleaned_in mid) (cleaned_in new) mid.links.items new.links.items
+    (sent_for Now Fails (waits_on number mid.links.items) (cleaned_in old) (cleaned_in mid) why counts) same opens
     (lost_since (IsWaiting (pool_in old.pool).line) (register_in old) (register_in mid) (register_in new) were lasts number)

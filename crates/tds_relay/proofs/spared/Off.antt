@@ -136,7 +136,7 @@ sent_by : (l : Option Link) → option_map (λ (s : Sending). s.1) (option_map s
 sent_by None = refl
 sent_by (Some l) = refl
 
-waits_sent : (other : ℕ) (old new : List Link) → sending_at other new ≡ sending_at other old → waits_on other new ≡ waits_on other old
+pub waits_sent : (other : ℕ) (old new : List Link) → sending_at other new ≡ sending_at other old → waits_on other new ≡ waits_on other old
 waits_sent other old new same =
     sym (sent_by (link_at other new)) ∙ ap (option_map (λ (s : Sending). s.1)) same ∙ sent_by (link_at other old)
 

@@ -3,7 +3,7 @@ use Rattle.std.proofs.Common.{◌≡◌, ◌∙◌, ◌<◌, ◌≤◌, ◌+◌,
 use Rattle.std.specs.Prelude.{Result, Ok, Err, OnOk, nat_lt}
 use Rattle.tds_wire.specs.declared.told.Token.{Token}
 use Rattle.tds_service.specs.Service as calls
-use Rattle.tds_service.specs.Service.{Call, Seat, Service, find_by, is_lendable, step, service_after}
+use Rattle.tds_service.specs.Service.{Call, Reply, Seat, Service, find_by, is_lendable, step, service_after}
 use Rattle.tds_relay.specs.declared.pool.Served.{Served}
 use Rattle.tds_relay.specs.declared.link.Link.{Link}
 use Rattle.tds_relay.specs.declared.order.Order.{Order}
@@ -11,12 +11,16 @@ use Rattle.tds_relay.specs.declared.order.Order.TheVariants as orders
 use Rattle.tds_relay.specs.declared.relay.Relay as code
 use Rattle.tds_relay.specs.Reads.{Stays}
 use Rattle.tds_relay.specs.Pool as pool
-use Rattle.tds_relay.specs.Pool.{Pool, Event, pool_after}
+use Rattle.tds_relay.specs.Pool.{Pool, Event, lent_in, pool_after, releasing}
 use Rattle.tds_relay.specs.Fronting.{calls_along}
-use Rattle.tds_relay.specs.Ordering.{GrowsByOrders, OpensNew, Rise, opens_if, opens_in}
-use Rattle.tds_relay.specs.Ties.{Cause, Goes, GoesOn, Leaving, Neither, Reaches, Serving, Turns, pool_in}
+use Rattle.tds_relay.specs.Ordering.{GrowsByOrders, OpensAbove, OpensNew, Rise, opens_if, opens_in}
+use Rattle.tds_relay.specs.Cleaning.{IsLentBy}
+use Rattle.tds_relay.specs.Ties.{Cause, Goes, GoesOn, IsReached, Leaving, Neither, Reaches, Serving, Turns, pool_in}
 use Rattle.tds_relay.proofs.bytes.Walking.{Leaves, step_leaves}
+use Rattle.tds_relay.proofs.promises.Seats.{each_found}
+use Rattle.tds_relay.proofs.promises.Tidy.{Tidy, UpTo}
 use Rattle.tds_relay.proofs.seats.Pools.{serves_at}
+use Rattle.tds_relay.proofs.spared.Held.{sound_at}
 use Rattle.tds_relay.proofs.steps.Calling.{service_along}
 use Rattle.tds_relay.proofs.steps.Reaching.{reaches_left}
 
@@ -51,7 +55,7 @@ rise_on low mid high (n ∷ ns) h le = (h.0, rise_on n mid high ns h.1 le)
 
 -- ---- How many numbers were given
 
-all_last : (s : Service) (all : List (Call Token)) → s.last ≤ (service_after s all).last
+pub all_last : (s : Service) (all : List (Call Token)) → s.last ≤ (service_after s all).last
 all_last s [] = omega arith
 all_last s (call ∷ all) =
     let one : Leaves 0 s (step s call).service = step_leaves 0 s call (omega arith) in
@@ -95,6 +99,11 @@ opens_new_both a b c h k = record {
 pub opens_new_on : {A E : Type 0} (r : Result A E) (a b c : code.Relay) → OpensNew a b → OnOk r (OpensNew b c) → OnOk r (OpensNew a c)
 opens_new_on (Ok x) a b c h k = opens_new_both a b c h k
 opens_new_on (Err e) a b c h k = tt
+
+-- none before, and above a number that was given
+pub opens_above : (number : ℕ) (a b c : code.Relay) → opens_in b.orders.items ≡ opens_in a.orders.items → number ≤ b.pool.service.last → OpensNew b c → OpensAbove number a c
+opens_above number a b c same le k =
+    record { more = k.more; are = k.are ∙ ap (λ (ns : List ℕ). ns ++ k.more) same; rise = rise_lower number b.pool.service.last c.pool.service.last k.more le k.rise }
 
 -- ---- One is lent
 
@@ -168,3 +177,27 @@ grows_pushed number l a b more opens =
 
 pub many_on : (a b c d : ℕ) → b ≤ a → c ≡ b → d ≤ c → d ≤ a
 many_on a b c d h e k = omega (arith, h, e, k)
+
+-- ---- What is brought has a number that was given
+
+opened_low : (s : Service) (b : Bool) (lease number : ℕ) (had : Bool) → (calls.opens {T = Token} s b).reply ≡ calls.Lent lease number had → number ≤ (calls.opens {T = Token} s b).service.last
+opened_low s false lease number had e = absurd (let u : calls.AllInUse ≡ calls.Lent lease number had = e in let v : ⊥ = cc in v)
+opened_low s true lease number had e =
+    let is : suc s.last ≡ number = (let u : calls.Lent (suc s.given) (suc s.last) false ≡ calls.Lent lease number had = e in cc) in
+    (let u : number ≤ suc s.last = omega (arith, is) in u)
+
+lent_low : (s : Service) (o : Option Seat) (lease number : ℕ) (had : Bool) → Tidy s → find_by is_lendable s.seats ≡ o → (calls.lends {T = Token} s o).reply ≡ calls.Lent lease number had
+    → number ≤ (calls.lends {T = Token} s o).service.last
+lent_low s None lease number had tidy e reply = opened_low s (nat_lt (length s.seats) s.max) lease number had reply
+lent_low s (Some c) lease number had tidy e reply =
+    let is : c.number ≡ number = (let u : calls.Lent (suc s.given) c.number true ≡ calls.Lent lease number had = reply in cc) in
+    subst (λ (n : ℕ). n ≤ s.last) is (each_found (UpTo s.last) is_lendable c s.seats tidy.upto e)
+
+pub brought_low : (d e : Pool) (gives : Bool) (way : pool.Way) (number : ℕ) (before after : List ℕ) → IsReached d → IsLentBy number d.service → Turns (pool.Brings gives way) d e before after → number ≤ e.service.last
+brought_low d e gives way number before after reached lent t =
+    let s : Service = (step {T = Token} d.service calls.Lease).service in
+    let low : number ≤ s.last = lent_low d.service (find_by is_lendable d.service.seats) lent.0 number lent.1 (sound_at d reached).tidy refl lent.2 in
+    let is : e.service ≡ service_after s (releasing s lent.0 number gives way) =
+    ap (λ (x : Pool). x.service) t.pool_is ∙ ap (λ (r : Reply). (pool.brings_by d s gives way (lent_in r)).pool.service) lent.2 in
+    let rises : s.last ≤ (service_after s (releasing s lent.0 number gives way)).last = all_last s (releasing s lent.0 number gives way) in
+    subst (λ (x : Service). number ≤ x.last) (sym is) (omega (arith, low, rises))

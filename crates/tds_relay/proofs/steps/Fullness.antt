@@ -1,9 +1,10 @@
 -- Each connection is as full as it was, and its packets are as long.
-use Rattle.std.proofs.Common.{◌≡◌, ◌∙◌, ◌==◌, ℕ, zero, suc, not, Bool, true, false, List, [], ◌∷◌, ◌++◌, Option, Some, None, refl, sym, ap, subst, slice_index_or, slice_set, option_map, if◌then◌else◌}
+use Rattle.std.proofs.Common.{◌≡◌, ◌≢◌, ◌∙◌, ◌==◌, ℕ, zero, suc, not, Bool, true, false, List, [], ◌∷◌, ◌++◌, Option, Some, None, refl, sym, ap, subst, slice_index_or, slice_set, option_map, if◌then◌else◌}
+use Rattle.std.specs.Prelude.{IfSome}
 use Rattle.tds_packet.specs.Reading.{Reading}
 use Rattle.tds_relay.specs.declared.link.Link.{Link}
 use Rattle.tds_relay.specs.Queues.{Queue, queue_in}
-use Rattle.tds_relay.specs.Reads.{Fullness, StaysAt, if_open, fullness_at, fullness_of, link_at, open_fullness, open_of, queue_on, seen_of}
+use Rattle.tds_relay.specs.Reads.{Fullness, NoneFills, StaysAt, if_open, fullness_at, fullness_of, link_at, open_fullness, open_of, queue_on, seen_of}
 
 at_refl : {A : Type 0} (o : Option A) → StaysAt o o
 at_refl None = tt
@@ -39,7 +40,7 @@ either_full : (b : Bool) (l m : Link) (o p : Option Link) → fullness_of l ≡ 
 either_full true l m o p same rest = ap Some same
 either_full false l m o p same rest = rest
 
-same_full : (ls : List Link) (i : ℕ) (d m : Link) → m.number ≡ (slice_index_or ls i d).number → fullness_of m ≡ fullness_of (slice_index_or ls i d) → (n : ℕ) → fullness_at n (slice_set ls i m) ≡ fullness_at n ls
+pub same_full : (ls : List Link) (i : ℕ) (d m : Link) → m.number ≡ (slice_index_or ls i d).number → fullness_of m ≡ fullness_of (slice_index_or ls i d) → (n : ℕ) → fullness_at n (slice_set ls i m) ≡ fullness_at n ls
 same_full [] i d m number same n = refl
 same_full (x ∷ xs) zero d m number same n =
     ap (λ (k : ℕ). option_map fullness_of (if k == n then Some m else link_at n xs)) number ∙ either_full (x.number == n) m x (link_at n xs) (link_at n xs) same refl
@@ -102,3 +103,35 @@ full_come (x ∷ xs) zero d m number is_open same n =
     (either_filled (x.number == n) x m (link_at n xs) (link_at n xs) (same_filled x m is_open same) (at_refl (open_fullness n xs)))
 full_come (x ∷ xs) (suc i) d m number is_open same n =
     either_filled (x.number == n) x x (link_at n xs) (link_at n (slice_set xs i m)) refl (full_come xs i d m number is_open same n)
+
+-- ---- None is full that wasn't
+
+pub stays_none : (ls ms : List Link) → ((number : ℕ) → StaysAt (fullness_at number ls) (fullness_at number ms)) → NoneFills ls ms
+stays_none ls ms stays = λ number size e. subst (λ (o : Option Fullness). StaysAt (fullness_at number ls) o) e (stays number)
+
+abbrev filled_to : Option Fullness → Bool
+filled_to None = false
+filled_to (Some f) = f.1
+
+alone_none : (b : Bool) (l : Link) (size : ℕ) → l.out.is_full ≡ false → option_map fullness_of (if b then Some l else None) ≢ Some (size, true)
+alone_none true l size fits = λ e. let u : false ≡ true = sym fits ∙ ap filled_to e in let v : ⊥ = cc in v
+alone_none false l size fits = λ e. let u : false ≡ true = ap filled_to e in let v : ⊥ = cc in v
+
+behind_none : (b : Bool) (x : Link) (o p : Option Link) (size : ℕ) → (option_map fullness_of p ≡ Some (size, true) → option_map fullness_of o ≡ Some (size, true))
+    → option_map fullness_of (if b then Some x else p) ≡ Some (size, true) → option_map fullness_of (if b then Some x else o) ≡ Some (size, true)
+behind_none true x o p size rest e = e
+behind_none false x o p size rest e = rest e
+
+-- one is put behind them, which isn't full
+pub pushed_none : (ls : List Link) (l : Link) → l.out.is_full ≡ false → NoneFills ls (ls ++ l ∷ [])
+pushed_none [] l fits = λ number size e. absurd (alone_none (l.number == number) l size fits e)
+pushed_none (x ∷ xs) l fits = λ number size. behind_none (x.number == number) x (link_at number xs) (link_at number (xs ++ l ∷ [])) size (pushed_none xs l fits number size)
+
+by_none : (o : Option Fullness) → ((size : ℕ) → o ≢ Some (size, true)) → IfSome o (λ f. f.1 ≡ false)
+by_none None h = tt
+by_none (Some (size, true)) h = absurd (h size refl)
+by_none (Some (size, false)) h = refl
+
+-- it is alone, and then none is full
+pub first_none : (l : Link) (ns : List Link) → l.out.is_full ≡ false → NoneFills (l ∷ []) ns → (other : ℕ) → IfSome (fullness_at other ns) (λ f. f.1 ≡ false)
+first_none l ns fits none other = by_none (fullness_at other ns) (λ size e. alone_none (l.number == other) l size fits (none other size e))

@@ -5,9 +5,9 @@ use Rattle.std.proofs.lemmas.Bool.{eqb-false, eqb-true}
 use Rattle.tds_packet.specs.Reading.{Reading}
 use Rattle.tds_relay.specs.declared.link.Link.{Link}
 use Rattle.tds_relay.specs.Queues.{Queue, queue_in}
-use Rattle.tds_relay.specs.Reads.{FillsAt, Opens, OpensFirst, OpensOthers, StaysAt, Stays, answer_at, bytes_on, if_open, link_at, open_at, open_of, open_waits, opened_at, place_from, place_of, reader_at, reader_of, seen_at, seen_of}
+use Rattle.tds_relay.specs.Reads.{FillsAt, NoneFills, Opens, OpensFirst, OpensOthers, StaysAt, Stays, answer_at, bytes_on, if_open, link_at, open_at, open_of, open_waits, opened_at, place_from, place_of, reader_at, reader_of, seen_at, seen_of}
 use Rattle.tds_relay.proofs.steps.Beginning.{other_answer, same_begins}
-use Rattle.tds_relay.proofs.steps.Fullness.{full_by, full_come}
+use Rattle.tds_relay.proofs.steps.Fullness.{first_none, full_by, full_come, same_full}
 use Rattle.tds_relay.proofs.steps.Naming.{written_called}
 use Rattle.tds_relay.proofs.steps.Staying.{at_refl, fills_refl, shut, either_reader, opens_both, stays_opens, waits_of}
 
@@ -140,6 +140,7 @@ others_written number ls place d m is same is_open tag queue = record {
       (other_open number other ls place d m (is_at number ls place is) same (λ e. differs (sym e)))
       (other_answer ls place d m other same (ap (λ (k : ℕ). k == other) ((is_at number ls place is).named d) ∙ differs_by (number == other) number other refl (λ e. differs (sym e))));
   fullness = λ other. full_come ls place d m same is_open (ap full_by queue) other;
+  full = λ other size e. sym (same_full ls place d m same (ap full_by queue) other) ∙ e;
   called = λ other. written_called ls place d m same (is_open, tag) other;
 }
 
@@ -185,10 +186,13 @@ none_there [] e = refl
 none_there (x ∷ xs) e = absurd (let none : length (x ∷ xs) ≡ 0 = eqb-true (length (x ∷ xs)) 0 e in let u : ⊥ = cc in u)
 
 -- it comes, with nothing of a packet, and those who wait are served
-pub first_opens : (number : ℕ) (l : Link) (ls ms ks ns : List Link) → (length ls == 0) ≡ true → ms ≡ ls ++ l ∷ [] → l.number ≡ number → l.reader.taken ≡ [] → l.is_open ≡ true → Stays ms ks → Opens ks ns
+pub first_opens : (number : ℕ) (l : Link) (ls ms ks ns : List Link) → (length ls == 0) ≡ true → ms ≡ ls ++ l ∷ [] → l.number ≡ number → l.reader.taken ≡ [] → l.is_open ≡ true → l.out.is_full ≡ false → Stays ms ks → Opens ks ns
     → OpensFirst (Some number) ls ns
-first_opens number l ls ms ks ns none pushed same nothing is_open stays opens = λ other.
+first_opens number l ls ms ks ns none pushed same nothing is_open fits stays opens = λ other.
     let are : ms ≡ l ∷ [] = pushed ∙ ap (λ (xs : List Link). xs ++ l ∷ []) (none_there ls none) in
-    some_stays (λ r. (other ≡ number) × (r.taken ≡ [])) (open_at other ms) (open_at other ns) ((opens_both ms ks ns (stays_opens ms ks stays) opens).opens other)
-    (subst (λ (xs : List Link). IfSome (open_at other xs) (λ r. (other ≡ number) × (r.taken ≡ []))) (sym are)
-    (alone_by (l.number == other) number other l refl same nothing is_open))
+    let both : Opens ms ns = opens_both ms ks ns (stays_opens ms ks stays) opens in (
+      some_stays (λ r. (other ≡ number) × (r.taken ≡ [])) (open_at other ms) (open_at other ns) (both.opens other)
+          (subst (λ (xs : List Link). IfSome (open_at other xs) (λ r. (other ≡ number) × (r.taken ≡ []))) (sym are)
+          (alone_by (l.number == other) number other l refl same nothing is_open)),
+      first_none l ns fits (subst (λ (xs : List Link). NoneFills xs ns) are both.full) other,
+    )

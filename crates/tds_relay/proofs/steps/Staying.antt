@@ -6,7 +6,7 @@ use Rattle.tds_packet.specs.Reading.{Reading}
 use Rattle.tds_relay.specs.declared.link.Answer.{Answer}
 use Rattle.tds_relay.specs.declared.link.Link.{Link}
 use Rattle.tds_relay.proofs.steps.Beginning.{answer_begins, answer_stays, begin_both, begin_refl, begins_choose, begins_written, open_begins, pushed_begins}
-use Rattle.tds_relay.proofs.steps.Fullness.{full_both, full_choose, full_open, full_pushed, full_refl, full_written}
+use Rattle.tds_relay.proofs.steps.Fullness.{full_both, full_choose, full_open, full_pushed, full_refl, full_written, pushed_none, stays_none}
 use Rattle.tds_relay.specs.Cutting.{at_its_beginning}
 use Rattle.tds_relay.proofs.steps.Naming.{called_both, called_refl, called_stays, pushed_called}
 use Rattle.tds_relay.specs.Reads.{CalledAt, FillsAt, FillsBy, Opens, OpensOne, OpensOthers, MayBegin, Seen, Sees, StaysAt, Stays, Fullness, answer_at, answer_on, bytes_on, fullness_at, fullness_of, if_open, link_at, open_answer, open_at, open_fullness, open_of, open_waits, opened_at, opened_seen, reader_at, reader_of, seen_at, seen_of, waits_on, without_link}
@@ -253,6 +253,7 @@ opens_refl ls = record {
   fills = λ number. fills_refl (open_waits number ls);
   begins = λ number. begin_refl (open_answer number ls);
   fullness = λ number. full_refl (open_fullness number ls);
+  full = λ number size e. e;
   called = λ number. called_refl (seen_at number ls);
 }
 
@@ -262,6 +263,7 @@ opens_both ls ms ns h k = record {
   fills = λ number. fills_both (open_waits number ls) (open_waits number ms) (open_waits number ns) (h.fills number) (k.fills number);
   begins = λ number. begin_both (open_answer number ls) (open_answer number ms) (open_answer number ns) (h.begins number) (k.begins number);
   fullness = λ number. full_both (open_fullness number ls) (open_fullness number ms) (open_fullness number ns) (h.fullness number) (k.fullness number);
+  full = λ number size e. h.full number size (k.full number size e);
   called = λ number. called_both (seen_at number ls) (seen_at number ms) (seen_at number ns) (h.called number) (k.called number);
 }
 
@@ -278,6 +280,7 @@ stays_opens ls ms stays =
       fills = λ number. open_fills (open_at number ls) (open_at number ms) (waits_on number ls) (waits_on number ms) (same number) (stays.fills number);
       begins = λ number. open_begins (open_at number ls) (open_at number ms) (answer_at number ls) (answer_at number ms) (same number) (stays.begins number);
       fullness = λ number. full_open (open_at number ls) (open_at number ms) (fullness_at number ls) (fullness_at number ms) (same number) (stays.fullness number);
+      full = stays_none ls ms stays.fullness;
       called = λ number. called_stays (seen_at number ls) (seen_at number ms) (stays.seen number (seen_at number ls) (at_refl (seen_at number ls)));
     }
 
@@ -301,12 +304,13 @@ pushed_fills : (ls : List Link) (l : Link) → l.is_open ≡ false → (number :
 pushed_fills [] l closed number = fills_one (l.number == number) l closed
 pushed_fills (x ∷ xs) l closed number = fills_behind (x.number == number) x (link_at number xs) (link_at number (xs ++ l ∷ [])) (pushed_fills xs l closed number)
 
-pub opens_pushed : (ls : List Link) (l : Link) → l.is_open ≡ false → l.tag ≡ None → Opens ls (ls ++ l ∷ [])
-opens_pushed ls l closed unnamed = record { opens = pushed_open ls l closed; fills = pushed_fills ls l closed; begins = pushed_begins ls l closed; fullness = full_pushed ls l closed; called = pushed_called ls l closed unnamed }
+pub opens_pushed : (ls : List Link) (l : Link) → l.is_open ≡ false → l.out.is_full ≡ false → l.tag ≡ None → Opens ls (ls ++ l ∷ [])
+opens_pushed ls l closed fits unnamed =
+    record { opens = pushed_open ls l closed; fills = pushed_fills ls l closed; begins = pushed_begins ls l closed; fullness = full_pushed ls l closed; full = pushed_none ls l fits; called = pushed_called ls l closed unnamed }
 
-pub opens_by_push : (ls ms ns : List Link) (l : Link) → ms ≡ ls → ns ≡ ms ++ l ∷ [] → l.is_open ≡ false → l.tag ≡ None → Opens ls ns
-opens_by_push ls ms ns l same pushed closed unnamed =
-    subst (λ (xs : List Link). Opens ls xs) (sym (pushed ∙ ap (λ (xs : List Link). xs ++ l ∷ []) same)) (opens_pushed ls l closed unnamed)
+pub opens_by_push : (ls ms ns : List Link) (l : Link) → ms ≡ ls → ns ≡ ms ++ l ∷ [] → l.is_open ≡ false → l.out.is_full ≡ false → l.tag ≡ None → Opens ls ns
+opens_by_push ls ms ns l same pushed closed fits unnamed =
+    subst (λ (xs : List Link). Opens ls xs) (sym (pushed ∙ ap (λ (xs : List Link). xs ++ l ∷ []) same)) (opens_pushed ls l closed fits unnamed)
 
 pub opens_on : {A E : Type 0} (r : Result A E) (ls ms ns : List Link) → Stays ls ms → OnOk r (Stays ms ns) → OnOk r (Opens ls ns)
 opens_on (Ok x) ls ms ns h k = stays_opens ls ns (stays_both ls ms ns h k)
@@ -334,6 +338,7 @@ opens_one_served (Ok x) number ls ks ms ns opened waits answers seen full h k =
       fullness = λ other.
           subst (λ (o : Option Reading). StaysAt (if_open o (fullness_at other ls)) (open_fullness other ns)) (opened other)
           (subst (λ (f : Option Fullness). StaysAt (if_open (open_at other ks) f) (open_fullness other ns)) (full other) (both.fullness other));
+      full = λ other size e. sym (full other) ∙ both.full other size e;
       called = λ other. subst (λ (o : Option Seen). CalledAt o (seen_at other ns)) (seen other) (both.called other);
     }
 opens_one_served (Err e) number ls ks ms ns opened waits answers seen full h k = tt
@@ -345,7 +350,7 @@ opens_alone number ls ks ms opened waits answers seen full h = opens_one_served 
 
 -- all but one
 pub others_open : (number : ℕ) (ls ms : List Link) → Opens ls ms → OpensOthers number ls ms
-others_open number ls ms opens = record { opens = λ other differs. opens.opens other; fills = opens.fills; begins = λ other differs. opens.begins other; fullness = opens.fullness; called = opens.called }
+others_open number ls ms opens = record { opens = λ other differs. opens.opens other; fills = opens.fills; begins = λ other differs. opens.begins other; fullness = opens.fullness; full = opens.full; called = opens.called }
 
 pub others_both : (number : ℕ) (ls ms ns : List Link) → OpensOthers number ls ms → OpensOthers number ms ns → OpensOthers number ls ns
 others_both number ls ms ns h k = record {
@@ -353,6 +358,7 @@ others_both number ls ms ns h k = record {
   fills = λ other. fills_both (open_waits other ls) (open_waits other ms) (open_waits other ns) (h.fills other) (k.fills other);
   begins = λ other differs. begin_both (open_answer other ls) (open_answer other ms) (open_answer other ns) (h.begins other differs) (k.begins other differs);
   fullness = λ other. full_both (open_fullness other ls) (open_fullness other ms) (open_fullness other ns) (h.fullness other) (k.fullness other);
+  full = λ other size e. h.full other size (k.full other size e);
   called = λ other. called_both (seen_at other ls) (seen_at other ms) (seen_at other ns) (h.called other) (k.called other);
 }
 

@@ -114,7 +114,7 @@ impl Pool {
             (part_on (reading_on number self.old.service) bytes.now ends))) }
         ensures read { OnOk result (AllRead number ends bytes.now self.old.service
             self.new.service) }
-        ensures cleans { IfOk result (λ heard. heard.what ≢ Closed
+        ensures cleans { IsReached (pool_in self.old) → IfOk result (λ heard. heard.what ≢ Closed
             → MayClean heard.key out.old.items out.new.items) }
         ensures seats { IsReached (pool_in self.old) → IfOk result (λ heard. HearsSeat (Some heard)
             number (pool_in self.old).service (pool_in self.new).service) }
@@ -166,7 +166,7 @@ impl Pool {
         ensures what { IfOk result (λ heard. (key : ℕ)
             → whose_by lease (pool_in self.old).holds ≡ Some key → heard ≡ what) }
         ensures stand { OnOk result (AllStand self.old.service self.new.service) }
-        ensures cleans { IfOk result (λ heard. heard ≢ Closed
+        ensures cleans { IsLed (pool_in self.old).service → IfOk result (λ heard. heard ≢ Closed
             → MayClean lease out.old.items out.new.items) }
         ensures seats { IsLed (pool_in self.old).service → ((l : ℕ) → lease ≡ Some l
             → HasNumber l number (pool_in self.old).service) → is_left what ≡ true

@@ -2,7 +2,7 @@
 ghost use Rattle.std.specs.Prelude.{◌≡◌, IfNone, IfOk, IfSome, List, None, OnOk, Some};
 ghost use Rattle.std.specs.Prelude.{IsSome, true};
 ghost use Rattle.tds_relay.specs.Cleaning.{CleaningWaits, CountsBrought, CountsSince, IsFirst, IsLentBy};
-ghost use Rattle.tds_relay.specs.Cleaning.{IsNotBrought, LosesWaiting, cleaned_in};
+ghost use Rattle.tds_relay.specs.Cleaning.{IsNotBrought, IsTooLong, LosesWaiting, cleaned_in};
 ghost use Rattle.tds_relay.specs.Closings.{ClosesOnly, IsWaiting};
 ghost use Rattle.tds_relay.specs.Closings.{register_in, settings_in, with_links};
 ghost use Rattle.tds_relay.specs.Apart.{LendsInTurn};
@@ -12,7 +12,7 @@ ghost use Rattle.tds_relay.specs.Machine.{Steps};
 ghost use Rattle.tds_relay.specs.Queues.{names_in, queues_in};
 ghost use Rattle.tds_relay.specs.Reads.{IsCalled, OpensFirst};
 ghost use Rattle.tds_relay.specs.Reads.{open_waits, seen_at};
-ghost use Rattle.tds_relay.specs.Ordering.{OpensNew, StayOrdered};
+ghost use Rattle.tds_relay.specs.Ordering.{OpensAbove, OpensNew, StayOrdered};
 ghost use Rattle.tds_relay.specs.Sparing.{AllGo};
 ghost use Rattle.tds_relay.specs.Ties.{Goes, IsReached, Neither};
 ghost use Rattle.tds_relay.specs.Ties.{pool_in};
@@ -54,9 +54,12 @@ impl Relay {
         ensures counts { IfOk result (λ brought. CountsBrought brought
             (cleaned_in self.old) (cleaned_in self.new)) }
         ensures cleaned { IsReached (pool_in self.old.pool) → IfOk result (λ brought.
-            IfSome brought (λ number. CountsSince (LosesWaiting (register_in self.old) self.old
-            self.new) number (cleaned_in self.old) (cleaned_in self.new) self.new.links.items)) }
+            IfSome brought (λ number. CountsSince (IsTooLong self.old.size)
+            (LosesWaiting (register_in self.old) self.old self.new) number (cleaned_in self.old)
+            (cleaned_in self.new) self.new.links.items)) }
         ensures opening { OnOk result (OpensNew self.old self.new) }
+        ensures dials { IsReached (pool_in self.old.pool) → IfOk result (λ brought.
+            IfSome brought (λ number. OpensAbove number self.old self.new)) }
         ensures cleans { IsReached (pool_in self.old.pool) → IfOk result (λ brought. IfSome brought
             (λ number. CleaningWaits (IsSome (holder (pool_in self.new.pool) number))
             (open_waits number self.new.links.items))) }

@@ -1,10 +1,10 @@
 //! What comes on connections.
 ghost use Rattle.std.specs.Prelude.{◌≡◌, ◌⊎◌, ◌≤◌, ◌+◌, ◌&&◌, [], ℕ, not, None, Some, drop, false};
-ghost use Rattle.std.specs.Prelude.{IfOk, OnOk, length, true};
+ghost use Rattle.std.specs.Prelude.{IfOk, IsSome, OnOk, length, true};
 ghost use Rattle.tds_service.specs.Table.{reading_on};
 ghost use Rattle.tds_relay.specs.Apart.{LosesOnly, SparesOthers};
 ghost use Rattle.tds_relay.specs.Bodies.{AskAsBefore, Body, body_in};
-ghost use Rattle.tds_relay.specs.Cleaning.{CountsGone, CountsLost, cleaned_in};
+ghost use Rattle.tds_relay.specs.Cleaning.{CleansAlone, CleansOn, CountsGone, CountsLost, cleaned_in};
 ghost use Rattle.tds_relay.specs.Closings.{ClosesOnly, but_told, is_shut};
 ghost use Rattle.tds_relay.specs.Closings.{register_in, settings_in};
 ghost use Rattle.tds_relay.specs.Coming.{AllAlong, ComesAnew, ContinuesAnew, StreamsAnew};
@@ -13,14 +13,14 @@ ghost use Rattle.tds_relay.specs.Faults.{IsHeaderOf, IsRefusedOn};
 ghost use Rattle.tds_relay.specs.Few.{Few, HearsSeat, IsSeated, IsSeatedBehind, NobodyWaits, NoneNew};
 ghost use Rattle.tds_relay.specs.Fronts.{end_of, ends_in, core_in, told_by, machine_in, machine_of};
 ghost use Rattle.tds_relay.specs.Fronts.{machine_with};
-ghost use Rattle.tds_relay.specs.Core.{told};
+ghost use Rattle.tds_relay.specs.Core.{holder, told};
 ghost use Rattle.tds_relay.specs.Handing.{Brings, HearsBy, IsKnown, KnowsOn, Passes, news_for, fed};
 ghost use Rattle.tds_relay.specs.Machine.{Steps};
 ghost use Rattle.tds_relay.specs.Reasons.{Cleans, IsHeardAs, IsIdle, HearsNothing};
 ghost use Rattle.tds_relay.specs.Queues.{names_in, queue_of, queues_in};
 ghost use Rattle.tds_packet.specs.Stream.{IsLess};
 ghost use Rattle.tds_relay.specs.Reads.{Comes, IsLessAt, OpensOthers, StreamsAll};
-ghost use Rattle.tds_relay.specs.Reads.{answer_at, if_heard, open_at};
+ghost use Rattle.tds_relay.specs.Reads.{answer_at, if_heard, open_at, open_waits, waits_on};
 ghost use Rattle.tds_relay.specs.Reads.{queue_on, seen_at};
 ghost use Rattle.tds_relay.specs.Bounds.{IsRoom};
 ghost use Rattle.tds_relay.specs.Ordering.{GrowsByOrders, OpensNew, StayOrdered, opens_in};
@@ -76,6 +76,10 @@ impl Relay {
         ensures many { OnOk result (GrowsByOrders self.old self.new) }
         ensures counts { OnOk result (CountsGone number self.old self.new) }
         ensures apart { OnOk result (OffGo number None self.old self.new) }
+        ensures cleans { IsReached (pool_in self.old.pool)
+            → holder (pool_in self.old.pool) number ≡ None → OnOk result (CleansOn
+            (IsSome (holder (pool_in self.new.pool) number))
+            (waits_on number self.old.links.items) (open_waits number self.new.links.items)) }
     {
         self.hear_all(number, piece)?;
         self.serve_line()
@@ -112,6 +116,9 @@ impl Relay {
         ensures many { OnOk result (length self.new.links.items ≤ length self.old.links.items) }
         ensures counts { OnOk result (CountsLost number self.old self.new) }
         ensures apart { OnOk result (OffGo number None self.old self.new) }
+        ensures cleans { IsReached (pool_in self.old.pool)
+            → holder (pool_in self.old.pool) number ≡ None → OnOk result (CleansAlone
+            (waits_on number self.old.links.items) (waits_on number self.new.links.items)) }
     {
         let mut rest = piece;
         'taking: for _ in 0..piece.len() + 1 {
@@ -158,8 +165,8 @@ impl Relay {
             × (is_shut (seen_at other self.new.links.items)
             ≡ is_shut (seen_at other self.old.links.items))) }
         ensures queues { OnOk result (KeepsQueues self.old.links.items self.new.links.items) }
-        ensures cleans { IfOk result (λ heard. Cleans (whose (pool_in self.old.pool) number)
-            heard.1 [] self.new.outbox.items) }
+        ensures cleans { IsReached (pool_in self.old.pool) → IfOk result (λ heard.
+            Cleans (whose (pool_in self.old.pool) number) heard.1 [] self.new.outbox.items) }
         ensures refused { OnOk result (IsRefusedOn number self.old.refused self.new.refused) }
         ensures hears { IfOk result (λ heard.
             (HearsNothing heard.1 × IsIdle self.old self.new)
@@ -229,8 +236,8 @@ fn hear_on(
         (fed link.old.reader piece.now) heard.1 refused.old refused.new) }
     ensures known { OnOk result (KnowsOn (fed link.old.reader piece.now) link.old.answer
         link.new.answer) }
-    ensures cleans { IfOk result (λ heard. Cleans (whose (pool_in pool.old) number) heard.1
-        outbox.old.items outbox.new.items) }
+    ensures cleans { IsReached (pool_in pool.old) → IfOk result (λ heard.
+        Cleans (whose (pool_in pool.old) number) heard.1 outbox.old.items outbox.new.items) }
     ensures seats { IsReached (pool_in pool.old) → IfOk result (λ heard. HearsSeat heard.1 number
         (pool_in pool.old).service (pool_in pool.new).service) }
     ensures off { OnOk result (OffHold number pool.old pool.new) }
@@ -273,8 +280,8 @@ fn hear_packet(
     ensures ends { OnOk result (ends_in applications.new ≡ ends_in applications.old) }
     ensures asks { OnOk result (AskAsBefore applications.old applications.new) }
     ensures known { OnOk result (KnowsOn link.old.reader link.old.answer link.new.answer) }
-    ensures cleans { IfOk result (λ heard. Cleans (whose (pool_in pool.old) number) (Some heard)
-        outbox.old.items outbox.new.items) }
+    ensures cleans { IsReached (pool_in pool.old) → IfOk result (λ heard.
+        Cleans (whose (pool_in pool.old) number) (Some heard) outbox.old.items outbox.new.items) }
     ensures seats { IsReached (pool_in pool.old) → IfOk result (λ heard. HearsSeat (Some heard)
         number (pool_in pool.old).service (pool_in pool.new).service) }
     ensures off { OnOk result (OffHold number pool.old pool.new) }

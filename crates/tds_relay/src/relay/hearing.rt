@@ -11,7 +11,7 @@ ghost use Rattle.tds_relay.specs.Fronts.{Moved, ends_in, core_in, core_of_ends, 
 ghost use Rattle.tds_relay.specs.Handing.{heard_key};
 ghost use Rattle.tds_relay.specs.Queues.{queues_in};
 ghost use Rattle.tds_relay.specs.Reads.{Stays};
-ghost use Rattle.tds_relay.specs.Reads.{reader_at, waits_on};
+ghost use Rattle.tds_relay.specs.Reads.{FillsBy, reader_at, waits_on};
 ghost use Rattle.tds_relay.specs.Ordering.{StayOrdered, opens_in};
 ghost use Rattle.tds_relay.specs.Sparing.{OffGo};
 ghost use Rattle.tds_relay.specs.Ties.{Connection, Goes, IsReached, pool_in};
@@ -54,6 +54,8 @@ impl Relay {
             → OnOk result (IsSeated self.new) }
         ensures opening { opens_in self.new.orders.items ≡ opens_in self.old.orders.items }
         ensures counts { OnOk result (CountsHeard number heard self.old self.new) }
+        ensures sent { heard_key heard ≡ None → OnOk result (FillsBy self.old.outbox.items
+            (waits_on number self.old.links.items) (waits_on number self.new.links.items)) }
         ensures apart { OnOk result (OffGo number (heard_key heard) self.old self.new) }
     {
         match heard {
@@ -93,6 +95,8 @@ impl Relay {
             → OnOk result (IsSeated self.new) }
         ensures opening { opens_in self.new.orders.items ≡ opens_in self.old.orders.items }
         ensures counts { OnOk result (CountsHeard number (Some heard) self.old self.new) }
+        ensures sent { heard.key ≡ None → OnOk result (FillsBy self.old.outbox.items
+            (waits_on number self.old.links.items) (waits_on number self.new.links.items)) }
         ensures apart { OnOk result (OffGo number (heard_key (Some heard)) self.old self.new) }
     {
         let resumes = self.tell(heard)?;

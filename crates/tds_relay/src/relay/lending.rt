@@ -58,6 +58,8 @@ impl Relay {
             ≡ named_seen tag number other self.old.links.items }
         ensures waits { (other : ℕ) → waits_on other self.new.links.items
             ≡ waits_on other self.old.links.items }
+        ensures queues { (other : ℕ) → queue_on other self.new.links.items
+            ≡ queue_on other self.old.links.items }
         ensures answers { (other : ℕ) → answer_at other self.new.links.items
             ≡ answer_at other self.old.links.items }
         ensures rest { AllRest self.old self.new }

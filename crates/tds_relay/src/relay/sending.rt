@@ -232,8 +232,9 @@ impl Relay {
         ensures counts { OnOk result (CountsOnce (cleaned_in self.old) (cleaned_in self.new)) }
         ensures cleaned { find_number number (pool_in self.old.pool).holds ≡ None
             → IsSome (waits_on number self.old.links.items)
-            → OnOk result (CountsSent (waits_on number self.new.links.items)
-            (cleaned_in self.old) (cleaned_in self.new)) }
+            → OnOk result (CountsSent (HasNoRoom number self.old.outbox.items self.old.links.items)
+            (waits_on number self.new.links.items) (cleaned_in self.old)
+            (cleaned_in self.new)) }
         ensures opening { opens_in self.new.orders.items ≡ opens_in self.old.orders.items }
         ensures holds { OnOk result (MayForget number self.old.pool.holds.items
             self.new.pool.holds.items) }

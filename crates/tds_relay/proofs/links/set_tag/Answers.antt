@@ -34,3 +34,8 @@ pub returns-clause-answers : goal.returns-clause-answers
 returns-clause-answers c = rw (← c.links.view_is) (
     written_as answer_on c.links.inside.list.items c.in-Some.place c.index_mut-link.result.now _
     (ap (λ (l : Link). l.number) c.index_mut-link.ensures.value) (ap (λ (l : Link). l.answer) c.index_mut-link.ensures.value))
+
+pub returns-clause-queues : goal.returns-clause-queues
+returns-clause-queues c = rw (← c.links.view_is) (
+    written_as (λ (l : Link). queue_in l.out) c.links.inside.list.items c.in-Some.place c.index_mut-link.result.now _
+    (ap (λ (l : Link). l.number) c.index_mut-link.ensures.value) (ap (λ (l : Link). queue_in l.out) c.index_mut-link.ensures.value))

@@ -196,12 +196,16 @@ returns-in-Err-clause-seats c = λ reached.
     c.unheard.ensures.unknown c.unheard.ensures.nobody
 
 pub returns-in_ok-what-in-Finished-clause-cleans : goal.returns-in_ok-what-in-Finished-clause-cleans
-returns-in_ok-what-in-Finished-clause-cleans c = λ lasts.
-    nobodys c.in-Ok.came.lease c.key_by-key.result (pool_in c.args.self.now).holds c.args.out.now.items _ c.key_by-key.ensures (c.in_ok-what-in-Finished.ensures.cleans lasts)
+returns-in_ok-what-in-Finished-clause-cleans c = λ reached lasts.
+    let came = c.in-Ok.ensures.ok in
+    nobodys c.in-Ok.came.lease c.key_by-key.result (pool_in c.args.self.now).holds c.args.out.now.items _ c.key_by-key.ensures
+    (c.in_ok-what-in-Finished.ensures.cleans (led_on (service_in c.args.self.now.service) (service_in c.heard.new.self) (calls.Came c.args.number (packet_part came.0 c.args.bytes.now c.args.ends)) came.2.1.steps.service_is (led_at (pool_in c.args.self.now) reached)) lasts)
 
 pub returns-in_ok-what-in-Acknowledged-clause-cleans : goal.returns-in_ok-what-in-Acknowledged-clause-cleans
-returns-in_ok-what-in-Acknowledged-clause-cleans c = λ lasts.
-    nobodys c.in-Ok.came.lease c.key_by-key.result (pool_in c.args.self.now).holds c.args.out.now.items _ c.key_by-key.ensures (c.in_ok-what-in-Acknowledged.ensures.cleans lasts)
+returns-in_ok-what-in-Acknowledged-clause-cleans c = λ reached lasts.
+    let came = c.in-Ok.ensures.ok in
+    nobodys c.in-Ok.came.lease c.key_by-key.result (pool_in c.args.self.now).holds c.args.out.now.items _ c.key_by-key.ensures
+    (c.in_ok-what-in-Acknowledged.ensures.cleans (led_on (service_in c.args.self.now.service) (service_in c.heard.new.self) (calls.Came c.args.number (packet_part came.0 c.args.bytes.now c.args.ends)) came.2.1.steps.service_is (led_at (pool_in c.args.self.now) reached)) lasts)
 
 pub returns-in-More-clause-off : goal.returns-in-More-clause-off
 returns-in-More-clause-off c =

@@ -15,14 +15,15 @@ use Rattle.tds_relay.specs.Closings.{IsWaiting, register_in}
 use Rattle.tds_relay.proofs.spared.Closings.{closes_both, closes_more, closes_nobody, closes_refl}
 use Rattle.tds_relay.proofs.seats.Linked.{seated_pushed}
 use Rattle.tds_relay.proofs.seats.Relays.{brought_none, brought_one, none_brought}
-use Rattle.tds_relay.proofs.spared.Opening.{on_last, opens_new_both, opens_none, opens_same, turn_last}
+use Rattle.tds_relay.proofs.spared.Opening.{brought_low, on_last, opens_above, opens_new_both, opens_none, opens_same, turn_last}
 use Rattle.std.specs.Prelude.{IfSome, IsSome, None, Option}
-use Rattle.tds_relay.specs.Cleaning.{IsLentBy, CountsOnce, cleaned_in}
+use Rattle.tds_relay.specs.Cleaning.{IsLentBy, IsTooLong, CountsOnce, cleaned_in}
 use Rattle.tds_relay.specs.Pool.{find_number}
 use Rattle.tds_relay.specs.declared.pool.leaving.Left.{Left}
 use Rattle.tds_relay.proofs.spared.Brought.{brought_holds, first_served, if_some, first_waits, lent_unheld}
 use Rattle.tds_relay.proofs.spared.Freeing.{forget_none}
-use Rattle.tds_relay.proofs.spared.Cleaned.{since_brought}
+use Rattle.tds_relay.proofs.spared.Cleaned.{since_brought, too_long}
+use Rattle.tds_relay.specs.Reasons.{HasNoRoom}
 use Rattle.tds_relay.proofs.spared.Lasting.{last_more}
 use Rattle.tds_relay.proofs.relay.Relay.bring.Goals as goal
 
@@ -54,7 +55,7 @@ returns-clause-steps c =
 pub returns-clause-opens : goal.returns-clause-opens
 returns-clause-opens c =
     let none : c.is_empty.result ≡ true = search rules in
-    first_opens _ _ c.args.self.now.links.items _ _ _ (sym c.is_empty.ensures ∙ none) c.in_ok-push.ensures.items c.in_ok-link.ensures.number c.in_ok-link.ensures.unread refl
+    first_opens _ _ c.args.self.now.links.items _ _ _ (sym c.is_empty.ensures ∙ none) c.in_ok-push.ensures.items c.in_ok-link.ensures.number c.in_ok-link.ensures.unread refl c.in_ok-link.ensures.made.5
     c.in_ok-send_unheld.ensures.read c.in_ok-serve_line.ensures.opens
 
 pub returns-clause-stand : goal.returns-clause-stand
@@ -210,12 +211,27 @@ returns-clause-cleaned c = λ reached.
     let empty : c.is_empty.result ≡ true = search rules in
     let lent : IsLentBy left.number (pool_in old.pool).service =
     subst (λ (o : Option Left). IfSome o (λ (it : Left). IsLentBy it.number (pool_in old.pool).service)) c.in-Some.is c.in_ok-left.ensures.lent in
+    let puts = if_some _ c.in_ok-left.field-0 left c.in-Some.is (c.in_ok-left.ensures.cleans reached) (search rules) in
     let unheld : find_number left.number (pool_in c.bring.new.self).holds ≡ None =
     ap (find_number left.number) (brought_holds (pool_in old.pool) (pool_in c.bring.new.self) c.in_ok-left.ensures.turns.0 c.in_ok-left.ensures.turns.1 c.in_ok-left.ensures.turns.2.pool_is)
     ∙ lent_unheld (pool_in old.pool) lent.0 left.number lent.1 reached lent.2 in
     let waits = first_waits left.number old.links.items c.push.new.self.items _ (none_there old.links.items (sym c.is_empty.ensures ∙ empty)) c.in_ok-push.ensures.items c.in_ok-link.ensures.number c.in_ok-link.ensures.nothing in
-    since_brought left.number old mid c.serve_line.new.self (c.in_ok-send_unheld.ensures.cleaned unheld (subst IsSome (sym waits) refl)) c.in_ok-serve_line.ensures.opens c.serve_line.ensures.counts
+    since_brought (IsTooLong old.size) (HasNoRoom left.number c.bring.new.out.items c.push.new.self.items) left.number old mid c.serve_line.new.self
+    (too_long old.size left.number old.features _ old.links.items c.push.new.self.items _ _ (none_there old.links.items (sym c.is_empty.ensures ∙ empty)) c.in_ok-push.ensures.items c.in_ok-link.ensures.number c.in_ok-link.ensures.made
+    c.in_ok-link.ensures.nothing (search rules) puts)
+    (c.in_ok-send_unheld.ensures.cleaned unheld (subst IsSome (sym waits) refl)) c.in_ok-serve_line.ensures.opens c.serve_line.ensures.counts
     c.in_ok-send_unheld.ensures.closes.were_open
     (last_more (IsWaiting (pool_in mid.pool).line) (IsWaiting (pool_in old.pool).line) _ _
     (λ key. waited Neither (pool_in old.pool) (pool_in mid.pool) key (λ none. none) (λ from h. c.in_ok-send_unheld.ensures.goes Neither from (reaches_turn Neither from _ _ _ _ _ c.in_ok-left.ensures.turns.2 refl h)))
     c.in_ok-serve_line.ensures.lasts)
+
+pub returns-clause-dials : goal.returns-clause-dials
+returns-clause-dials c = λ reached.
+    let old = c.args.self.now in
+    let mid = c.send_unheld.new.self in
+    let left = c.in-Some.left in
+    let lent : IsLentBy left.number (pool_in old.pool).service =
+    subst (λ (o : Option Left). IfSome o (λ (it : Left). IsLentBy it.number (pool_in old.pool).service)) c.in-Some.is c.in_ok-left.ensures.lent in
+    let one : left.number ≤ (pool_in c.bring.new.self).service.last = brought_low (pool_in old.pool) (pool_in c.bring.new.self) c.in_ok-left.ensures.turns.0 c.in_ok-left.ensures.turns.1 left.number _ _ reached lent c.in_ok-left.ensures.turns.2 in
+    let two : (pool_in c.bring.new.self).service.last ≤ (pool_in mid.pool).service.last = on_last (pool_in c.bring.new.self) (pool_in mid.pool) c.in_ok-send_unheld.ensures.goes in
+    opens_above left.number old mid c.serve_line.new.self c.send_unheld.ensures.opening (omega (arith, one, two)) c.in_ok-serve_line.ensures.opening

@@ -20,6 +20,9 @@ use Rattle.tds_relay.proofs.bytes.SetAnew.{comes_anew}
 use Rattle.tds_relay.proofs.spared.Opening.{goes_last, opens_new_on, opens_same, grows_few, grows_on}
 use Rattle.tds_relay.proofs.spared.Off.{served_off}
 use Rattle.tds_relay.proofs.spared.Counted.{lost_served}
+use Rattle.std.proofs.Common.{◌≡◌, ◌∙◌, None, Some, sym}
+use Rattle.tds_relay.proofs.spared.Drained.{served_alone}
+use Rattle.tds_relay.specs.Reads.{waits_on}
 use Rattle.tds_relay.proofs.relay.Relay.came.Goals as goal
 
 pub returns-clause-steps : goal.returns-clause-steps
@@ -90,3 +93,9 @@ returns-clause-counts c = lost_served c.serve_line.result c.args.number c.args.s
 
 pub returns-clause-goes : goal.returns-clause-goes
 returns-clause-goes c = ok_more c.serve_line.result _ _ (λ g from h. g (Connection c.args.number) from (c.in_ok-hear_all.ensures.goes from h)) c.serve_line.ensures.goes
+
+pub returns-clause-cleans : goal.returns-clause-cleans
+returns-clause-cleans c = λ reached free.
+    served_alone c.serve_line.result c.args.number (waits_on c.args.number c.args.self.now.links.items) c.hear_all.new.self c.serve_line.new.self (c.in_ok-hear_all.ensures.cleans reached free)
+    (λ key. (c.in_ok-hear_all.ensures.spares reached key (λ e. let u : None ≡ Some key = e in let v : ⊥ = cc in v) (λ e. let u : None ≡ Some key = sym free ∙ e in let v : ⊥ = cc in v)).0)
+    c.serve_line.ensures.opens (c.serve_line.ensures.fills (reached_on (Connection c.args.number) _ _ c.in_ok-hear_all.ensures.goes reached))

@@ -7,7 +7,7 @@ use Rattle.tds_relay.specs.Fronts.{ends_in, machine_in, machine_with, told_by}
 use Rattle.tds_relay.specs.declared.outgoing.Outgoing.{Outgoing}
 use Rattle.tds_relay.specs.Queues.{queue_in, queues_in}
 use Rattle.tds_relay.specs.Ties.{Connection, pool_in}
-use Rattle.tds_relay.specs.Reads.{bytes_on, place_of}
+use Rattle.tds_relay.specs.Reads.{place_of}
 use Rattle.tds_relay.proofs.bytes.SetAnew.{hear_at, unheard, unopened}
 use Rattle.tds_relay.proofs.bytes.Turns.{less_at, less_nowhere, less_shut, takes_at}
 use Rattle.tds_service.specs.Table.{reading_on}
@@ -134,14 +134,14 @@ pub returns-then-not-link-clause-hears : goal.returns-then-not-link-clause-hears
 returns-then-not-link-clause-hears c = inl ((refl, refl), (refl, search rules))
 
 pub returns-in_default-clause-cleans : goal.returns-in_default-clause-cleans
-returns-in_default-clause-cleans c = λ not. inl (search rules)
+returns-in_default-clause-cleans c = λ reached not. inl (search rules)
 
 pub returns-then-not-link-clause-cleans : goal.returns-then-not-link-clause-cleans
-returns-then-not-link-clause-cleans c = λ not. inl (search rules)
+returns-then-not-link-clause-cleans c = λ reached not. inl (search rules)
 
 pub returns-clause-cleans : goal.returns-clause-cleans
-returns-clause-cleans c =
-    subst (λ (xs : List ℕ). IfOk c.hear_on.result (λ heard. Cleans (whose (pool_in c.args.self.now.pool) c.args.number) heard.1 xs c.hear_on.new.outbox.items)) (search rules) c.hear_on.ensures.cleans
+returns-clause-cleans c = λ reached.
+    subst (λ (xs : List ℕ). IfOk c.hear_on.result (λ heard. Cleans (whose (pool_in c.args.self.now.pool) c.args.number) heard.1 xs c.hear_on.new.outbox.items)) (search rules) (c.hear_on.ensures.cleans reached)
 
 pub returns-in_default-clause-queues : goal.returns-in_default-clause-queues
 returns-in_default-clause-queues c = as_refl c.args.self.now.links.items

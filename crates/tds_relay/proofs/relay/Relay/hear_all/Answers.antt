@@ -1,9 +1,9 @@
-use Rattle.std.proofs.Common.{◌≡◌, ◌∙◌, [], ap, inl, length, refl, suc, sym, rules, None}
+use Rattle.std.proofs.Common.{◌≡◌, ◌∙◌, [], ap, inl, length, refl, suc, sym, rules, None, Some}
 use Rattle.tds_relay.specs.Waiting.{LosesAt, ByPacket, HeardFor}
 use Rattle.tds_relay.specs.Fronts.{core_in, machine_in, told_by}
 use Rattle.tds_relay.specs.Ordering.{opens_in}
 use Rattle.tds_relay.specs.Queues.{names_of, queues_in}
-use Rattle.tds_relay.specs.Reads.{answer_at, open_at}
+use Rattle.tds_relay.specs.Reads.{answer_at, open_at, waits_on}
 use Rattle.tds_relay.specs.Ties.{Connection}
 use Rattle.tds_relay.proofs.spared.Coming.{along_refl, one_along}
 use Rattle.tds_relay.proofs.spared.Ordered.{ordered_more, ordered_refl}
@@ -24,6 +24,7 @@ use Rattle.tds_relay.proofs.spared.Only.{one_spares, spares_refl}
 use Rattle.tds_relay.proofs.spared.Off.{off_none, one_off}
 use Rattle.tds_relay.proofs.spared.Opening.{many_on}
 use Rattle.tds_relay.proofs.spared.Counted.{one_lost}
+use Rattle.tds_relay.proofs.spared.Drained.{cleans_nothing, one_cleans}
 use Rattle.tds_relay.proofs.relay.Relay.hear_all.Goals as goal
 
 pub taking-init : goal.taking-init
@@ -45,6 +46,7 @@ taking-init c = record {
   apart = off_none c.args.number None c.args.self.now;
   many = (stays_refl c.args.self.now.links.items).few;
   counts = inl refl;
+  cleans = λ reached free. cleans_nothing (waits_on c.args.number c.args.self.now.links.items);
 }
 
 pub taking-preserved : goal.taking-preserved
@@ -66,7 +68,7 @@ taking-preserved c = record {
   closes =
       one_closes (LosesAt c.args.number c.in_ok-count.heard c.hear.new.self) (HeardFor c.args.number c.args.piece.now c.args.self.now) (register_in c.args.self.now) (register_in c.taking.self) (register_in c.hear.new.self) (register_in c.heard.new.self)
       (λ key why seated. ByPacket c.taking.self c.taking.rest.now c.taking.invariant.anew c.taking.invariant.others
-      (loses_by c.args.number c.taking.rest.now _ c.taking.self c.hear.new.self _ key c.in_ok-count.ensures.hears refl c.in_ok-count.ensures.ends c.in_ok-count.ensures.cleans c.in_ok-count.ensures.queues c.in_ok-count.ensures.asks (c.taking.invariant.seated seated) why))
+      (loses_by c.args.number c.taking.rest.now _ c.taking.self c.hear.new.self _ key c.in_ok-count.ensures.hears refl c.in_ok-count.ensures.ends (c.in_ok-count.ensures.cleans (c.taking.invariant.seated seated).reached) c.in_ok-count.ensures.queues c.in_ok-count.ensures.asks (c.taking.invariant.seated seated) why))
       c.taking.invariant.closes c.in_ok-count.ensures.ends c.in_ok-count.ensures.names c.in_ok-count.ensures.same c.hear.ensures.orders c.hear.ensures.settings c.in_ok-heard.ensures.closes c.in_ok-heard.ensures.kept;
   spares = λ reached.
       one_spares c.args.number c.taking.rest.now _ (core_in c.args.self.now) c.taking.self c.hear.new.self c.heard.new.self _ (reached_on (Connection c.args.number) _ _ c.taking.invariant.goes reached) (c.taking.invariant.spares reached)
@@ -88,6 +90,10 @@ taking-preserved c = record {
   counts =
       one_lost c.args.number c.taking.rest.now _ c.args.self.now c.taking.self c.hear.new.self c.heard.new.self _ c.in_ok-count.ensures.hears c.hear.ensures.counts (λ other. (c.in_ok-count.ensures.same other).0) c.in_ok-heard.ensures.read
       c.in_ok-heard.ensures.counts c.taking.invariant.counts;
+  cleans = λ reached free.
+      one_cleans c.args.number c.taking.rest.now _ (waits_on c.args.number c.args.self.now.links.items) c.taking.self c.hear.new.self c.heard.new.self _ (reached_on (Connection c.args.number) _ _ c.taking.invariant.goes reached)
+      (λ key. (c.taking.invariant.spares reached key (λ e. let u : None ≡ Some key = e in let v : ⊥ = cc in v) (λ e. let u : None ≡ Some key = sym free ∙ e in let v : ⊥ = cc in v)).0)
+      c.in_ok-count.ensures.hears refl c.in_ok-count.ensures.cleans (λ other. (c.in_ok-count.ensures.same other).0) c.in_ok-heard.ensures.gone c.in_ok-heard.ensures.counts c.in_ok-heard.ensures.sent (c.taking.invariant.cleans reached free);
   opening = c.heard.ensures.opening ∙ ap opens_in c.hear.ensures.orders ∙ c.taking.invariant.opening;
   many = many_on (length c.args.self.now.links.items) (length c.taking.self.links.items) (length c.hear.new.self.links.items) (length c.heard.new.self.links.items) c.taking.invariant.many c.in_ok-count.ensures.many c.in_ok-heard.ensures.read.few;
 }

@@ -1,5 +1,5 @@
 use Rattle.std.proofs.Common.{◌≡◌, ◌≤◌, length}
-use Rattle.tds_relay.specs.Cleaning.{CountsLost}
+use Rattle.tds_relay.specs.Cleaning.{CleansAlone, CountsLost}
 use Rattle.tds_relay.specs.Closings.{ClosesOnly, but_told, register_in}
 use Rattle.tds_relay.specs.Waiting.{HeardFor}
 use Rattle.tds_relay.specs.Coming.{AllAlong, StreamsAnew}
@@ -10,7 +10,8 @@ use Rattle.tds_relay.specs.Apart.{SparesOthers}
 use Rattle.tds_relay.specs.Fronts.{core_in, machine_in}
 use Rattle.tds_relay.specs.Ordering.{StayOrdered, opens_in}
 use Rattle.tds_relay.specs.Queues.{names_in, queues_in}
-use Rattle.tds_relay.specs.Reads.{OpensOthers, answer_at, open_at}
+use Rattle.tds_relay.specs.Reads.{OpensOthers, answer_at, open_at, waits_on}
+use Rattle.tds_relay.specs.Core.{holder}
 use Rattle.tds_relay.specs.Ties.{Connection, Goes, IsReached, pool_in}
 use Rattle.tds_relay.specs.Waking.{Wakes}
 use Rattle.tds_relay.proofs.bytes.Turns.{InTurns}
@@ -36,5 +37,6 @@ invariant-taking l = record {
   apart : OffGo l.fn.number None l.fn.self l.self;
   many : length l.self.links.items ≤ length l.fn.self.links.items;
   counts : CountsLost l.fn.number l.fn.self l.self;
+  cleans : IsReached (pool_in l.fn.self.pool) → holder (pool_in l.fn.self.pool) l.fn.number ≡ None → CleansAlone (waits_on l.fn.number l.fn.self.links.items) (waits_on l.fn.number l.self.links.items);
   opening : opens_in l.self.orders.items ≡ opens_in l.fn.self.orders.items;
 }

@@ -1,4 +1,4 @@
-use Rattle.std.proofs.Common.{Option, refl, subst, sym, ℕ}
+use Rattle.std.proofs.Common.{◌∙◌, Option, ap, refl, subst, sym, ℕ}
 use Rattle.std.specs.Prelude.{OnOk}
 use Rattle.tds_relay.specs.declared.pool.coming.Heard.{Heard}
 use Rattle.tds_relay.specs.Apart.{SparesOthers}
@@ -24,6 +24,7 @@ use Rattle.tds_relay.proofs.spared.Only.{spares_lost_on, spares_none}
 use Rattle.tds_relay.proofs.spared.Waking.{hands_nobody}
 use Rattle.tds_relay.proofs.steps.Fronts.{moves_same, told_none}
 use Rattle.tds_relay.proofs.steps.Reaching.{ok_if, ok_more}
+use Rattle.tds_relay.proofs.steps.Staying.{gone_filled}
 use Rattle.tds_relay.proofs.relay.Relay.heard.Goals as goal
 
 pub returns-in-None-clause-moves : goal.returns-in-None-clause-moves
@@ -82,3 +83,9 @@ returns-in-Some-clause-counts c = subst (λ (o : Option Heard). OnOk c.heard_pac
 
 pub returns-in-Some-clause-apart : goal.returns-in-Some-clause-apart
 returns-in-Some-clause-apart c = subst (λ (o : Option Heard). OnOk c.heard_packet.result (OffGo c.args.number (heard_key o) c.args.self.now c.heard_packet.new.self)) (sym c.in-Some.is) c.heard_packet.ensures.apart
+
+pub returns-in-None-clause-sent : goal.returns-in-None-clause-sent
+returns-in-None-clause-sent c = λ nobody. ok_more c.lose.result _ _ (λ g. gone_filled c.args.self.now.outbox.items c.args.number _ c.lose.new.self.links.items g) c.lose.ensures.gone
+
+pub returns-in-Some-clause-sent : goal.returns-in-Some-clause-sent
+returns-in-Some-clause-sent c = λ nobody. c.heard_packet.ensures.sent (sym (ap heard_key c.in-Some.is) ∙ nobody)

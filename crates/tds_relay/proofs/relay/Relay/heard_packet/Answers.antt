@@ -4,7 +4,7 @@ use Rattle.tds_relay.specs.Fronts.{ends_in, core_in}
 use Rattle.tds_relay.specs.Ties.{Connection, IsReached, Reaches, pool_in}
 use Rattle.tds_relay.proofs.steps.Fronts.{moves_same, told_some}
 use Rattle.tds_relay.proofs.steps.Reaching.{ok_more, ok_if}
-use Rattle.tds_relay.proofs.steps.Staying.{stays_both, stays_on, stays_same}
+use Rattle.tds_relay.proofs.steps.Staying.{gone_filled, stays_both, stays_on, stays_same}
 use Rattle.tds_relay.proofs.bytes.Calls.{stand_at, stand_back, stand_on}
 use Rattle.tds_relay.proofs.spared.Coming.{along_both, along_on, asks_along, asks_along_on, done_along, same_along_on}
 use Rattle.tds_relay.proofs.spared.Ordered.{ordered_both, ordered_on}
@@ -26,6 +26,7 @@ use Rattle.tds_relay.specs.Few.{is_left}
 use Rattle.tds_relay.specs.declared.pool.coming.What.TheVariants as whats
 use Rattle.tds_relay.proofs.spared.Off.{asks_more, behind_sent, link_off, same_off, sent_off, whose_off}
 use Rattle.tds_relay.proofs.spared.Counted.{counts_free, counts_held, counts_left}
+use Rattle.tds_relay.proofs.spared.Drained.{not_left, sent_there}
 use Rattle.tds_relay.proofs.relay.Relay.heard_packet.Goals as goal
 
 pub returns-in-Goes-Some-clause-moves : goal.returns-in-Goes-Some-clause-moves
@@ -134,9 +135,7 @@ pub returns-in-Acknowledged-None-clause-bodies : goal.returns-in-Acknowledged-No
 returns-in-Acknowledged-None-clause-bodies c = λ reached. along_both c.args.self.now c.tell.new.self c.send_on.new.self (done_along c.args.self.now c.tell.new.self c.in_ok-resumes.ensures.asks) (asks_along c.tell.new.self c.send_on.new.self c.in_ok-send_on.ensures.asks)
 
 pub returns-then-resumes-clause-bodies : goal.returns-then-resumes-clause-bodies
-returns-then-resumes-clause-bodies c = λ reached. let sent = along_both c.args.self.now c.tell.new.self c.send_on.new.self (done_along c.args.self.now c.tell.new.self c.in_ok-resumes.ensures.asks) (asks_along c.tell.new.self c.send_on.new.self c.in_ok-send_on.ensures.asks) in
-    let told : IsReached (pool_in c.tell.new.self.pool) = subst (λ (d : pools.Pool). IsReached (pool_in d)) (sym c.in_ok-resumes.ensures.pool) reached in
-    let there : IsReached (pool_in c.send_on.new.self.pool) = put_reached c.tell.new.self.pool c.send_on.new.self.pool c.send_on.new.self.pool c.in_ok-send_on.ensures.goes refl told in along_on c.resume.result c.args.self.now c.send_on.new.self c.resume.new.self sent (c.resume.ensures.bodies there)
+returns-then-resumes-clause-bodies c = λ reached. let sent = along_both c.args.self.now c.tell.new.self c.send_on.new.self (done_along c.args.self.now c.tell.new.self c.in_ok-resumes.ensures.asks) (asks_along c.tell.new.self c.send_on.new.self c.in_ok-send_on.ensures.asks) in let told : IsReached (pool_in c.tell.new.self.pool) = subst (λ (d : pools.Pool). IsReached (pool_in d)) (sym c.in_ok-resumes.ensures.pool) reached in let there : IsReached (pool_in c.send_on.new.self.pool) = put_reached c.tell.new.self.pool c.send_on.new.self.pool c.send_on.new.self.pool c.in_ok-send_on.ensures.goes refl told in along_on c.resume.result c.args.self.now c.send_on.new.self c.resume.new.self sent (c.resume.ensures.bodies there)
 
 pub returns-in-Goes-Some-clause-ordered : goal.returns-in-Goes-Some-clause-ordered
 returns-in-Goes-Some-clause-ordered c = ordered_on c.order_write.result _ _ _ c.order_write.ensures.ordered (ordered_both _ _ _ c.in_ok-resumes.ensures.ordered c.in_ok-send_on.ensures.ordered)
@@ -259,8 +258,7 @@ pub returns-else-resumes-clause-spares : goal.returns-else-resumes-clause-spares
 returns-else-resumes-clause-spares c = λ reached. spares_wrote c.order_write-else-resumes.result c.args.number (Some c.args.heard) c.args.heard c.in-Acknowledged-Some.key c.args.self.now c.tell.new.self c.send_on.new.self c.order_write-else-resumes.new.self refl (search rules) c.in_ok-resumes.ensures.pool c.in_ok-resumes.ensures.ends c.in_ok-send_on.ensures.spares c.order_write-else-resumes.ensures.alone c.order_write-else-resumes.ensures.moves
 
 pub returns-then-resumes-clause-spares : goal.returns-then-resumes-clause-spares
-returns-then-resumes-clause-spares c = λ reached.
-    let told : IsReached (pool_in c.tell.new.self.pool) = subst (λ (d : pools.Pool). IsReached (pool_in d)) (sym c.in_ok-resumes.ensures.pool) reached in
+returns-then-resumes-clause-spares c = λ reached. let told : IsReached (pool_in c.tell.new.self.pool) = subst (λ (d : pools.Pool). IsReached (pool_in d)) (sym c.in_ok-resumes.ensures.pool) reached in
     let there : IsReached (pool_in c.send_on.new.self.pool) = put_reached c.tell.new.self.pool c.send_on.new.self.pool c.send_on.new.self.pool c.in_ok-send_on.ensures.goes refl told in
     spares_for c.resume.result c.args.number (Some c.args.heard) c.args.heard c.in-Acknowledged-Some.key (core_in c.args.self.now) (core_in c.send_on.new.self) (core_in c.resume.new.self) refl (search rules)
     (spares_sent c.args.number (Some c.args.heard) c.args.heard c.args.self.now c.tell.new.self c.send_on.new.self refl c.in_ok-resumes.ensures.pool c.in_ok-resumes.ensures.ends c.in_ok-send_on.ensures.spares) (c.resume.ensures.spares there)
@@ -290,8 +288,7 @@ pub returns-else-resumes-clause-begins : goal.returns-else-resumes-clause-begins
 returns-else-resumes-clause-begins c = any_if c.order_write-else-resumes.result (acknowledged_in (Some c.args.heard)) _ _ (answers_then c.order_write-else-resumes.result _ _ _ (answers_behind c.args.self.now.links.items c.tell.new.self.links.items c.send_on.new.self.links.items c.in_ok-resumes.ensures.links c.in_ok-send_on.ensures.answers) c.order_write-else-resumes.ensures.links)
 
 pub returns-then-resumes-clause-begins : goal.returns-then-resumes-clause-begins
-returns-then-resumes-clause-begins c = begins_any c.resume.result (acknowledged_in (Some c.args.heard)) _ _ (acknowledges_one (Some c.args.heard) c.args.heard c.in-Acknowledged-Some.key refl (search rules) (search rules))
-    (any_on c.resume.result _ _ _ (any_sent c.args.self.now.links.items c.tell.new.self.links.items c.send_on.new.self.links.items c.in_ok-resumes.ensures.links c.in_ok-send_on.ensures.answers) c.resume.ensures.begins)
+returns-then-resumes-clause-begins c = begins_any c.resume.result (acknowledged_in (Some c.args.heard)) _ _ (acknowledges_one (Some c.args.heard) c.args.heard c.in-Acknowledged-Some.key refl (search rules) (search rules)) (any_on c.resume.result _ _ _ (any_sent c.args.self.now.links.items c.tell.new.self.links.items c.send_on.new.self.links.items c.in_ok-resumes.ensures.links c.in_ok-send_on.ensures.answers) c.resume.ensures.begins)
 
 pub returns-in-Goes-None-clause-begins : goal.returns-in-Goes-None-clause-begins
 returns-in-Goes-None-clause-begins c = sent_if (acknowledged_in (Some c.args.heard)) c.args.self.now.links.items c.tell.new.self.links.items c.send_on.new.self.links.items c.in_ok-resumes.ensures.links c.in_ok-send_on.ensures.answers
@@ -384,10 +381,19 @@ pub returns-in-Acknowledged-None-clause-counts : goal.returns-in-Acknowledged-No
 returns-in-Acknowledged-None-clause-counts c = counts_left (Some c.args.heard) c.args.heard c.args.number c.args.self.now c.send_on.new.self refl (ap is_left (let w : c.args.heard.what ≡ whats.Acknowledged = search rules in w)) (c.send_on.ensures.counts ∙ c.tell.ensures.counts)
 
 pub returns-in-Closed-Some-clause-counts : goal.returns-in-Closed-Some-clause-counts
-returns-in-Closed-Some-clause-counts c =
-    ok_if c.close_link.result _ (counts_held (Some c.args.heard) c.args.heard c.args.number c.args.self.now c.close_link.new.self refl (search rules) (c.close_link.ensures.counts ∙ c.send_on.ensures.counts ∙ c.tell.ensures.counts))
+returns-in-Closed-Some-clause-counts c = ok_if c.close_link.result _ (counts_held (Some c.args.heard) c.args.heard c.args.number c.args.self.now c.close_link.new.self refl (search rules) (c.close_link.ensures.counts ∙ c.send_on.ensures.counts ∙ c.tell.ensures.counts))
 
 pub returns-in-Closed-None-clause-counts : goal.returns-in-Closed-None-clause-counts
-returns-in-Closed-None-clause-counts c =
-    counts_free c.close_link-in-Closed-None.result (Some c.args.heard) c.args.heard c.args.number c.saturating_add-self.result c.args.self.now c.send_on.new.self c.close_link-in-Closed-None.new.self refl (search rules) (search rules) (c.send_on.ensures.counts ∙ c.tell.ensures.counts) c.saturating_add-self.ensures
-    c.close_link-in-Closed-None.ensures.counts c.close_link-in-Closed-None.ensures.gone
+returns-in-Closed-None-clause-counts c = counts_free c.close_link-in-Closed-None.result (Some c.args.heard) c.args.heard c.args.number c.saturating_add-self.result c.args.self.now c.send_on.new.self c.close_link-in-Closed-None.new.self refl (search rules) (search rules) (c.send_on.ensures.counts ∙ c.tell.ensures.counts) c.saturating_add-self.ensures c.close_link-in-Closed-None.ensures.counts c.close_link-in-Closed-None.ensures.gone
+
+pub returns-in-Goes-None-clause-sent : goal.returns-in-Goes-None-clause-sent
+returns-in-Goes-None-clause-sent c = λ nobody. sent_there c.args.number c.args.self.now c.tell.new.self c.send_on.new.self (c.tell.ensures.outbox (not_left c.args.heard.what whats.Goes (search rules) (λ e. let u : ⊥ = cc in u))) c.in_ok-resumes.ensures.links c.in_ok-send_on.ensures.puts
+
+pub returns-in-Finished-None-clause-sent : goal.returns-in-Finished-None-clause-sent
+returns-in-Finished-None-clause-sent c = λ nobody. sent_there c.args.number c.args.self.now c.tell.new.self c.send_on.new.self (c.tell.ensures.outbox (not_left c.args.heard.what whats.Finished (search rules) (λ e. let u : ⊥ = cc in u))) c.in_ok-resumes.ensures.links c.in_ok-send_on.ensures.puts
+
+pub returns-in-Acknowledged-None-clause-sent : goal.returns-in-Acknowledged-None-clause-sent
+returns-in-Acknowledged-None-clause-sent c = λ nobody. sent_there c.args.number c.args.self.now c.tell.new.self c.send_on.new.self (c.tell.ensures.outbox (not_left c.args.heard.what whats.Acknowledged (search rules) (λ e. let u : ⊥ = cc in u))) c.in_ok-resumes.ensures.links c.in_ok-send_on.ensures.puts
+
+pub returns-in-Closed-None-clause-sent : goal.returns-in-Closed-None-clause-sent
+returns-in-Closed-None-clause-sent c = λ nobody. ok_more c.close_link-in-Closed-None.result _ _ (λ g. gone_filled c.args.self.now.outbox.items c.args.number _ c.close_link-in-Closed-None.new.self.links.items g) c.close_link-in-Closed-None.ensures.gone

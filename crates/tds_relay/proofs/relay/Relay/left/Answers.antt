@@ -151,7 +151,7 @@ returns-clause-cleaned c = λ reached.
     let mid = c.release.new.self in
     let quit = ends_quit old.applications c.try_remove.new.self c.args.key c.try_remove.result c.try_remove.ensures.value c.try_remove.ensures.slots c.try_remove.ensures.absent in
     let gone = quits_is old.applications c.try_remove.new.self c.args.key c.try_remove.result c.try_remove.ensures.value c.try_remove.ensures.slots c.try_remove.ensures.absent in
-    since_served_on c.serve_line.result c.args.key (without_key c.args.key (register_in old)) old mid c.serve_line.new.self (c.in_ok-release.ensures.cleaned reached) c.serve_line.ensures.opens c.serve_line.ensures.counts
+    since_served_on c.serve_line.result c.args.key (without_key c.args.key (register_in old)) old mid c.serve_line.new.self (c.in_ok-release.ensures.cleaned reached) c.serve_line.ensures.goes c.serve_line.ensures.opens c.serve_line.ensures.counts
     (closes_both Nobody _ _ _ (closes_kept Nobody (without_key c.args.key (register_in old)) _ quit gone refl (kept_refl old.links.items) (unclosed _ _ refl)) c.in_ok-release.ensures.closes)
     (last_more_on c.serve_line.result (IsWaiting (pool_in mid.pool).line) (IsWaiting (pool_in old.pool).line) (register_in mid) (register_in c.serve_line.new.self)
     (waited_left c.args.key (pool_in old.pool) (pool_in mid.pool) c.in_ok-release.ensures.leaving) c.serve_line.ensures.lasts)

@@ -33,7 +33,7 @@ pub returns-then-served-clause-opens : goal.returns-then-served-clause-opens
 returns-then-served-clause-opens c = opens_on c.start_kept.result _ _ _ c.restart.ensures.read c.start_kept.ensures.read
 
 pub returns-clause-opens : goal.returns-clause-opens
-returns-clause-opens c = opens_by_push c.args.self.now.links.items c.args.self.now.links.items c.push.new.self.items c.in_ok-link.link refl c.in_ok-push.ensures.items c.in_ok-link.ensures.closed c.in_ok-link.ensures.unnamed
+returns-clause-opens c = opens_by_push c.args.self.now.links.items c.args.self.now.links.items c.push.new.self.items c.in_ok-link.link refl c.in_ok-push.ensures.items c.in_ok-link.ensures.closed c.in_ok-link.ensures.made.5 c.in_ok-link.ensures.unnamed
 
 pub returns-then-served-clause-moves : goal.returns-then-served-clause-moves
 returns-then-served-clause-moves c = ok_more c.start_kept.result _ _ (λ m by from h. m by from (moves_same by from _ _ _ _ (ap pool_in c.restart.ensures.pool) c.restart.ensures.ends h)) c.start_kept.ensures.moves

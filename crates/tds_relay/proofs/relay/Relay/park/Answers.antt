@@ -160,5 +160,5 @@ pub returns-clause-cleaned : goal.returns-clause-cleaned
 returns-clause-cleaned c = λ reached yes.
     let old = c.args.self.now in
     let mid = c.release.new.self in
-    since_served c.args.key (register_in old) old mid c.serve_line.new.self (c.in_ok-release.ensures.cleaned reached) c.in_ok-serve_line.ensures.opens c.serve_line.ensures.counts c.in_ok-release.ensures.closes
+    since_served c.args.key (register_in old) old mid c.serve_line.new.self (c.in_ok-release.ensures.cleaned reached) c.in_ok-serve_line.ensures.goes c.in_ok-serve_line.ensures.opens c.serve_line.ensures.counts c.in_ok-release.ensures.closes
     (last_more (IsWaiting (pool_in mid.pool).line) (IsWaiting (pool_in old.pool).line) _ _ (waited_left c.args.key (pool_in old.pool) (pool_in mid.pool) c.in_ok-release.ensures.leaving) c.in_ok-serve_line.ensures.lasts)

@@ -194,10 +194,12 @@ returns-in_default-clause-cleaned c = λ reached. nobody_counted c.args.key (fin
 pub returns-then-left-clause-cleaned : goal.returns-then-left-clause-cleaned
 returns-then-left-clause-cleaned c = λ reached.
     counted_by c.send_unheld.result c.args.key c.in-Some.left (find_key c.args.key c.args.self.now.pool.holds.items) c.in_ok-left.ensures.turns.0 c.in_ok-left.ensures.turns.1 c.args.self.now c.let_go.new.self c.send_unheld.new.self c.leave.new.self _ _ refl (search rules)
-    (search rules) reached c.in_ok-left.left c.in-Some.is c.in_ok-left.ensures.ends c.in_ok-left.ensures.turns.2 c.let_go.ensures.pool c.let_go.ensures.links c.let_go.ensures.counts c.send_unheld.ensures.cleaned
+    (search rules) reached c.in_ok-left.left c.in-Some.is c.in_ok-left.ensures.ends c.in_ok-left.ensures.turns.2 c.let_go.ensures.pool c.let_go.ensures.links c.let_go.ensures.counts (search rules) c.let_go.ensures.outbox c.send_unheld.ensures.cleaned
 
 pub returns-else-left-clause-cleaned : goal.returns-else-left-clause-cleaned
 returns-else-left-clause-cleaned c = λ reached.
     shut_counted c.close.result c.args.key c.in-Some.left (find_key c.args.key c.args.self.now.pool.holds.items) c.args.self.now c.close.new.self refl (search rules)
     (failed_is (cleaned_in c.args.self.now) (cleaned_in c.let_go.new.self) (cleaned_in c.close.new.self) c.saturating_add-self.result c.let_go.ensures.counts c.saturating_add-self.ensures c.close.ensures.counts)
     (ok_more c.close.result _ _ (λ g. waits_none c.in-Some.left.number c.close.new.self.links.items g) c.close.ensures.gone)
+    c.in_ok-left.ensures.turns.0 c.in_ok-left.ensures.turns.1 c.leave.new.self _ _ c.in_ok-left.left reached c.in-Some.is c.in_ok-left.ensures.seats (search rules) c.in_ok-left.ensures.turns.2
+    (c.close.ensures.pool ∙ c.let_go.ensures.pool)

@@ -18,6 +18,7 @@ use Rattle.tds_relay.proofs.seats.Pools.{off_of}
 use Rattle.tds_relay.proofs.spared.Begun.{answers_on}
 use Rattle.tds_relay.specs.Cleaning.{cleaned_in}
 use Rattle.tds_relay.specs.Reads.{waits_on}
+use Rattle.tds_relay.specs.Reasons.{HasNoRoom}
 use Rattle.tds_relay.proofs.relay.Relay.send_unheld.Goals as goal
 
 pub returns-in-None-clause-read : goal.returns-in-None-clause-read
@@ -136,7 +137,7 @@ returns-in-None-clause-counts c =
 
 pub returns-then-fits-clause-cleaned : goal.returns-then-fits-clause-cleaned
 returns-then-fits-clause-cleaned c = λ none there.
-    sent_there (waits_on c.args.number c.args.self.now.links.items) (waits_on c.args.number c.fits_on.new.self.links.items) c.args.self.now.outbox.items (cleaned_in c.args.self.now) (c.saturating_add-self.result, c.fits_on.new.self.failed)
+    sent_there (HasNoRoom c.args.number c.args.self.now.outbox.items c.args.self.now.links.items) (waits_on c.args.number c.args.self.now.links.items) (waits_on c.args.number c.fits_on.new.self.links.items) c.args.self.now.outbox.items (cleaned_in c.args.self.now) (c.saturating_add-self.result, c.fits_on.new.self.failed)
     (c.in_ok-fits.ensures.waits (search rules)) there
     (more_is (cleaned_in c.args.self.now) (cleaned_in c.fits_on.new.self) (c.saturating_add-self.result, c.fits_on.new.self.failed) c.saturating_add-self.result c.fits_on.ensures.counts c.saturating_add-self.ensures refl)
 
@@ -147,6 +148,7 @@ returns-in-Some-clause-cleaned c = λ none there.
 pub returns-in-None-clause-cleaned : goal.returns-in-None-clause-cleaned
 returns-in-None-clause-cleaned c = λ none there.
     ok_more c.lose.result _ _
-    (λ g. sent_gone c.args.number c.lose.new.self.links.items (cleaned_in c.args.self.now) (cleaned_in c.lose.new.self) (waits_none c.args.number c.lose.new.self.links.items g)
-    (failed_is (cleaned_in c.args.self.now) (cleaned_in c.fits_on.new.self) (cleaned_in c.lose.new.self) c.saturating_add-self-2.result c.fits_on.ensures.counts c.saturating_add-self-2.ensures c.lose.ensures.counts))
+    (λ g. sent_gone (HasNoRoom c.args.number c.args.self.now.outbox.items c.args.self.now.links.items) c.args.number c.lose.new.self.links.items (cleaned_in c.args.self.now) (cleaned_in c.lose.new.self) (waits_none c.args.number c.lose.new.self.links.items g)
+    (failed_is (cleaned_in c.args.self.now) (cleaned_in c.fits_on.new.self) (cleaned_in c.lose.new.self) c.saturating_add-self-2.result c.fits_on.ensures.counts c.saturating_add-self-2.ensures c.lose.ensures.counts)
+    (c.in_ok-fits.ensures.no_room (search rules)))
     c.lose.ensures.gone

@@ -40,7 +40,7 @@ pub returns-clause-takes : goal.returns-clause-takes
 returns-clause-takes c = λ less some. takes_some c.args.link.now.reader _ _ c.args.piece.now c.in-Ok.count c.feed.ensures.taken c.in-Ok.ensures.count c.in-Ok.ensures.all less some
 
 pub returns-in-Err-clause-cleans : goal.returns-in-Err-clause-cleans
-returns-in-Err-clause-cleans c = λ left. absurd left
+returns-in-Err-clause-cleans c = λ reached left. absurd left
 
 pub returns-clause-cleans : goal.returns-clause-cleans
 returns-clause-cleans c = c.in_ok-heard.ensures.cleans

@@ -195,22 +195,22 @@ pub returns-in_default-get_mut-clause-asks : goal.returns-in_default-get_mut-cla
 returns-in_default-get_mut-clause-asks c = λ key goes. refl
 
 pub returns-then-matches-clause-cleans : goal.returns-then-matches-clause-cleans
-returns-then-matches-clause-cleans c = cleans_as _ _ _ _ _ c.in_ok-heard.ensures.whose c.in_ok-heard.ensures.cleans
+returns-then-matches-clause-cleans c = λ reached. cleans_as _ _ _ _ _ c.in_ok-heard.ensures.whose (c.in_ok-heard.ensures.cleans reached)
 
 pub returns-in_default-key-clause-cleans : goal.returns-in_default-key-clause-cleans
-returns-in_default-key-clause-cleans c = cleans_as _ _ _ _ _ c.in_ok-heard.ensures.whose c.in_ok-heard.ensures.cleans
+returns-in_default-key-clause-cleans c = λ reached. cleans_as _ _ _ _ _ c.in_ok-heard.ensures.whose (c.in_ok-heard.ensures.cleans reached)
 
 pub returns-in_default-get_mut-clause-cleans : goal.returns-in_default-get_mut-clause-cleans
-returns-in_default-get_mut-clause-cleans c = cleans_as _ _ _ _ _ c.in_ok-heard.ensures.whose c.in_ok-heard.ensures.cleans
+returns-in_default-get_mut-clause-cleans c = λ reached. cleans_as _ _ _ _ _ c.in_ok-heard.ensures.whose (c.in_ok-heard.ensures.cleans reached)
 
 pub returns-then-not-hears-clause-cleans : goal.returns-then-not-hears-clause-cleans
-returns-then-not-hears-clause-cleans c = cleans_as _ _ _ _ _ c.in_ok-heard.ensures.whose c.in_ok-heard.ensures.cleans
+returns-then-not-hears-clause-cleans c = λ reached. cleans_as _ _ _ _ _ c.in_ok-heard.ensures.whose (c.in_ok-heard.ensures.cleans reached)
 
 pub returns-clause-cleans : goal.returns-clause-cleans
-returns-clause-cleans c = cleans_as _ _ _ _ _ c.in_ok-heard.ensures.whose c.in_ok-heard.ensures.cleans
+returns-clause-cleans c = λ reached. cleans_as _ _ _ _ _ c.in_ok-heard.ensures.whose (c.in_ok-heard.ensures.cleans reached)
 
 pub returns-in_default-clause-cleans : goal.returns-in_default-clause-cleans
-returns-in_default-clause-cleans c = λ not. inl refl
+returns-in_default-clause-cleans c = λ reached not. inl refl
 
 pub returns-in_default-clause-known : goal.returns-in_default-clause-known
 returns-in_default-clause-known c = inl refl
