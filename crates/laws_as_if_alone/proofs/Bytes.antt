@@ -4,7 +4,7 @@ use Rattle.std.specs.Prelude.{Option, Some, None}
 use Rattle.tds_packet.specs.declared.header.Header.{Header}
 use Rattle.tds_listen.specs.Hearing.{tokens_in}
 use Rattle.tds_wire.specs.declared.told.Token.{Token}
-use Rattle.tds_wire.specs.Reading.{Reading}
+use Rattle.tds_wire.specs.Reading.{Parser}
 use Rattle.tds_service.specs.Packets.{items_from}
 use Rattle.tds_service.specs.Parts.{Item, Part}
 use Rattle.tds_service.specs.Service.{Seat, lease_at, seat_numbered}
@@ -12,7 +12,7 @@ use Rattle.tds_relay.specs.Away.{done_since}
 use Rattle.tds_relay.specs.Behind.{events_along}
 use Rattle.tds_relay.specs.Pool as pool
 use Rattle.tds_relay.specs.Pool.{Pool, Event, Sharing, pool_after, new_pool, turn, whose, whose_by}
-use Rattle.tds_relay.specs.Giving.{ReadVisit, Visit, machine_in, moves_in}
+use Rattle.tds_relay.specs.Giving.{ReadVisit, Visit, machine_at_visit, moves_in}
 use Rattle.tds_relay.specs.Core as core
 use Rattle.tds_relay.specs.Core.{Core, Move, IsQuiet, MayDoAlone, MayMove, end_at, event_if, events_of, moved, stops_of}
 use Rattle.tds_relay.specs.Machine.{Machine, Step, Makes, Hands, Takes, Writes, Admits, Removes, MayAll, after, after_all, new_machine}
@@ -74,7 +74,7 @@ stops_nothing key k d false = refl
 abbrev told_in : ℕ → Pool → ℕ → Part Token → List (Item Token) → List (Item Token)
 told_in key d number part items = if_its key (whose d number) (unless_wrong (heard_of (line_of d number) part) (given_at (line_of d number).stage items) [])
 
-its_items : (key : ℕ) (d : Pool) (number : ℕ) (r : Reading) (header : Header) (content : List ℕ) (part : Part Token) (o : Option Seat) → seat_numbered number d.service.seats ≡ o → IsReadBy o r header content part
+its_items : (key : ℕ) (d : Pool) (number : ℕ) (r : Parser) (header : Header) (content : List ℕ) (part : Part Token) (o : Option Seat) → seat_numbered number d.service.seats ≡ o → IsReadBy o r header content part
     → told_in key d number part (items_from (tokens_in r content).tokens) ≡ told_in key d number part part.items
 its_items key d number r header content part None e is =
     let nobody : whose d number ≡ None = ap (λ (o : Option Seat). whose_by (lease_at o) d.holds) e in
@@ -116,16 +116,16 @@ all_read key at h (Removes k gives way ∷ steps) may reads =
 
 -- ---- In a visit
 
-pool_in_world : {V : Type 0} (server : Server V) (sharing : Sharing) (key : ℕ) (v : Visit sharing key) (ms : Moments V v) → (machine_in v).core.pool ≡ (world_in server ms).pool
+pool_in_world : {V : Type 0} (server : Server V) (sharing : Sharing) (key : ℕ) (v : Visit sharing key) (ms : Moments V v) → (machine_at_visit v).core.pool ≡ (world_in server ms).pool
 pool_in_world server sharing key v ms =
     pool_is sharing key v ∙ sym (pool_along server (new_world server sharing) ms.before ∙ ap (pool_after (new_pool sharing)) ms.before_is)
 
 -- what is read behind the first steps
-read_later : (n : ℕ) (r : Reading) (h : Machine) (xs ys : List Step) → AreRead n r h (xs ++ ys) → AreRead n (stands_behind n r h xs) (after_all h xs) ys
+read_later : (n : ℕ) (r : Parser) (h : Machine) (xs ys : List Step) → AreRead n r h (xs ++ ys) → AreRead n (stands_behind n r h xs) (after_all h xs) ys
 read_later n r h [] ys reads = reads
 read_later n r h (x ∷ xs) ys reads = read_later n (stands_by n r h x) (after h x) xs ys reads.1
 
-pub read_since : (sharing : Sharing) (key : ℕ) (v : ReadVisit sharing key) → AllRead (parsers_in v) (machine_in v.visit) v.visit.since
+pub read_since : (sharing : Sharing) (key : ℕ) (v : ReadVisit sharing key) → AllRead (parsers_in v) (machine_at_visit v.visit) v.visit.since
 read_since sharing key v n =
     let r = (v.read n).0 in
     let enters : List Step = Admits key v.visit.ends v.visit.queues ∷ [] in
@@ -133,14 +133,14 @@ read_since sharing key v n =
     subst (λ (steps : List Step). AreRead n r (new_machine sharing) steps) (sym (append_assoc v.visit.before enters v.visit.since)) (v.read n).2 in
     read_later n r (new_machine sharing) (v.visit.before ++ enters) v.visit.since all
 
-pub alone_in_bytes : {V : Type 0} (server : Server V) (sharing : Sharing) (key : ℕ) (v : Visit sharing key) (ms : Moments V v) (at : TokenParsers) → AllRead at (machine_in v) v.since
+pub alone_in_bytes : {V : Type 0} (server : Server V) (sharing : Sharing) (key : ℕ) (v : Visit sharing key) (ms : Moments V v) (at : TokenParsers) → AllRead at (machine_at_visit v) v.since
     → AsIfAlone turn key server (fresh server) (world_in server ms) ms.since (world_after turn server (world_in server ms) ms.since)
     → ReadAsIfAlone turn server (fresh server) at v (world_in server ms) ms.since (world_after turn server (world_in server ms) ms.since)
 alone_in_bytes server sharing key v ms at reads alone =
     let w = world_in server ms in
     let behind = world_after turn server w ms.since in
-    let is : read_all key at (machine_in v) v.since ≡ given turn key server w ms.since =
-    all_read key at (machine_in v) v.since (came sharing key v).may_since reads
+    let is : read_all key at (machine_at_visit v) v.since ≡ given turn key server w ms.since =
+    all_read key at (machine_at_visit v) v.since (came sharing key v).may_since reads
     ∙ ap (λ (d : Pool). along key d (done_since v)) (pool_in_world server sharing key v ms)
     ∙ ap (λ (es : List Event). along key w.pool es) (sym ms.since_is)
     ∙ sym (given_along key server w ms.since) in

@@ -17,7 +17,7 @@ use Rattle.tds_relay.specs.Pool.{Event, Sharing, Way, turn}
 use Rattle.tds_relay.specs.declared.pool.Mode.TheVariants.{Sessions}
 use Rattle.laws_as_if_alone.specs.Serving.{Moment, Request, Server, answers_alone, but_news, fresh, new_world, world_after}
 use Rattle.laws_as_if_alone.specs.Turns.{AllParkedFresh, IsParkedFresh, asks_but}
-use Rattle.laws_as_if_alone.specs.Alone.{AllOrderly, asks, given}
+use Rattle.laws_as_if_alone.specs.Alone.{AllOrderly, all_asks, given}
 use Rattle.laws_as_if_alone.proofs.Orderly.{orderly}
 
 -- ---- A server that counts the requests of a session
@@ -97,12 +97,12 @@ first_is_given : given turn 1 counter (new_world counter one) play ≡ row 0 ∷
 unfolding place_change place_done
 first_is_given = refl
 
-second_alone : answers_alone counter [] (fresh counter) (asks turn 2 counter 0 (new_world counter one) play) ≡ row 0 ∷ done ∷ []
+second_alone : answers_alone counter [] (fresh counter) (all_asks turn 2 counter 0 (new_world counter one) play) ≡ row 0 ∷ done ∷ []
 unfolding place_change place_done
 second_alone = refl
 
 -- what it was given before it left is a beginning
-first_alone : answers_alone counter [] (fresh counter) (asks turn 1 counter 0 (new_world counter one) play) ≡ row 0 ∷ done ∷ row 1 ∷ []
+first_alone : answers_alone counter [] (fresh counter) (all_asks turn 1 counter 0 (new_world counter one) play) ≡ row 0 ∷ done ∷ row 1 ∷ []
 unfolding place_change place_done
 first_alone = refl
 
@@ -122,7 +122,7 @@ cancelled_given : given turn 2 counter (new_world counter one) cancelled ≡ row
 unfolding place_change place_done
 cancelled_given = refl
 
-cancelled_alone : answers_alone counter [] (fresh counter) (asks turn 2 counter 0 (new_world counter one) cancelled) ≡ row 0 ∷ row 7 ∷ done ∷ []
+cancelled_alone : answers_alone counter [] (fresh counter) (all_asks turn 2 counter 0 (new_world counter one) cancelled) ≡ row 0 ∷ row 7 ∷ done ∷ []
 unfolding place_change place_done
 cancelled_alone = refl
 
@@ -142,7 +142,7 @@ lost_given : given turn 2 counter (new_world counter one) lost ≡ row 0 ∷ row
 unfolding place_change place_done
 lost_given = refl
 
-lost_alone : answers_alone counter [] (fresh counter) (asks turn 2 counter 0 (new_world counter one) lost) ≡ row 0 ∷ row 0 ∷ done ∷ []
+lost_alone : answers_alone counter [] (fresh counter) (all_asks turn 2 counter 0 (new_world counter one) lost) ≡ row 0 ∷ row 0 ∷ done ∷ []
 unfolding place_change place_done
 lost_alone = refl
 
@@ -171,7 +171,7 @@ kept_given : given turn 2 counter_late (new_world counter_late one) kept ≡ beg
 unfolding place_change place_done
 kept_given = refl
 
-kept_alone : answers_alone counter_late [] (fresh counter_late) (asks turn 2 counter_late 0 (new_world counter_late one) kept) ≡ begun ∷ done ∷ row 0 ∷ done ∷ []
+kept_alone : answers_alone counter_late [] (fresh counter_late) (all_asks turn 2 counter_late 0 (new_world counter_late one) kept) ≡ begun ∷ done ∷ row 0 ∷ done ∷ []
 unfolding place_change place_done
 kept_alone = refl
 

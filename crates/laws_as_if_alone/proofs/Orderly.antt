@@ -4,7 +4,7 @@ use Rattle.std.specs.Prelude.{Option, Some, None}
 use Rattle.std.proofs.lemmas.Bool.{eq-eqb}
 use Rattle.tds_relay.specs.Away.{IsAway}
 use Rattle.tds_relay.specs.Pool as pool
-use Rattle.tds_relay.specs.Pool.{Pool, Event, Turn, whose}
+use Rattle.tds_relay.specs.Pool.{Pool, Event, PoolTurn, whose}
 use Rattle.tds_relay.specs.Promises.{comes_to_wait}
 use Rattle.tds_relay.proofs.held.Ours.{same_number}
 use Rattle.laws_as_if_alone.specs.Serving.{Moment, Server, World, happens}
@@ -24,7 +24,7 @@ Demand key w (pool.Comes number part way) rest =
     IfIts (is_its key (whose w.pool number)) ((heard_of (line_of w.pool number) part ≡ pool.Wrong → ⊥) → IsNextAt (line_of w.pool number).stage part (w.ends number).due) rest
 Demand key w event rest = rest
 
-abbrev pub Demands : {V : Type 0} → (Pool → Event → Turn) → ℕ → Server V → World V → List (Moment V) → Type 0
+abbrev pub Demands : {V : Type 0} → (Pool → Event → PoolTurn) → ℕ → Server V → World V → List (Moment V) → Type 0
 Demands turns key server w [] = Unit {0}
 Demands turns key server w (m ∷ ms) = Demand key w m.event (Demands turns key server (happens turns server w m) ms)
 
@@ -66,7 +66,7 @@ one key w (pool.Loses number) rest d = ((λ is. absurd (nobody_waits key is), tt
 
 -- ---- All of them
 
-pub orderly : {V : Type 0} (turns : Pool → Event → Turn) (key : ℕ) (server : Server V) (w : World V) (ms : List (Moment V)) → Demands turns key server w ms → AllOrderly turns key server w ms
+pub orderly : {V : Type 0} (turns : Pool → Event → PoolTurn) (key : ℕ) (server : Server V) (w : World V) (ms : List (Moment V)) → Demands turns key server w ms → AllOrderly turns key server w ms
 orderly turns key server w [] d = tt
 orderly turns key server w (m ∷ ms) d =
     let s = one key w m.event (Demands turns key server (happens turns server w m) ms) d in

@@ -9,7 +9,7 @@ use Rattle.tds_relay.specs.Pool.{Event, Sharing, pool_after, new_pool, turn}
 use Rattle.tds_relay.specs.Giving.{Visit}
 use Rattle.tds_state.specs.Pasts.{Remark}
 use Rattle.laws_as_if_alone.specs.Alone.{AllOrderly}
-use Rattle.laws_as_if_alone.specs.Serving.{End, Moment, Server, World, fresh, goes_out, happens, logged_in, new_end, new_world, reached, reset_if, said, takes, takes_all, world_after}
+use Rattle.laws_as_if_alone.specs.Serving.{ServerEnd, Moment, Server, World, fresh, goes_out, happens, logged_in, new_end, new_world, reached, reset_if, said, takes, takes_all, world_after}
 use Rattle.laws_as_if_alone.specs.Telling.{AllParkedAtRest, RoundTrip, RoundTrips, IsParkedAtRest, Remarked, TellsAll, RemarkedEnd, all_trips_after, trips_after, trips_in, hears_all, moment_of, moments_of, no_trips, session_left, told_before}
 use Rattle.laws_as_if_alone.specs.Turns.{AllParkedFresh, AsIfUnparked, IsParkedFresh}
 use Rattle.laws_as_if_alone.specs.Visits.{AllSaid, Moments, world_in}
@@ -21,7 +21,7 @@ use Rattle.laws_as_if_alone.proofs.Visits.{turns_in_visits}
 abbrev IsTold : {V : Type 0} → Server V → RemarkedEnd V → Type 0
 IsTold server told = session_left server told.trips ≡ told.end.session
 
-one_told : {V : Type 0} (server : Server V) (t : Remarked V) (packet : Packet) (e : End V) (es : List (RoundTrip V)) → session_left server es ≡ e.session
+one_told : {V : Type 0} (server : Server V) (t : Remarked V) (packet : Packet) (e : ServerEnd V) (es : List (RoundTrip V)) → session_left server es ≡ e.session
     → session_left server (trips_in t packet e.reset es) ≡ (takes server (moment_of t) packet e).session
 one_told server t (OfRequest request first reset false) e es is = is
 one_told server t (OfRequest request true reset true) e es is = ap (λ s. (t.spoken.does (reset_if server reset s)).after) is
@@ -37,7 +37,7 @@ all_told server t (packet ∷ packets) told is =
     (one_told server t packet told.end told.trips is)
 
 -- what came leaves the session
-said_session : {V : Type 0} (n : ℕ) (event : Event) (e : End V) → (said n event e).session ≡ e.session
+said_session : {V : Type 0} (n : ℕ) (event : Event) (e : ServerEnd V) → (said n event e).session ≡ e.session
 said_session n (pool.Waits key) e = refl
 said_session n (pool.Unwaits key) e = refl
 said_session n pool.Serves e = refl
@@ -49,7 +49,7 @@ said_session n (pool.Comes number part way) e = refl
 said_session n (pool.Loses number) e = refl
 
 -- one that logs in is in a new session
-logged_by : {V : Type 0} (server : Server V) (b : Bool) (e : End V) (es : List (RoundTrip V)) → session_left server es ≡ e.session
+logged_by : {V : Type 0} (server : Server V) (b : Bool) (e : ServerEnd V) (es : List (RoundTrip V)) → session_left server es ≡ e.session
     → session_left server (if b then [] else es) ≡ (if b then new_end server else e).session
 logged_by server true e es is = refl
 logged_by server false e es is = is

@@ -7,7 +7,7 @@ use Rattle.std.proofs.Math.Seq.{take-append_seam}
 use Rattle.tds_wire.specs.declared.told.Token.{Token}
 use Rattle.tds_service.specs.Parts.{Item, Part}
 use Rattle.tds_service.specs.Line as line
-use Rattle.tds_service.specs.Line.{Stage}
+use Rattle.tds_service.specs.Line.{LineStage}
 use Rattle.tds_service.specs.Service.{Seat}
 use Rattle.laws_conforming_server.specs.Lawful.{Session, reset_by}
 use Rattle.tds_relay.specs.declared.pool.Hold.{Hold}
@@ -17,8 +17,8 @@ use Rattle.tds_relay.specs.Pool.{Event, Sharing, find_key, new_pool, turn}
 use Rattle.tds_relay.specs.Promises.{comes_to_wait}
 use Rattle.tds_relay.proofs.promises.Caring.{Sound}
 use Rattle.tds_relay.proofs.promises.Bringing.{always_sound, turn_sound}
-use Rattle.laws_as_if_alone.specs.Serving.{Ask, Runs, Resets, Stops, Finds, Ends, Moment, Server, World, answers_alone, but_news, fresh, happens, new_world, reached, world_after}
-use Rattle.laws_as_if_alone.specs.Alone.{AllOrderly, AsIfAlone, IsAtRest, IsOrderly, asks, asks_by, count_behind, found_next, given, given_in, underway}
+use Rattle.laws_as_if_alone.specs.Serving.{ServerAsk, Runs, Resets, Stops, Finds, Ends, Moment, Server, World, answers_alone, but_news, fresh, happens, new_world, reached, world_after}
+use Rattle.laws_as_if_alone.specs.Alone.{AllOrderly, AsIfAlone, IsAtRest, IsOrderly, all_asks, asks_at, count_behind, found_next, given, given_in, underway}
 use Rattle.tds_relay.proofs.held.Lists.{none_theirs}
 use Rattle.tds_relay.proofs.held.Seated.{AllSit, turn_sits}
 use Rattle.tds_relay.proofs.held.Others.{IsOthers, Its, found}
@@ -92,11 +92,11 @@ no_more [] = refl
 no_more (x ∷ xs) = ap (λ (ws : List (Item Token)). x ∷ ws) (no_more xs)
 
 -- What was given since the last request, and what is given and underway from here on.
-abbrev pub Goes : {V : Type 0} → Server V → List (Item Token) → List (Item Token) → Session V → List (Ask V) → List (Item Token) → Type 0
+abbrev pub Goes : {V : Type 0} → Server V → List (Item Token) → List (Item Token) → Session V → List (ServerAsk V) → List (Item Token) → Type 0
 Goes server said before s asked behind = answers_alone server (said ++ before) s asked ≡ said ++ behind
 
 -- an answer that is over
-over : {V : Type 0} (server : Server V) (answer said began before : List (Item Token)) (s next : Session V) (asked : List (Ask V)) (items behind : List (Item Token)) → answer ≡ said → before ≡ began → next ≡ s → items ≡ []
+over : {V : Type 0} (server : Server V) (answer said began before : List (Item Token)) (s next : Session V) (asked : List (ServerAsk V)) (items behind : List (Item Token)) → answer ≡ said → before ≡ began → next ≡ s → items ≡ []
     → Goes server [] before next asked behind → answer ++ answers_alone server began s asked ≡ said ++ (items ++ behind)
 over {V} server answer said began before s next asked items behind a b n i more =
     let more2 : answers_alone server began s asked ≡ behind =
@@ -104,7 +104,7 @@ over {V} server answer said began before s next asked items behind a b n i more 
     ap (λ (x : List (Item Token)). x ++ answers_alone server began s asked) a ∙ ap (λ (x : List (Item Token)). said ++ x) more2
     ∙ ap (λ (x : List (Item Token)). said ++ (x ++ behind)) (sym i)
 
-asks_one : {V : Type 0} (server : Server V) (count : ℕ) (s next : Session V) (said before items began behind : List (Item Token)) (ask : Ask V) (asked : List (Ask V)) → length said ≡ count → items ≡ []
+asks_one : {V : Type 0} (server : Server V) (count : ℕ) (s next : Session V) (said before items began behind : List (Item Token)) (ask : ServerAsk V) (asked : List (ServerAsk V)) → length said ≡ count → items ≡ []
     → Answers server count s before ask next began → Goes server [] began next asked behind → Goes server said before s (ask ∷ asked) (items ++ behind)
 asks_one {V} server count s next said before items began behind (Runs request) asked is i h more =
     over server (said ++ before) said (but_news (request s).items) began (request s).after next asked items behind (ap (λ (x : List (Item Token)). said ++ x) h.0 ∙ no_more said) h.2 h.1 i more
@@ -120,7 +120,7 @@ asks_one {V} server count s next said before items began behind (Ends number) as
     (ap (λ (x : ℕ). take x (said ++ before)) (h.0 ∙ sym is) ∙ take-append_seam said before) h.2 h.1 i more
 
 -- One moment, and then the others.
-pub then_more : {V : Type 0} (server : Server V) (count : ℕ) (s next : Session V) (said before items began behind : List (Item Token)) (now asked : List (Ask V)) → length said ≡ count
+pub then_more : {V : Type 0} (server : Server V) (count : ℕ) (s next : Session V) (said before items began behind : List (Item Token)) (now asked : List (ServerAsk V)) → length said ≡ count
     → Follows server count s before now items next began
     → ((more : List (Item Token)) → length more ≡ count_behind count now items → Goes server more began next asked behind) → Goes server said before s (now ++ asked) (items ++ behind)
 then_more {V} server count s next said before items began behind [] asked is h more =
@@ -134,16 +134,16 @@ then_more {V} server count s next said before items began behind (ask ∷ anothe
 
 told : {V : Type 0} (server : Server V) (key count : ℕ) (s : Session V) (w : World V) (ms : List (Moment V)) (said : List (Item Token)) → length said ≡ count → Story server key s w → Sound w.pool
     → AllSit w.pool → AllOrderly turn key server w ms
-    → Goes server said (underway key w) s (asks turn key server count w ms) (given turn key server w ms ++ underway key (world_after turn server w ms))
+    → Goes server said (underway key w) s (all_asks turn key server count w ms) (given turn key server w ms ++ underway key (world_after turn server w ms))
 told server key count s w [] said is story sound sit orderly = refl
 told {V} server key count s w (m ∷ ms) said is story sound sit orderly =
     let n = one_moment server key count s w m story sound sit orderly.0 in
     let w2 = happens turn server w m in
-    let now = asks_by key server w m count m.event in
+    let now = asks_at key server w m count m.event in
     let items = given_in key w.pool m.event in
     let count2 = count_behind count now items in
     let behind = given turn key server w2 ms ++ underway key (world_after turn server w2 ms) in
-    then_more server count s n.next said (underway key w) items (underway key w2) behind now (asks turn key server count2 w2 ms) is n.follows
+    then_more server count s n.next said (underway key w) items (underway key w2) behind now (all_asks turn key server count2 w2 ms) is n.follows
     (λ more size. told server key count2 n.next w2 ms more size n.story (turn_sound w.pool m.event sound) (turn_sits w.pool sound sit m.event) orderly.1)
     ∙ ap (λ (x : List (Item Token)). said ++ x) (sym (joined items (given turn key server w2 ms) (underway key (world_after turn server w2 ms))))
 
@@ -165,7 +165,7 @@ as_if_alone {V} server sharing key before moments away uncut =
     let none = none_theirs key w.pool.holds away.holds in
     let story : Story server key (fresh server) w = inr (record { none = none; session = refl; once = inl away.waits }) in
     let all = told server key 0 (fresh server) w moments [] refl story (reached_holds server sharing before).0 (reached_holds server sharing before).1 uncut in
-    sym all ∙ ap (λ (x : List (Item Token)). answers_alone server x (fresh server) (asks turn key server 0 w moments)) (underway_none key w none)
+    sym all ∙ ap (λ (x : List (Item Token)). answers_alone server x (fresh server) (all_asks turn key server 0 w moments)) (underway_none key w none)
 
 pub goes_on : {V : Type 0} (server : Server V) (sharing : Sharing) (key : ℕ) (before moments : List (Moment V)) (h : Hold) (c : Seat) → IsAtRest key (reached server sharing before).pool h c
     → AllOrderly turn key server (reached server sharing before) moments
@@ -174,20 +174,20 @@ goes_on {V} server sharing key before moments h c rest uncut =
     let w = reached server sharing before in
     let s = found_next server w h c in
     let idle : StandsAt server s line.Idle c.line.heard.mark (w.ends h.number) = refl in
-    let stands : Stands server s c.line (w.ends h.number) = subst (λ (x : Stage). StandsAt server s x c.line.heard.mark (w.ends h.number)) (sym rest.idle) idle in
+    let stands : Stands server s c.line (w.ends h.number) = subst (λ (x : LineStage). StandsAt server s x c.line.heard.mark (w.ends h.number)) (sym rest.idle) idle in
     let its : Its w.pool key h c = record { sole = rest.holds; there = rest.there; lent = rest.lent; line = rest.waits } in
     let sound = (reached_holds server sharing before).0 in
     let story : Story server key s w = inl (record { hold = h; seat = c; its = its; stands = stands }) in
     let all = told server key 0 s w moments [] refl story sound (reached_holds server sharing before).1 uncut in
     let nothing : underway key w ≡ [] = underway_held key w h c line.Idle (found w.pool key h c sound its) rest.there rest.idle in
-    sym all ∙ ap (λ (x : List (Item Token)). answers_alone server x s (asks turn key server 0 w moments)) nothing
+    sym all ∙ ap (λ (x : List (Item Token)). answers_alone server x s (all_asks turn key server 0 w moments)) nothing
 
 -- Whoever shares with it, it's given the same where it asks the same.
 pub given_alike : {V : Type 0} (server : Server V) (sharing alike : Sharing) (key other : ℕ) (before there moments others : List (Moment V)) → IsAway key (reached server sharing before).pool → IsAway other (reached server alike there).pool
     → AllOrderly turn key server (reached server sharing before) moments → AllOrderly turn other server (reached server alike there) others
-    → asks turn key server 0 (reached server sharing before) moments ≡ asks turn other server 0 (reached server alike there) others
+    → all_asks turn key server 0 (reached server sharing before) moments ≡ all_asks turn other server 0 (reached server alike there) others
     → given turn key server (reached server sharing before) moments ++ underway key (world_after turn server (reached server sharing before) moments)
     ≡ given turn other server (reached server alike there) others ++ underway other (world_after turn server (reached server alike there) others)
 given_alike {V} server sharing alike key other before there moments others away gone uncut whole same =
-    as_if_alone server sharing key before moments away uncut ∙ ap (λ (x : List (Ask V)). answers_alone server [] (fresh server) x) same
+    as_if_alone server sharing key before moments away uncut ∙ ap (λ (x : List (ServerAsk V)). answers_alone server [] (fresh server) x) same
     ∙ sym (as_if_alone server alike other there others gone whole)

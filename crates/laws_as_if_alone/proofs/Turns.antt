@@ -6,7 +6,7 @@ use Rattle.tds_packet.specs.declared.status.Reset.TheVariants.{Full}
 use Rattle.tds_wire.specs.declared.told.Token.{Token}
 use Rattle.tds_service.specs.Parts.{Item}
 use Rattle.tds_service.specs.Line as line
-use Rattle.tds_service.specs.Line.{Stage}
+use Rattle.tds_service.specs.Line.{LineStage}
 use Rattle.tds_service.specs.Service.{Seat, seat_numbered}
 use Rattle.laws_conforming_server.specs.Lawful.{Session}
 use Rattle.tds_relay.specs.declared.pool.Hold.{Hold}
@@ -16,8 +16,8 @@ use Rattle.tds_relay.proofs.held.Lists.{none_theirs, theirs_found}
 use Rattle.tds_relay.proofs.held.Seated.{AllSit, turn_sits}
 use Rattle.tds_relay.proofs.promises.Bringing.{turn_sound}
 use Rattle.tds_relay.proofs.promises.Caring.{Sound}
-use Rattle.laws_as_if_alone.specs.Alone.{AllOrderly, asks_by, count_behind, ends_at, ends_by, given, given_in, line_at, underway}
-use Rattle.laws_as_if_alone.specs.Serving.{Ask, Resets, End, Moment, Server, World, answers_alone, fresh, happens, reached, world_after}
+use Rattle.laws_as_if_alone.specs.Alone.{AllOrderly, asks_at, count_behind, ends_at, ends_by, given, given_in, line_at, underway}
+use Rattle.laws_as_if_alone.specs.Serving.{ServerAsk, Resets, ServerEnd, Moment, Server, World, answers_alone, fresh, happens, reached, world_after}
 use Rattle.laws_as_if_alone.specs.Turns.{AllParkedFresh, AsIfUnparked, IsParkedFresh, asks_but, asks_in}
 use Rattle.laws_as_if_alone.proofs.Own.{Follows, Stands, StandsAt}
 use Rattle.laws_as_if_alone.proofs.Story.{Next, Story, underway_held, underway_none}
@@ -29,8 +29,8 @@ module _ {V : Type 0} (server : Server V) (key : ℕ) (s : Session V) (w : World
   its_hold : find_key key w.pool.holds ≡ Some p.hold
   its_hold = theirs_found key p.hold w.pool.holds p.rests.holds
 
-  by_stage : (c : Seat) (e : End V) → c.line.stage ≡ line.Idle → StandsAt server s c.line.stage c.line.heard.mark e → StandsAt server s line.Idle c.line.heard.mark e
-  by_stage c e idle stands = subst (λ (x : Stage). StandsAt server s x c.line.heard.mark e) idle stands
+  by_stage : (c : Seat) (e : ServerEnd V) → c.line.stage ≡ line.Idle → StandsAt server s c.line.stage c.line.heard.mark e → StandsAt server s line.Idle c.line.heard.mark e
+  by_stage c e idle stands = subst (λ (x : LineStage). StandsAt server s x c.line.heard.mark e) idle stands
 
   in_session : Story server key s w → s ≡ fresh server
   in_session (inl k) =
@@ -45,9 +45,9 @@ module _ {V : Type 0} (server : Server V) (key : ℕ) (s : Session V) (w : World
   nothing : underway key w ≡ []
   nothing = underway_held key w p.hold p.seat line.Idle its_hold p.rests.there p.rests.idle
 
-  asks_reset : (count : ℕ) → asks_by key server w m count m.event ≡ Resets Full ∷ []
+  asks_reset : (count : ℕ) → asks_at key server w m count m.event ≡ Resets Full ∷ []
   asks_reset count =
-      let at : asks_by key server w m count m.event ≡ (if key == key then ends_by w.pool count (find_key key w.pool.holds) else []) = ap (asks_by key server w m count) p.leaves in
+      let at : asks_at key server w m count m.event ≡ (if key == key then ends_by w.pool count (find_key key w.pool.holds) else []) = ap (asks_at key server w m count) p.leaves in
       let own : (if key == key then ends_by {V = V} w.pool count (find_key key w.pool.holds) else []) ≡ ends_by w.pool count (find_key key w.pool.holds) =
       ap (λ (b : Bool). if b then ends_by {V = V} w.pool count (find_key key w.pool.holds) else []) (eq-eqb key key refl) in
       let held : ends_by {V = V} w.pool count (find_key key w.pool.holds) ≡ ends_at count (line_at (seat_numbered p.hold.number w.pool.service.seats)).stage = ap (ends_by w.pool count) its_hold in
@@ -55,17 +55,17 @@ module _ {V : Type 0} (server : Server V) (key : ℕ) (s : Session V) (w : World
       at ∙ own ∙ held ∙ seated ∙ ap (ends_at count) p.rests.idle
 
   -- so nothing is asked by it
-  parked : (count : ℕ) (next : Session V) (items behind : List (Item Token)) → Story server key s w → Follows server count s (underway key w) (asks_by key server w m count m.event) items next behind
+  parked : (count : ℕ) (next : Session V) (items behind : List (Item Token)) → Story server key s w → Follows server count s (underway key w) (asks_at key server w m count m.event) items next behind
       → Follows server count s (underway key w) [] items next behind
   parked count next items behind story follows =
-      let f : Follows server count s (underway key w) (Resets Full ∷ []) items next behind = subst (λ (xs : List (Ask V)). Follows server count s (underway key w) xs items next behind) (asks_reset count) follows in
+      let f : Follows server count s (underway key w) (Resets Full ∷ []) items next behind = subst (λ (xs : List (ServerAsk V)). Follows server count s (underway key w) xs items next behind) (asks_reset count) follows in
       let none : items ++ behind ≡ [] = ap (λ (xs : List (Item Token)). xs ++ behind) f.0 ∙ f.1.2 in
       (f.1.1 ∙ sym (in_session story), nothing ∙ sym none)
 
 -- ---- All of them
 
 asked_so : {V : Type 0} (server : Server V) (key count : ℕ) (s : Session V) (w : World V) (m : Moment V) (parks : Moment V → Bool) (b : Bool) → parks m ≡ b → Story server key s w → (parks m ≡ true → IsParkedFresh key server w m)
-    → (n : Next server key count s w m) → Follows server count s (underway key w) (if b then [] else asks_by key server w m count m.event) (given_in key w.pool m.event) n.next (underway key (happens turn server w m))
+    → (n : Next server key count s w m) → Follows server count s (underway key w) (if b then [] else asks_at key server w m count m.event) (given_in key w.pool m.event) n.next (underway key (happens turn server w m))
 asked_so server key count s w m parks true e story fresh n = parked server key s w m (fresh e) count n.next (given_in key w.pool m.event) (underway key (happens turn server w m)) story n.follows
 asked_so server key count s w m parks false e story fresh n = n.follows
 

@@ -11,7 +11,7 @@ use Rattle.tds_service.specs.History.{Done}
 use Rattle.tds_service.specs.Service.{Service, on, steps}
 use Rattle.laws_conforming_server.specs.Lawful.{Session, reset_by}
 use Rattle.tds_relay.specs.Pool as pool
-use Rattle.tds_relay.specs.Pool.{Pool, Event, Sharing, Turn, new_pool, turn}
+use Rattle.tds_relay.specs.Pool.{Pool, Event, Sharing, PoolTurn, new_pool, turn}
 
 -- What a request is answered, and the session that it leaves.
 pub record Served (V : Type 0) : Type 0 where
@@ -43,15 +43,15 @@ fresh server = record { transaction = 0; settings = server.settings }
 
 -- A request; a reset, which is done with the next one; a stop of an answer, behind so many tokens, and the session that is found then; or
 -- an end amid an answer, behind so many: who comes next begins anew.
-pub data Ask (V : Type 0) : Type 0 where
-  Runs : (request : Request V) → Ask V
-  Resets : (reset : Reset) → Ask V
-  Stops : (count : ℕ) → Ask V
-  Finds : (session : Session V) → Ask V
-  Ends : (count : ℕ) → Ask V
+pub data ServerAsk (V : Type 0) : Type 0 where
+  Runs : (request : Request V) → ServerAsk V
+  Resets : (reset : Reset) → ServerAsk V
+  Stops : (count : ℕ) → ServerAsk V
+  Finds : (session : Session V) → ServerAsk V
+  Ends : (count : ℕ) → ServerAsk V
 
 -- What is answered by one that has this answer still to give, and is in this session.
-abbrev pub answers_alone : {V : Type 0} → Server V → List (Item Token) → Session V → List (Ask V) → List (Item Token)
+abbrev pub answers_alone : {V : Type 0} → Server V → List (Item Token) → Session V → List (ServerAsk V) → List (Item Token)
 answers_alone server answer s [] = answer
 answers_alone server answer s (Runs request ∷ asks) = answer ++ answers_alone server (but_news (request s).items) (request s).after asks
 answers_alone server answer s (Resets reset ∷ asks) = answer ++ answers_alone server [] (reset_by server.settings reset s) asks
@@ -62,12 +62,12 @@ answers_alone server answer s (Ends count ∷ asks) = take count answer ++ answe
 -- ---- The server's end of a connection
 
 -- Its session; the reset that the request which comes asks for; and what is still to be said of the answer.
-pub record End (V : Type 0) : Type 0 where
+pub record ServerEnd (V : Type 0) : Type 0 where
   pub session : Session V
   pub reset : Option Reset
   pub due : List (Item Token)
 
-abbrev pub new_end : {V : Type 0} → Server V → End V
+abbrev pub new_end : {V : Type 0} → Server V → ServerEnd V
 new_end server = record { session = fresh server; reset = None; due = [] }
 
 -- Where a reset is asked for it is done first, and told (MS-TDS 2.2.3.1.2).
@@ -79,8 +79,8 @@ abbrev pub told_if : {V : Type 0} → Server V → Option Reset → List (Item T
 told_if server None items = items
 told_if server (Some reset) items = server.with_news reset items
 
-abbrev pub serves : {V : Type 0} → Server V → Request V → Option Reset → Session V → End V
-serves server request reset s = record {
+abbrev pub server_serves : {V : Type 0} → Server V → Request V → Option Reset → Session V → ServerEnd V
+server_serves server request reset s = record {
   session = (request (reset_if server reset s)).after;
   reset = None;
   due = told_if server reset (request (reset_if server reset s)).items;
@@ -93,23 +93,23 @@ pub record Moment (V : Type 0) : Type 0 where
   pub request : Request V
   pub left : Session V
 
-abbrev pub takes : {V : Type 0} → Server V → Moment V → Packet → End V → End V
+abbrev pub takes : {V : Type 0} → Server V → Moment V → Packet → ServerEnd V → ServerEnd V
 takes server m (OfRequest request first reset false) e =
     record { session = e.session; reset = if first then reset else e.reset; due = e.due }
-takes server m (OfRequest request first reset true) e = serves server m.request (if first then reset else e.reset) e.session
+takes server m (OfRequest request first reset true) e = server_serves server m.request (if first then reset else e.reset) e.session
 takes server m (Ignore request) e = record { session = e.session; reset = None; due = e.due }
 takes server m Attention e = record { session = m.left; reset = None; due = [] }
 
-abbrev pub takes_all : {V : Type 0} → Server V → Moment V → List Packet → End V → End V
+abbrev pub takes_all : {V : Type 0} → Server V → Moment V → List Packet → ServerEnd V → ServerEnd V
 takes_all server m [] e = e
 takes_all server m (packet ∷ packets) e = takes_all server m packets (takes server m packet e)
 
 -- Behind a login: one whose number wasn't given before.
-abbrev pub logged_in : {V : Type 0} → Server V → Service → ℕ → End V → End V
+abbrev pub logged_in : {V : Type 0} → Server V → Service → ℕ → ServerEnd V → ServerEnd V
 logged_in server s n e = if nat_lt s.last n then new_end server else e
 
 -- What came was said.
-abbrev pub said : {V : Type 0} → ℕ → Event → End V → End V
+abbrev pub said : {V : Type 0} → ℕ → Event → ServerEnd V → ServerEnd V
 said n (pool.Comes number part way) e =
     record { session = e.session; reset = e.reset; due = if number == n then drop (length part.items) e.due else e.due }
 said n event e = e
@@ -118,7 +118,7 @@ said n event e = e
 
 pub record World (V : Type 0) : Type 0 where
   pub pool : Pool
-  pub ends : ℕ → End V
+  pub ends : ℕ → ServerEnd V
 
 abbrev pub new_world : {V : Type 0} → Server V → Sharing → World V
 new_world server sharing = record { pool = new_pool sharing; ends = λ n. new_end server }
@@ -128,16 +128,16 @@ packets_in [] = []
 packets_in (d ∷ ds) = d.sent ++ packets_in ds
 
 -- What goes out on a connection. What a pool does is a parameter, so that other pools can be tried.
-abbrev pub goes_out : (Pool → Event → Turn) → Pool → Event → ℕ → List Packet
+abbrev pub goes_out : (Pool → Event → PoolTurn) → Pool → Event → ℕ → List Packet
 goes_out turns d event n = packets_in (on n (steps d.service (turns d event).calls))
 
-abbrev pub happens : {V : Type 0} → (Pool → Event → Turn) → Server V → World V → Moment V → World V
+abbrev pub happens : {V : Type 0} → (Pool → Event → PoolTurn) → Server V → World V → Moment V → World V
 happens turns server w m = record {
   pool = (turns w.pool m.event).pool;
   ends = λ n. takes_all server m (goes_out turns w.pool m.event n) (said n m.event (logged_in server w.pool.service n (w.ends n)));
 }
 
-abbrev pub world_after : {V : Type 0} → (Pool → Event → Turn) → Server V → World V → List (Moment V) → World V
+abbrev pub world_after : {V : Type 0} → (Pool → Event → PoolTurn) → Server V → World V → List (Moment V) → World V
 world_after turns server w [] = w
 world_after turns server w (m ∷ ms) = world_after turns server (happens turns server w m) ms
 

@@ -6,12 +6,12 @@ use Rattle.tds_service.specs.Service.{Seat, Service}
 use Rattle.laws_conforming_server.specs.Lawful.{Session}
 use Rattle.tds_relay.specs.declared.pool.Hold.{Hold}
 use Rattle.tds_relay.specs.Pool as pool
-use Rattle.tds_relay.specs.Pool.{Pool, Event, Turn, Way}
+use Rattle.tds_relay.specs.Pool.{Pool, Event, PoolTurn, Way}
 use Rattle.tds_state.specs.declared.asked.Request as asked
 use Rattle.tds_state.specs.Pasts.{Remark, Begins, Goes, Cancels, session_said}
 use Rattle.tds_state.specs.Sessions.{session_rests}
 use Rattle.laws_as_if_alone.specs.Alone.{IsAtRest}
-use Rattle.laws_as_if_alone.specs.Serving.{End, Moment, Request, Server, World, fresh, goes_out, happens, logged_in, reset_if, said, takes}
+use Rattle.laws_as_if_alone.specs.Serving.{ServerEnd, Moment, Request, Server, World, fresh, goes_out, happens, logged_in, reset_if, said, takes}
 
 -- ---- What was asked on a connection, and what its server told there, as a tracker hears it (remarks, the newest first)
 
@@ -88,7 +88,7 @@ moments_of {V} ts = map (λ (t : Remarked V). moment_of t) ts
 
 -- A server's end of a connection, with what was trips there.
 pub record RemarkedEnd (V : Type 0) : Type 0 where
-  pub end : End V
+  pub end : ServerEnd V
   pub trips : List (RoundTrip V)
 
 abbrev pub trips_in : {V : Type 0} → Remarked V → Packet → Option Reset → List (RoundTrip V) → List (RoundTrip V)
@@ -112,10 +112,10 @@ since_login s n es = if nat_lt s.last n then [] else es
 abbrev pub told_before : {V : Type 0} → Server V → World V → RoundTrips V → Remarked V → ℕ → RemarkedEnd V
 told_before server w x t n = record { end = said n t.event (logged_in server w.pool.service n (w.ends n)); trips = since_login w.pool.service n (x n) }
 
-abbrev pub trips_after : {V : Type 0} → (Pool → Event → Turn) → Server V → World V → RoundTrips V → Remarked V → RoundTrips V
+abbrev pub trips_after : {V : Type 0} → (Pool → Event → PoolTurn) → Server V → World V → RoundTrips V → Remarked V → RoundTrips V
 trips_after turns server w x t = λ n. (hears_all server t (goes_out turns w.pool t.event n) (told_before server w x t n)).trips
 
-abbrev pub all_trips_after : {V : Type 0} → (Pool → Event → Turn) → Server V → World V → RoundTrips V → List (Remarked V) → RoundTrips V
+abbrev pub all_trips_after : {V : Type 0} → (Pool → Event → PoolTurn) → Server V → World V → RoundTrips V → List (Remarked V) → RoundTrips V
 all_trips_after turns server w x [] = x
 all_trips_after turns server w x (t ∷ ts) = all_trips_after turns server (happens turns server w (moment_of t)) (trips_after turns server w x t) ts
 
@@ -136,7 +136,7 @@ pub record IsParkedAtRest {V E : Type 0} (key : ℕ) (server : Server V) (login 
   pub told : lets_rest (saying_of server login (may since)).all ≡ true
 
 -- So it is in each moment in which it is parked.
-abbrev pub AllParkedAtRest : {V E : Type 0} → (Moment V → Bool) → (Pool → Event → Turn) → ℕ → Server V → List Remark → (E → List (RoundTrip V)) → World V → RoundTrips V → List (Remarked V) → Type 0
+abbrev pub AllParkedAtRest : {V E : Type 0} → (Moment V → Bool) → (Pool → Event → PoolTurn) → ℕ → Server V → List Remark → (E → List (RoundTrip V)) → World V → RoundTrips V → List (Remarked V) → Type 0
 AllParkedAtRest parks turns key server login may w x [] = Unit {0}
 AllParkedAtRest parks turns key server login may w x (t ∷ ts) =
     (parks (moment_of t) ≡ true → IsParkedAtRest key server login may w x t.event)

@@ -1,7 +1,7 @@
 -- The moments of a visit to a relay.
 use Rattle.std.specs.Prelude.{◌≡◌, ℕ, List, [], ◌∷◌, map}
 use Rattle.tds_relay.specs.Away.{done_before, done_since}
-use Rattle.tds_relay.specs.Pool.{Pool, Event, Sharing, Turn}
+use Rattle.tds_relay.specs.Pool.{Pool, Event, Sharing, PoolTurn}
 use Rattle.tds_relay.specs.Giving.{Visit}
 use Rattle.laws_as_if_alone.specs.Alone.{IsSaid}
 use Rattle.laws_as_if_alone.specs.Serving.{Moment, Server, World, happens, reached}
@@ -21,6 +21,6 @@ abbrev pub world_in : {V : Type 0} {sharing : Sharing} {key : ℕ} {v : Visit sh
 world_in {V} {sharing} server ms = reached server sharing ms.before
 
 -- What comes of an answer that it reads is what the server there says next, or a fault.
-abbrev pub AllSaid : {V : Type 0} → (Pool → Event → Turn) → ℕ → Server V → World V → List (Moment V) → Type 0
+abbrev pub AllSaid : {V : Type 0} → (Pool → Event → PoolTurn) → ℕ → Server V → World V → List (Moment V) → Type 0
 AllSaid turns key server w [] = Unit {0}
 AllSaid turns key server w (m ∷ ms) = IsSaid key w m.event × AllSaid turns key server (happens turns server w m) ms

@@ -5,11 +5,11 @@ ghost use Rattle.tds_service.specs.Service.{Seat};
 ghost use Rattle.tds_relay.specs.declared.pool.Hold.{Hold};
 ghost use Rattle.tds_relay.specs.Away.{IsAway};
 ghost use Rattle.tds_relay.specs.Pool.{Sharing, turn};
-ghost use Rattle.tds_relay.specs.Giving.{ReadVisit, Visit, machine_in};
+ghost use Rattle.tds_relay.specs.Giving.{ReadVisit, Visit, machine_at_visit};
 ghost use Rattle.laws_as_if_alone.specs.Serving.{Moment, Server, World, fresh, new_world, reached};
 ghost use Rattle.laws_as_if_alone.specs.Serving.{world_after};
 ghost use Rattle.tds_state.specs.Pasts.{Remark};
-ghost use Rattle.laws_as_if_alone.specs.Alone.{AllOrderly, AsIfAlone, IsAtRest, asks, found_next};
+ghost use Rattle.laws_as_if_alone.specs.Alone.{AllOrderly, AsIfAlone, IsAtRest, all_asks, found_next};
 ghost use Rattle.laws_as_if_alone.specs.Alone.{given, underway};
 ghost use Rattle.laws_as_if_alone.specs.Bytes.{AllRead, ReadAsIfAlone, TokenParsers, parsers_in};
 ghost use Rattle.laws_as_if_alone.specs.Telling.{AllParkedAtRest, RoundTrip, Remarked, TellsAll};
@@ -105,8 +105,8 @@ pub fn given_alike<V>()
         → IsAway other (reached server alike there).pool
         → AllOrderly turn key server (reached server sharing before) moments
         → AllOrderly turn other server (reached server alike there) others
-        → asks turn key server 0 (reached server sharing before) moments
-        ≡ asks turn other server 0 (reached server alike there) others
+        → all_asks turn key server 0 (reached server sharing before) moments
+        ≡ all_asks turn other server 0 (reached server alike there) others
         → given turn key server (reached server sharing before) moments
         ++ underway key (world_after turn server (reached server sharing before) moments)
         ≡ given turn other server (reached server alike there) others
@@ -140,7 +140,7 @@ pub fn alone_in_bytes<V>()
         ms.since (world_after turn server (world_in server ms) ms.since) }
     // So it is from wherever parsers stand, where each packet is read from there.
     ensures there { (server : Server V) (sharing : Sharing) (key : ℕ) (v : Visit sharing key)
-        (ms : Moments V v) (at : TokenParsers) → AllRead at (machine_in v) v.since
+        (ms : Moments V v) (at : TokenParsers) → AllRead at (machine_at_visit v) v.since
         → AllSaid turn key server (world_in server ms) ms.since
         → ReadAsIfAlone turn server (fresh server) at v (world_in server ms) ms.since
         (world_after turn server (world_in server ms) ms.since) }

@@ -3,7 +3,7 @@ use Rattle.std.proofs.Common.{◌≡◌, ◌⊎◌, ℕ, Bool, true, false, List
 use Rattle.tds_client.specs.declared.heard.Heard.{Heard}
 use Rattle.tds_service.specs.Parts.{Part}
 use Rattle.tds_service.specs.Line as lines
-use Rattle.tds_service.specs.Line.{Line, Stage, Idle, Sending, Reading, Cancelling, Broken, Packet, OfRequest, Ignore, Attention, Act, Mark, Ask, Send, Cancel, Come, Lose, Turn, Answer, turn}
+use Rattle.tds_service.specs.Line.{Line, LineStage, Idle, Sending, Reading, Cancelling, Broken, Packet, OfRequest, Ignore, Attention, Act, Mark, Ask, Send, Cancel, Come, Lose, Turn, Answer, line_turn}
 use Rattle.tds_service.specs.History.{done_by}
 use Rattle.laws_conforming_server.specs.Lawful.{Engine, IsLawful}
 use Rattle.laws_conforming_server.specs.Link as links
@@ -20,17 +20,17 @@ use Rattle.laws_conforming_server.proofs.Plans.{Planned, Does, Takes, Speaks, mo
 
 pub quiet_on : {V T : Type 0} (engine : Engine V T) (l : Line) (link : Link V T) → l.stage ≡ Idle → FlowOn engine l link → IsQuiet l link
 quiet_on engine l link e f =
-    let q : Quiet l.heard link = subst (λ (s : Stage). Flow engine l.asked s l.heard link) e f in
+    let q : Quiet l.heard link = subst (λ (s : LineStage). Flow engine l.asked s l.heard link) e f in
     record { up = q.up; down = q.still.down; due = q.still.due; transaction = q.still.transaction }
 
 -- ---- No fault
 
-abbrev pub NotBroken : Stage → Type 0
+abbrev pub NotBroken : LineStage → Type 0
 NotBroken (Broken fault) = ⊥
 NotBroken stage = Unit {0}
 
 -- The client isn't broken by an act, unless that loses the connection.
-abbrev pub Unbroken : {T : Type 0} → Act T → Stage → Type 0
+abbrev pub Unbroken : {T : Type 0} → Act T → LineStage → Type 0
 Unbroken (Mark reset) stage = NotBroken stage
 Unbroken Ask stage = NotBroken stage
 Unbroken (Send last) stage = NotBroken stage
@@ -43,17 +43,17 @@ abbrev pub Sound : {T : Type 0} → Act T → Turn T → Type 0
 Sound a t = IsNoFault t.answer × UnlessLost t.answer (NotBroken t.line.stage) × Unbroken a t.line.stage
 
 sound_read : {V T : Type 0} (engine : Engine V T) (n : ℕ) (h : Heard) (link : Link V T) (part : Part T)
-    → ReadsOn engine n h link part ⊎ ReadsOut n h link part → Sound (Come part) (turn (line n Reading h) (Come part))
+    → ReadsOn engine n h link part ⊎ ReadsOut n h link part → Sound (Come part) (line_turn (line n Reading h) (Come part))
 sound_read {V} {T} engine n h link part (inl r) = subst (λ (t : Turn T). Sound (Come part) t) (sym r.is) (tt, tt, tt)
 sound_read {V} {T} engine n h link part (inr r) = subst (λ (t : Turn T). Sound (Come part) t) (sym r.is) (tt, tt, tt)
 
 sound_skip : {V T : Type 0} (n : ℕ) (h : Heard) (stopped : Bool) (link : Link V T) (part : Part T)
-    → SkipsOn n h stopped link part ⊎ SkipsOut n h link part → Sound (Come part) (turn (line n Cancelling h) (Come part))
+    → SkipsOn n h stopped link part ⊎ SkipsOut n h link part → Sound (Come part) (line_turn (line n Cancelling h) (Come part))
 sound_skip {V} {T} n h stopped link part (inl r) = subst (λ (t : Turn T). Sound (Come part) t) (sym r.is) (tt, tt, tt)
 sound_skip {V} {T} n h stopped link part (inr r) = subst (λ (t : Turn T). Sound (Come part) t) (sym r.is) (tt, tt, tt)
 
-pub sound : {V T : Type 0} (engine : Engine V T) (n : ℕ) (stage : Stage) (h : Heard) (link : Link V T) (a : Act T)
-    → NotBroken stage → Flow engine n stage h link → Comes a link.down link.server.due → Sound a (turn (line n stage h) a)
+pub sound : {V T : Type 0} (engine : Engine V T) (n : ℕ) (stage : LineStage) (h : Heard) (link : Link V T) (a : Act T)
+    → NotBroken stage → Flow engine n stage h link → Comes a link.down link.server.due → Sound a (line_turn (line n stage h) a)
 sound engine n Idle h link (Mark reset) b f c = (tt, tt, tt)
 sound engine n Idle h link Ask b f c = (tt, tt, tt)
 sound engine n Idle h link (Send last) b f c = (tt, tt, tt)
@@ -105,10 +105,10 @@ pub no_fault : {V T : Type 0} (engine : Engine V T) (lawful : IsLawful engine) (
     → NotBroken l.stage → FlowOn engine l link → Runs engine link (moves_by l plan) → NoFault (here (moves_by l plan))
 no_fault engine lawful l link [] b f runs = tt
 no_fault engine lawful l link (Does a ∷ plan) b f runs =
-    let s : Sound a (turn l a) = sound engine l.asked l.stage l.heard link a b f runs.0 in (
+    let s : Sound a (line_turn l a) = sound engine l.asked l.stage l.heard link a b f runs.0 in (
       s.0,
-      then_rest (turn l a).answer (NotBroken (turn l a).line.stage) (NoFault (here (moves_by (turn l a).line plan))) s.1
-          (λ (c : NotBroken (turn l a).line.stage). no_fault engine lawful (turn l a).line (goes engine link (links.Here (done_by a (turn l a)))) plan c
+      then_rest (line_turn l a).answer (NotBroken (line_turn l a).line.stage) (NoFault (here (moves_by (line_turn l a).line plan))) s.1
+          (λ (c : NotBroken (line_turn l a).line.stage). no_fault engine lawful (line_turn l a).line (goes engine link (links.Here (done_by a (line_turn l a)))) plan c
           (keeps_act engine l.asked l.stage l.heard link a f runs.0) runs.1),
     )
 no_fault engine lawful l link (Takes ∷ plan) b f runs =

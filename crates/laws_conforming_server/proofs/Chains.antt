@@ -9,18 +9,18 @@ use Rattle.tds_client.specs.declared.sign.Sign.{Sign}
 use Rattle.tds_client.specs.declared.sign.Sign.TheVariants as signs
 use Rattle.tds_client.specs.Acts.{is_acknowledgement}
 use Rattle.tds_client.specs.Hearing.{◌>>=◌}
-use Rattle.tds_service.specs.Parts.{Item, Close, hear_items, told, told_by}
-use Rattle.laws_conforming_server.specs.Lawful.{Session, Step, Says, Ends, Breaks, IsAnswer, IsStop, final_by, reset_left, told_of}
+use Rattle.tds_service.specs.Parts.{Item, Close, hear_items, items_told, told_by}
+use Rattle.laws_conforming_server.specs.Lawful.{Session, ServerStep, Says, Ends, Breaks, IsAnswer, IsStop, final_by, reset_left, told_of}
 use Rattle.laws_conforming_server.specs.Starting.{owed_behind}
 use Rattle.laws_conforming_server.specs.Link.{IsEnd, IsNext, without, without_end, session_behind}
 use Rattle.laws_conforming_server.proofs.Hears.{heard, placed, leads_placed, leads_out_placed, done_of, done_sign, acknowledged, reading_heard, cancelling_heard, acknowledged_by}
 
-abbrev pub behind : {V T : Type 0} → Session V → List (Step V T) → Session V
+abbrev pub behind : {V T : Type 0} → Session V → List (ServerStep V T) → Session V
 behind s [] = s
 behind s (step ∷ steps) = behind (session_behind s step) steps
 
 -- The reset that is still to be done behind these.
-abbrev pub marks : {V T : Type 0} → Option Reset → List (Step V T) → Option Reset
+abbrev pub marks : {V T : Type 0} → Option Reset → List (ServerStep V T) → Option Reset
 marks mark [] = mark
 marks mark (step ∷ steps) = marks (owed_behind mark step) steps
 
@@ -35,20 +35,20 @@ then_items cancelling items r = r >>= λ next. hear_items cancelling next items
 -- ---- An answer that is read
 
 -- Its tokens are heard up to a part's end; what is left is still an answer.
-pub record ReadTo {V T : Type 0} (settings : V) (mark : Option Reset) (s : Session V) (final : Bool) (items : List (Item T)) (close : Close) (down due : List (Step V T)) : Type 0 where
+pub record ReadTo {V T : Type 0} (settings : V) (mark : Option Reset) (s : Session V) (final : Bool) (items : List (Item T)) (close : Close) (down due : List (ServerStep V T)) : Type 0 where
   pub now : Session V
   pub left_mark : Option Reset
   pub now_final : Bool
-  pub middle : List (Step V T)
+  pub middle : List (ServerStep V T)
   pub hears : hear_items false (heard s mark (done_of final)) items ≡ Ok (heard now left_mark (done_of now_final))
   pub answer : IsAnswer settings left_mark now now_final (middle ++ due)
   pub end : IsEnd close middle
   pub left : without items close down ≡ without_end close middle
   pub session : behind s down ≡ behind now middle
   pub owes : marks mark down ≡ marks left_mark middle
-  pub tells : told_of (down ++ due) ≡ told items ++ told_of (middle ++ due)
+  pub tells : told_of (down ++ due) ≡ items_told items ++ told_of (middle ++ due)
 
-read_more : {V T : Type 0} (settings : V) (mark : Option Reset) (s : Session V) (final : Bool) (item : Item T) (items : List (Item T)) (close : Close) (after : Session V) (down due : List (Step V T))
+read_more : {V T : Type 0} (settings : V) (mark : Option Reset) (s : Session V) (final : Bool) (item : Item T) (items : List (Item T)) (close : Close) (after : Session V) (down due : List (ServerStep V T))
     → (placed mark s.transaction item.sign ≡ Some after.transaction) → (is_acknowledgement item.sign ≡ false)
     → ReadTo settings (reset_left mark item.sign) after (final_by final item.sign) items close down due
     → ReadTo settings mark s final (item ∷ items) close (Says item after ∷ down) due
@@ -63,10 +63,10 @@ read_more settings mark s final item items close after down due p q ih = record 
   left = ih.left;
   session = ih.session;
   owes = ih.owes;
-  tells = ap (told_by item.sign item.token) ih.tells ∙ told_by_append item.sign item.token (told items) (told_of (ih.middle ++ due));
+  tells = ap (told_by item.sign item.token) ih.tells ∙ told_by_append item.sign item.token (items_told items) (told_of (ih.middle ++ due));
 }
 
-pub reads_to : {V T : Type 0} (settings : V) (mark : Option Reset) (s : Session V) (final : Bool) (items : List (Item T)) (close : Close) (down due : List (Step V T))
+pub reads_to : {V T : Type 0} (settings : V) (mark : Option Reset) (s : Session V) (final : Bool) (items : List (Item T)) (close : Close) (down due : List (ServerStep V T))
     → IsAnswer settings mark s final (down ++ due) → IsNext items close down → ReadTo settings mark s final items close down due
 reads_to settings mark s final [] close down due a n = record {
   now = s;
@@ -96,12 +96,12 @@ abbrev pub Quietly : Bool → Sign → Type 0
 Quietly true sign = Unit {0}
 Quietly false sign = is_acknowledgement sign ≡ false
 
-abbrev pub SettledBy : {V T : Type 0} → (stopped acked : Bool) → List (Step V T) → Type 0 → Type 0
+abbrev pub SettledBy : {V T : Type 0} → (stopped acked : Bool) → List (ServerStep V T) → Type 0 → Type 0
 SettledBy true true steps others = steps ≡ []
 SettledBy false true steps others = ⊥
 SettledBy stopped false steps others = others
 
-abbrev pub Cancels : {V T : Type 0} → (stopped : Bool) → Option Reset → Session V → (acked : Bool) → List (Step V T) → Type 0
+abbrev pub Cancels : {V T : Type 0} → (stopped : Bool) → Option Reset → Session V → (acked : Bool) → List (ServerStep V T) → Type 0
 Cancels true mark s acked [] = ⊥
 Cancels false mark s acked [] = acked ≡ false
 Cancels stopped mark s acked (Says item after ∷ steps) =
@@ -110,7 +110,7 @@ Cancels stopped mark s acked (Says item after ∷ steps) =
 Cancels stopped mark s acked (Ends ∷ steps) = SettledBy stopped acked steps (Cancels stopped mark s false steps)
 Cancels stopped mark s acked (Breaks ∷ steps) = SettledBy stopped acked steps (Cancels stopped mark s false steps)
 
-pub answer_cancels : {V T : Type 0} (settings : V) (mark : Option Reset) (s : Session V) (final : Bool) (steps : List (Step V T))
+pub answer_cancels : {V T : Type 0} (settings : V) (mark : Option Reset) (s : Session V) (final : Bool) (steps : List (ServerStep V T))
     → IsAnswer settings mark s final steps → Cancels false mark s false steps
 answer_cancels settings mark s final [] a = absurd a
 answer_cancels settings mark s final (Says item after ∷ steps) a = (
@@ -119,12 +119,12 @@ answer_cancels settings mark s final (Says item after ∷ steps) a = (
   subst (λ (b : Bool). Cancels false (reset_left mark item.sign) after (false || b) steps) (sym a.1)
       (answer_cancels settings (reset_left mark item.sign) after (final_by final item.sign) steps a.2),
 )
-answer_cancels {V} {T} settings mark s final (Ends ∷ steps) a = subst (λ (ts : List (Step V T)). Cancels false mark s false ts) (sym a.2) refl
+answer_cancels {V} {T} settings mark s final (Ends ∷ steps) a = subst (λ (ts : List (ServerStep V T)). Cancels false mark s false ts) (sym a.2) refl
 answer_cancels settings mark s final (Breaks ∷ steps) a = absurd a
 
 -- ---- The attention is taken
 
-pub stop_cancels : {V T : Type 0} (mark : Option Reset) (s : Session V) (acked : Bool) (steps : List (Step V T))
+pub stop_cancels : {V T : Type 0} (mark : Option Reset) (s : Session V) (acked : Bool) (steps : List (ServerStep V T))
     → IsStop s acked steps → Cancels true mark s acked steps
 stop_cancels mark s acked [] a = absurd a
 stop_cancels mark s acked (Says item after ∷ steps) a = (
@@ -137,7 +137,7 @@ stop_cancels mark s false (Ends ∷ steps) a = stop_cancels mark s false steps a
 stop_cancels mark s true (Breaks ∷ steps) a = a
 stop_cancels mark s false (Breaks ∷ steps) a = stop_cancels mark s false steps a
 
-pub stops_behind : {V T : Type 0} (mark : Option Reset) (s : Session V) (down due stop : List (Step V T))
+pub stops_behind : {V T : Type 0} (mark : Option Reset) (s : Session V) (down due stop : List (ServerStep V T))
     → Cancels false mark s false (down ++ due) → IsStop (behind s down) false stop → Cancels true mark s false (down ++ stop)
 stops_behind mark s [] due stop a b = stop_cancels mark s false stop b
 stops_behind mark s (Says item after ∷ down) due stop a b = (
@@ -152,11 +152,11 @@ stops_behind mark s (Breaks ∷ down) due stop a b = stops_behind mark s down du
 
 -- ---- It is heard
 
-pub record SkippedTo {V T : Type 0} (stopped : Bool) (mark : Option Reset) (s : Session V) (done : FinalDone) (items : List (Item T)) (close : Close) (down due : List (Step V T)) : Type 0 where
+pub record SkippedTo {V T : Type 0} (stopped : Bool) (mark : Option Reset) (s : Session V) (done : FinalDone) (items : List (Item T)) (close : Close) (down due : List (ServerStep V T)) : Type 0 where
   pub now : Session V
   pub left_mark : Option Reset
   pub now_done : FinalDone
-  pub middle : List (Step V T)
+  pub middle : List (ServerStep V T)
   pub hears : hear_items true (heard s mark done) items ≡ Ok (heard now left_mark now_done)
   pub cancels : Cancels stopped left_mark now (acknowledged now_done) (middle ++ due)
   pub end : IsEnd close middle
@@ -164,7 +164,7 @@ pub record SkippedTo {V T : Type 0} (stopped : Bool) (mark : Option Reset) (s : 
   pub session : behind s down ≡ behind now middle
   pub owes : marks mark down ≡ marks left_mark middle
 
-skip_more : {V T : Type 0} (stopped : Bool) (mark : Option Reset) (s : Session V) (done : FinalDone) (item : Item T) (items : List (Item T)) (close : Close) (after : Session V) (down due : List (Step V T))
+skip_more : {V T : Type 0} (stopped : Bool) (mark : Option Reset) (s : Session V) (done : FinalDone) (item : Item T) (items : List (Item T)) (close : Close) (after : Session V) (down due : List (ServerStep V T))
     → (placed mark s.transaction item.sign ≡ Some after.transaction)
     → SkippedTo stopped (reset_left mark item.sign) after (done_sign done item.sign) items close down due
     → SkippedTo stopped mark s done (item ∷ items) close (Says item after ∷ down) due
@@ -181,7 +181,7 @@ skip_more stopped mark s done item items close after down due p ih = record {
   owes = ih.owes;
 }
 
-pub skips_to : {V T : Type 0} (stopped : Bool) (mark : Option Reset) (s : Session V) (done : FinalDone) (items : List (Item T)) (close : Close) (down due : List (Step V T))
+pub skips_to : {V T : Type 0} (stopped : Bool) (mark : Option Reset) (s : Session V) (done : FinalDone) (items : List (Item T)) (close : Close) (down due : List (ServerStep V T))
     → Cancels stopped mark s (acknowledged done) (down ++ due) → IsNext items close down → SkippedTo stopped mark s done items close down due
 skips_to stopped mark s done [] close down due a n = record {
   now = s;

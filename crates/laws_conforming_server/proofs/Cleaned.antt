@@ -1,8 +1,8 @@
 -- A cleaning frees a connection only where it is idle and clean.
 use Rattle.std.proofs.Common.{◌≡◌, ◌∙◌, ◌==◌, ℕ, Bool, true, false, List, [], ◌∷◌, refl, sym, ap, subst, inr}
 use Rattle.std.specs.Prelude.{Option, Some, None}
-use Rattle.tds_service.specs.Line.{Line, Stage, Idle, Sending, Reading, Cancelling, Broken, new_line}
-use Rattle.tds_service.specs.Service.{Place, Leased, Cleaning, Kept, Free, Draining, Seat, Service, Call, Back, Step, cleaned, clean_place, find_by, has_lease, is_clean, new_service, rests_clean, rests_cleaned, seat_numbered, service_after, on, step, steps}
+use Rattle.tds_service.specs.Line.{Line, LineStage, Idle, Sending, Reading, Cancelling, Broken, new_line}
+use Rattle.tds_service.specs.Service.{Place, Leased, Cleaning, Kept, Free, Draining, Seat, Service, Call, Back, ServiceStep, cleaned, clean_place, find_by, has_lease, is_clean, new_service, rests_clean, rests_cleaned, seat_numbered, service_after, on, step, steps}
 use Rattle.tds_service.specs.History.{acts_of, line_after}
 use Rattle.tds_service.proofs.Alone.{FitsIn, IsAlone, Tidy, step_alone}
 use Rattle.tds_service.proofs.Numbered.{is_found}
@@ -13,7 +13,7 @@ use Rattle.laws_conforming_server.proofs.Lifted.{Alone, clean_there}
 
 -- ---- A connection that a lease holds is the one of its number
 
-tidy_by : {T : Type 0} (n : ℕ) (l : Line) (t : Step T) (calls : List (Call T)) (b : Bool) → (t.number == n) ≡ b → IsAlone n l t
+tidy_by : {T : Type 0} (n : ℕ) (l : Line) (t : ServiceStep T) (calls : List (Call T)) (b : Bool) → (t.number == n) ≡ b → IsAlone n l t
     → ((k : Line) → FitsIn t.service n k → Tidy (service_after t.service calls)) → Tidy (service_after t.service calls)
 tidy_by n l t calls false e k ih = ih l (k.other e)
 tidy_by n l t calls true e k ih = let h = k.here e in ih _ h.2
@@ -38,7 +38,7 @@ pub record Frees (l : Line) : Type 0 where
   pub idle : l.stage ≡ Idle
   pub clean : is_clean l.heard.mark l.heard.descriptor ≡ true
 
-frees_idle : (l : Line) (clean : Bool) (stage : Stage) → l.stage ≡ stage → is_clean l.heard.mark l.heard.descriptor ≡ clean → rests_clean clean stage ≡ Some (Some Free) → Frees l
+frees_idle : (l : Line) (clean : Bool) (stage : LineStage) → l.stage ≡ stage → is_clean l.heard.mark l.heard.descriptor ≡ clean → rests_clean clean stage ≡ Some (Some Free) → Frees l
 frees_idle l true Idle e f g = record { idle = e; clean = f }
 frees_idle l false Idle e f g = let b : ⊥ = cc in absurd b
 frees_idle l clean (Sending begun) e f g = let b : ⊥ = cc in absurd b

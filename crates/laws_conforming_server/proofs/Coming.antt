@@ -11,15 +11,15 @@ use Rattle.tds_client.specs.Hearing.{may_end}
 use Rattle.tds_listen.specs.declared.fault.ListenFault.{ListenFault}
 use Rattle.tds_listen.specs.Hearing.{heard_by}
 use Rattle.tds_service.specs.Parts as parts
-use Rattle.tds_service.specs.Parts.{Item, Part, Close, close_by, close_part, hear_items, hear_part, heard_until, is_end, told, unless_owed}
-use Rattle.tds_service.specs.Line.{Line, Stage, Idle, Reading, Cancelling, Turn, Come, More, Finished, Acked, To, quiet, reads, skips, skips_to_end, turn}
-use Rattle.laws_conforming_server.specs.Lawful.{Session, Step, Says, Ends, Breaks, Engine, IsAnswer, told_of}
+use Rattle.tds_service.specs.Parts.{Item, Part, Close, close_by, close_part, hear_items, hear_part, heard_until, is_end, items_told, unless_owed}
+use Rattle.tds_service.specs.Line.{Line, LineStage, Idle, Reading, Cancelling, Turn, Come, More, Finished, Acked, To, quiet, reads, skips, skips_to_end, line_turn}
+use Rattle.laws_conforming_server.specs.Lawful.{Session, ServerStep, Says, Ends, Breaks, Engine, IsAnswer, told_of}
 use Rattle.laws_conforming_server.specs.Link.{Asking, Up, ups, Link, Comes, HasSome, IsEnd, without, without_end}
 use Rattle.laws_conforming_server.proofs.Hears.{heard, done_of, acknowledged}
 use Rattle.laws_conforming_server.proofs.Chains.{behind, marks, Cancels, SettledBy, ReadTo, reads_to, skips_to}
 use Rattle.laws_conforming_server.proofs.Flow.{Still, Quiet, Answers, Stops, attention_left}
 
-abbrev pub line : ℕ → Stage → Heard → Line
+abbrev pub line : ℕ → LineStage → Heard → Line
 line n s h = record { asked = n; stage = s; heard = h }
 
 -- The connection behind it.
@@ -34,31 +34,31 @@ came link part = record {
 abbrev pub then_close : Bool → Close → Result Heard ClientFault → Result Heard ListenFault
 then_close cancelling close r = heard_by r (λ next. close_part cancelling close next)
 
-nothing_left : {V T : Type 0} (xs ys : List (Step V T)) → xs ++ ys ≡ [] → (xs ≡ []) × (ys ≡ [])
+nothing_left : {V T : Type 0} (xs ys : List (ServerStep V T)) → xs ++ ys ≡ [] → (xs ≡ []) × (ys ≡ [])
 nothing_left [] ys e = (refl, e)
 nothing_left (x ∷ xs) ys e = let a : ⊥ = cc in absurd a
 
 -- ---- An answer that is read
 
 abbrev pub read_on : {T : Type 0} → ℕ → Heard → Part T → Turn T
-read_on n h part = record { line = line n Reading h; answer = More; sent = []; told = To n (told part.items) }
+read_on n h part = record { line = line n Reading h; answer = More; sent = []; told = To n (items_told part.items) }
 
 abbrev pub read_out : {T : Type 0} → ℕ → Heard → Part T → Turn T
-read_out n h part = record { line = line n Idle h; answer = Finished n; sent = []; told = To n (told part.items) }
+read_out n h part = record { line = line n Idle h; answer = Finished n; sent = []; told = To n (items_told part.items) }
 
 pub record ReadsOn {V T : Type 0} (engine : Engine V T) (n : ℕ) (h : Heard) (link : Link V T) (part : Part T) : Type 0 where
   pub after : Heard
-  pub is : turn (line n Reading h) (Come part) ≡ read_on n after part
+  pub is : line_turn (line n Reading h) (Come part) ≡ read_on n after part
   pub answers : Answers engine after (came link part)
   pub owes : marks h.mark link.down ≡ marks after.mark (without part.items part.close link.down)
-  pub tells : told_of (link.down ++ link.server.due) ≡ told part.items ++ told_of (without part.items part.close link.down ++ link.server.due)
+  pub tells : told_of (link.down ++ link.server.due) ≡ items_told part.items ++ told_of (without part.items part.close link.down ++ link.server.due)
 
 pub record ReadsOut {V T : Type 0} (n : ℕ) (h : Heard) (link : Link V T) (part : Part T) : Type 0 where
   pub after : Heard
-  pub is : turn (line n Reading h) (Come part) ≡ read_out n after part
+  pub is : line_turn (line n Reading h) (Come part) ≡ read_out n after part
   pub still : Quiet after (came link part)
   pub owes : marks h.mark link.down ≡ after.mark
-  pub tells : told_of (link.down ++ link.server.due) ≡ told part.items
+  pub tells : told_of (link.down ++ link.server.due) ≡ items_told part.items
 
 same_heard : {V : Type 0} (h : Heard) (s : Session V) (done : FinalDone) → h.descriptor ≡ s.transaction → h.done ≡ done → h ≡ heard s h.mark done
 same_heard h s done e f =
@@ -89,22 +89,22 @@ read_goes {V} {T} engine n h link items a rd hears = record {
     transaction = refl;
     final = rd.now_final;
     done = refl;
-    answer = subst (λ (m : List (Step V T)). IsAnswer engine.settings rd.left_mark rd.now rd.now_final (m ++ link.server.due)) (sym rd.left) rd.answer;
+    answer = subst (λ (m : List (ServerStep V T)). IsAnswer engine.settings rd.left_mark rd.now rd.now_final (m ++ link.server.due)) (sym rd.left) rd.answer;
     server = a.server ∙ rd.session ∙ ap (behind rd.now) (sym rd.left);
   };
   owes = rd.owes ∙ ap (marks rd.left_mark) (sym rd.left);
-  tells = rd.tells ∙ ap (λ (m : List (Step V T)). told items ++ told_of (m ++ link.server.due)) (sym rd.left);
+  tells = rd.tells ∙ ap (λ (m : List (ServerStep V T)). items_told items ++ told_of (m ++ link.server.due)) (sym rd.left);
 }
 
 -- It ends its message.
 read_ends : {V T : Type 0} (engine : Engine V T) (n : ℕ) (h : Heard) (link : Link V T) (items : List (Item T)) (a : Answers engine h link)
-    (now : Session V) (mark : Option Reset) (final : Bool) (middle : List (Step V T))
+    (now : Session V) (mark : Option Reset) (final : Bool) (middle : List (ServerStep V T))
     → hear_items false h items ≡ Ok (heard now mark (done_of final))
     → (mark ≡ None) → (final ≡ true) → (middle ++ link.server.due ≡ [])
     → (without items parts.Ends link.down ≡ middle)
     → (behind a.session link.down ≡ behind now middle)
     → (marks h.mark link.down ≡ marks mark middle)
-    → (told_of (link.down ++ link.server.due) ≡ told items ++ told_of (middle ++ link.server.due))
+    → (told_of (link.down ++ link.server.due) ≡ items_told items ++ told_of (middle ++ link.server.due))
     → ReadsOut n h link (part_of items parts.Ends)
 read_ends {V} {T} engine n h link items a now mark final middle hears p q e left session owes tells =
     let none : middle ≡ [] = (nothing_left middle link.server.due e).0 in
@@ -123,18 +123,18 @@ read_ends {V} {T} engine n h link items a now mark final middle hears p q e left
         };
       };
       owes = owes ∙ ap (marks mark) none ∙ p;
-      tells = tells ∙ ap (λ (m : List (Step V T)). told items ++ told_of m) e ∙ append_nothing (told items);
+      tells = tells ∙ ap (λ (m : List (ServerStep V T)). items_told items ++ told_of m) e ∙ append_nothing (items_told items);
     }
 
 read_closed : {V T : Type 0} (engine : Engine V T) (n : ℕ) (h : Heard) (link : Link V T) (items : List (Item T)) (close : Close) (a : Answers engine h link)
-    (now : Session V) (mark : Option Reset) (final : Bool) (middle : List (Step V T))
+    (now : Session V) (mark : Option Reset) (final : Bool) (middle : List (ServerStep V T))
     → hear_items false h items ≡ Ok (heard now mark (done_of final))
     → IsAnswer engine.settings mark now final (middle ++ link.server.due)
     → IsEnd close middle
     → (without items close link.down ≡ without_end close middle)
     → (behind a.session link.down ≡ behind now middle)
     → (marks h.mark link.down ≡ marks mark middle)
-    → (told_of (link.down ++ link.server.due) ≡ told items ++ told_of (middle ++ link.server.due))
+    → (told_of (link.down ++ link.server.due) ≡ items_told items ++ told_of (middle ++ link.server.due))
     → ReadsOn engine n h link (part_of items close) ⊎ ReadsOut n h link (part_of items close)
 read_closed engine n h link items parts.Goes a now mark final middle hears answer end left session owes tells =
     inl (read_goes engine n h link items a
@@ -175,13 +175,13 @@ read_comes engine n h link part a c =
 
 pub record SkipsOn {V T : Type 0} (n : ℕ) (h : Heard) (stopped : Bool) (link : Link V T) (part : Part T) : Type 0 where
   pub after : Heard
-  pub is : turn (line n Cancelling h) (Come part) ≡ quiet (line n Cancelling after) More
+  pub is : line_turn (line n Cancelling h) (Come part) ≡ quiet (line n Cancelling after) More
   pub stops : Stops stopped after (came link part)
   pub owes : marks h.mark link.down ≡ marks after.mark (without part.items part.close link.down)
 
 pub record SkipsOut {V T : Type 0} (n : ℕ) (h : Heard) (link : Link V T) (part : Part T) : Type 0 where
   pub after : Heard
-  pub is : turn (line n Cancelling h) (Come part) ≡ quiet (line n Idle after) (Acked n)
+  pub is : line_turn (line n Cancelling h) (Come part) ≡ quiet (line n Idle after) (Acked n)
   pub still : Quiet after (came link part)
   pub owes : marks h.mark link.down ≡ after.mark
 
@@ -190,7 +190,7 @@ still_up : (asking : Asking) (u : List Up) (stopped : Bool) → u ≡ ups asking
 still_up asking u stopped e = append_nothing u ∙ e
 
 skip_goes : {V T : Type 0} (n : ℕ) (h : Heard) (stopped : Bool) (link : Link V T) (items : List (Item T)) (a : Stops stopped h link)
-    (now : Session V) (mark : Option Reset) (done : FinalDone) (middle : List (Step V T))
+    (now : Session V) (mark : Option Reset) (done : FinalDone) (middle : List (ServerStep V T))
     → hear_items true h items ≡ Ok (heard now mark done)
     → Cancels stopped mark now (acknowledged done) (middle ++ link.server.due)
     → (without items parts.Goes link.down ≡ middle)
@@ -204,7 +204,7 @@ skip_goes {V} {T} n h stopped link items a now mark done middle hears cancels le
     up = still_up link.asking link.up stopped a.up;
     session = now;
     transaction = refl;
-    cancels = subst (λ (m : List (Step V T)). Cancels stopped mark now (acknowledged done) (m ++ link.server.due)) (sym left) cancels;
+    cancels = subst (λ (m : List (ServerStep V T)). Cancels stopped mark now (acknowledged done) (m ++ link.server.due)) (sym left) cancels;
     server = a.server ∙ session ∙ ap (behind now) (sym left);
   };
   owes = owes ∙ ap (marks mark) (sym left);
@@ -214,7 +214,7 @@ abbrev pub end_of : {T : Type 0} → ℕ → Heard → Part T → Heard → Turn
 end_of n h part after = skips_to_end (line n Cancelling h) after after.done
 
 end_turn : {T : Type 0} (n : ℕ) (h : Heard) (part : Part T) (after : Heard) → is_end part.close ≡ true → hear_part true h part ≡ Ok after
-    → turn (line n Cancelling h) (Come part) ≡ end_of n h part after
+    → line_turn (line n Cancelling h) (Come part) ≡ end_of n h part after
 end_turn n h part after e f =
     ap (λ (b : Bool). skips (line n Cancelling h) b (heard_until true h part.items) (hear_part true h part)) e
     ∙ ap (λ (r : Result Heard ListenFault). skips (line n Cancelling h) true (heard_until true h part.items) r) f
@@ -224,14 +224,14 @@ may_close h Awaited = refl
 may_close h Answered = refl
 may_close h Acknowledged = refl
 
-settled_open : {V T : Type 0} (stopped : Bool) (steps : List (Step V T)) (others : Type 0) → SettledBy stopped false steps others → others
+settled_open : {V T : Type 0} (stopped : Bool) (steps : List (ServerStep V T)) (others : Type 0) → SettledBy stopped false steps others → others
 settled_open true steps others o = o
 settled_open false steps others o = o
 
 -- The message ends, and the attention isn't acknowledged.
 skip_end : {V T : Type 0} (n : ℕ) (h : Heard) (stopped : Bool) (link : Link V T) (part : Part T) (a : Stops stopped h link)
-    (now : Session V) (mark : Option Reset) (middle : List (Step V T))
-    → turn (line n Cancelling h) (Come part) ≡ quiet (line n Cancelling (heard now mark Awaited)) More
+    (now : Session V) (mark : Option Reset) (middle : List (ServerStep V T))
+    → line_turn (line n Cancelling h) (Come part) ≡ quiet (line n Cancelling (heard now mark Awaited)) More
     → Cancels stopped mark now false (middle ++ link.server.due)
     → (without part.items part.close link.down ≡ middle)
     → (behind a.session link.down ≡ behind now middle)
@@ -244,7 +244,7 @@ skip_end {V} {T} n h stopped link part a now mark middle is cancels left session
     up = still_up link.asking link.up stopped a.up;
     session = now;
     transaction = refl;
-    cancels = subst (λ (m : List (Step V T)). Cancels stopped mark now false (m ++ link.server.due)) (sym left) cancels;
+    cancels = subst (λ (m : List (ServerStep V T)). Cancels stopped mark now false (m ++ link.server.due)) (sym left) cancels;
     server = a.server ∙ session ∙ ap (behind now) (sym left);
   };
   owes = owes ∙ ap (marks mark) (sym left);
@@ -252,8 +252,8 @@ skip_end {V} {T} n h stopped link part a now mark middle is cancels left session
 
 -- It is.
 skip_out : {V T : Type 0} (n : ℕ) (h : Heard) (link : Link V T) (part : Part T) (a : Stops true h link)
-    (now : Session V) (mark : Option Reset) (middle : List (Step V T))
-    → turn (line n Cancelling h) (Come part) ≡ quiet (line n Idle (heard now mark Awaited)) (Acked n)
+    (now : Session V) (mark : Option Reset) (middle : List (ServerStep V T))
+    → line_turn (line n Cancelling h) (Come part) ≡ quiet (line n Idle (heard now mark Awaited)) (Acked n)
     → (middle ++ link.server.due ≡ [])
     → (without part.items part.close link.down ≡ middle)
     → (behind a.session link.down ≡ behind now middle)
@@ -275,8 +275,8 @@ skip_out {V} {T} n h link part a now mark middle is e left session owes = record
 }
 
 skip_ends : {V T : Type 0} (n : ℕ) (h : Heard) (stopped : Bool) (link : Link V T) (part : Part T) (a : Stops stopped h link)
-    (now : Session V) (mark : Option Reset) (done : FinalDone) (middle : List (Step V T))
-    → turn (line n Cancelling h) (Come part) ≡ end_of n h part (heard now mark done)
+    (now : Session V) (mark : Option Reset) (done : FinalDone) (middle : List (ServerStep V T))
+    → line_turn (line n Cancelling h) (Come part) ≡ end_of n h part (heard now mark done)
     → SettledBy stopped (acknowledged done) (middle ++ link.server.due) (Cancels stopped mark now false (middle ++ link.server.due))
     → (without part.items part.close link.down ≡ middle)
     → (behind a.session link.down ≡ behind now middle)
@@ -290,7 +290,7 @@ skip_ends n h true link part a now mark Acknowledged middle is c left session ow
 skip_ends n h false link part a now mark Acknowledged middle is c left session owes = absurd c
 
 skip_closed : {V T : Type 0} (n : ℕ) (h : Heard) (stopped : Bool) (link : Link V T) (items : List (Item T)) (close : Close) (a : Stops stopped h link)
-    (now : Session V) (mark : Option Reset) (done : FinalDone) (middle : List (Step V T))
+    (now : Session V) (mark : Option Reset) (done : FinalDone) (middle : List (ServerStep V T))
     → hear_items true h items ≡ Ok (heard now mark done)
     → Cancels stopped mark now (acknowledged done) (middle ++ link.server.due)
     → IsEnd close middle
@@ -326,4 +326,4 @@ skip_comes {V} {T} n h stopped link part a c =
 
 pub nothing_comes : {V T : Type 0} (h : Heard) (link : Link V T) (part : Part T) → Still h link → Comes (Come part) link.down link.server.due → ⊥
 nothing_comes {V} {T} h link part s c =
-    subst (λ (xs : List (Step V T)). HasSome (xs ++ [])) s.down (subst (λ (ys : List (Step V T)). HasSome (link.down ++ ys)) s.due c.0)
+    subst (λ (xs : List (ServerStep V T)). HasSome (xs ++ [])) s.down (subst (λ (ys : List (ServerStep V T)). HasSome (link.down ++ ys)) s.due c.0)

@@ -12,7 +12,7 @@ use Rattle.tds_service.specs.Parts.{Item, Part}
 use Rattle.tds_service.specs.Line as line
 use Rattle.tds_service.specs.Line.{Answer, new_line}
 use Rattle.tds_service.specs.History.{Done, given, history}
-use Rattle.laws_conforming_server.specs.Lawful.{Session, Step, Says, Ends, Engine, IsAnswer, IsLawful, told_of}
+use Rattle.laws_conforming_server.specs.Lawful.{Session, ServerStep, Says, Ends, Engine, IsAnswer, IsLawful, told_of}
 use Rattle.laws_conforming_server.specs.Link.{IsRun, link_after, new_link}
 use Rattle.laws_conforming_server.specs.Answering.{answered}
 use Rattle.laws_conforming_server.proofs.Plans.{Planned, Does, Takes, Speaks, acts_in, moves_by}
@@ -40,11 +40,11 @@ acknowledged = record { sign = signs.Done Statement 32; token = 5 }
 abbrev pub at : ℕ → ℕ → Session ℕ
 at transaction settings = record { transaction = transaction; settings = settings }
 
-abbrev runs : ℕ → ℕ → List (Step ℕ ℕ)
+abbrev runs : ℕ → ℕ → List (ServerStep ℕ ℕ)
 runs zero settings = Says begun (at 7 settings) ∷ Says row (at 7 settings) ∷ Says done (at 7 settings) ∷ Ends ∷ []
 runs (suc d) settings = Says row (at (suc d) settings) ∷ Says done (at (suc d) settings) ∷ Ends ∷ []
 
-abbrev first : Option Reset → Session ℕ → List (Step ℕ ℕ)
+abbrev first : Option Reset → Session ℕ → List (ServerStep ℕ ℕ)
 first None s = runs s.transaction s.settings
 first (Some Full) s = Says reset (at 0 0) ∷ runs 0 0
 first (Some KeepTransaction) s = Says reset (at s.transaction 0) ∷ runs s.transaction 0

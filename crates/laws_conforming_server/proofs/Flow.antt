@@ -5,7 +5,7 @@ use Rattle.tds_packet.specs.declared.status.Reset.{Reset}
 use Rattle.tds_packet.specs.Resets.{header_descriptor}
 use Rattle.tds_client.specs.declared.heard.Heard.{Heard}
 use Rattle.tds_client.specs.declared.heard.FinalDone.TheVariants.{Awaited}
-use Rattle.tds_service.specs.Line.{Line, Stage, Idle, Sending, Reading, Cancelling, Broken, Packet, OfRequest, Ignore, Attention}
+use Rattle.tds_service.specs.Line.{Line, LineStage, Idle, Sending, Reading, Cancelling, Broken, Packet, OfRequest, Ignore, Attention}
 use Rattle.laws_conforming_server.specs.Lawful.{Session, Engine, IsAnswer}
 use Rattle.laws_conforming_server.specs.Link.{ups, Link}
 use Rattle.laws_conforming_server.proofs.Hears.{done_of, acknowledged}
@@ -85,7 +85,7 @@ pub record Stops {V T : Type 0} (stopped : Bool) (h : Heard) (link : Link V T) :
   pub cancels : Cancels stopped h.mark session (acknowledged h.done) (link.down ++ link.server.due)
   pub server : link.server.session ≡ behind session link.down
 
-abbrev pub Flow : {V T : Type 0} → Engine V T → ℕ → Stage → Heard → Link V T → Type 0
+abbrev pub Flow : {V T : Type 0} → Engine V T → ℕ → LineStage → Heard → Link V T → Type 0
 Flow engine n Idle h link = Quiet h link
 Flow engine n (Sending false) h link = Quiet h link × Named n h link
 Flow engine n (Sending true) h link = Uploads n h link (AreParts n h.mark)

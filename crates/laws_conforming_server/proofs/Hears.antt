@@ -17,7 +17,7 @@ use Rattle.tds_client.specs.declared.sign.DoneKind.TheVariants.{Statement, Proce
 use Rattle.tds_client.specs.declared.sign.Sign.{Sign}
 use Rattle.tds_client.specs.declared.sign.Sign.TheVariants as signs
 use Rattle.tds_client.specs.Acts.{is_acknowledgement}
-use Rattle.tds_client.specs.Hearing.{any_sign, acknowledges_by, change_placed, changed, done_behind, mark_after, place_change, place_done, with_done}
+use Rattle.tds_client.specs.Hearing.{any_sign, acknowledges_by, change_placed, descriptor_changed, done_behind, mark_after, place_change, place_done, with_done}
 use Rattle.laws_conforming_server.specs.Lawful.{Session, Leads, LeadsOut, final_by, reset_left}
 
 abbrev pub heard : {V : Type 0} → Session V → Option Reset → FinalDone → Heard
@@ -89,7 +89,7 @@ change_heard : {V : Type 0} (s after : Session V) (mark : Option Reset) (done : 
     → change_placed mark s.transaction change ≡ Some after.transaction
     → place_change (heard s mark done) change ≡ Ok (heard after (mark_after change mark) done)
 unfolding place_change
-change_heard s after mark done change p = ap (λ (d : Option ℕ). changed (heard s mark done) change d) p
+change_heard s after mark done change p = ap (λ (d : Option ℕ). descriptor_changed (heard s mark done) change d) p
 
 same_transaction : {V : Type 0} (s after : Session V) → Some s.transaction ≡ Some after.transaction → s.transaction ≡ after.transaction
 same_transaction s after p = cc

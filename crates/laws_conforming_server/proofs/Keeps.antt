@@ -5,9 +5,9 @@ use Rattle.tds_packet.specs.declared.status.Reset.{Reset}
 use Rattle.tds_packet.specs.Resets.{strongest}
 use Rattle.tds_client.specs.declared.heard.Heard.{Heard}
 use Rattle.tds_service.specs.Parts.{Part}
-use Rattle.tds_service.specs.Line.{Stage, Idle, Sending, Reading, Cancelling, Broken, Packet, OfRequest, Ignore, Attention, Act, Mark, Ask, Send, Cancel, Come, Lose, Turn, turn}
+use Rattle.tds_service.specs.Line.{LineStage, Idle, Sending, Reading, Cancelling, Broken, Packet, OfRequest, Ignore, Attention, Act, Mark, Ask, Send, Cancel, Come, Lose, Turn, line_turn}
 use Rattle.tds_service.specs.History.{done_by}
-use Rattle.laws_conforming_server.specs.Lawful.{Session, Step, Engine, IsAnswer}
+use Rattle.laws_conforming_server.specs.Lawful.{Session, ServerStep, Engine, IsAnswer}
 use Rattle.laws_conforming_server.specs.Link.{Asking, Up, ups, Link, Comes, HasSome, done_here, spoken, session_behind}
 use Rattle.laws_conforming_server.proofs.Hears.{done_of, acknowledged}
 use Rattle.laws_conforming_server.proofs.Chains.{behind, Cancels, answer_cancels}
@@ -16,21 +16,21 @@ use Rattle.laws_conforming_server.proofs.Coming.{line, append_nothing, nothing_c
 
 -- ---- The server says the next thing
 
-pub behind_append : {V T : Type 0} (s : Session V) (xs ys : List (Step V T)) → behind s (xs ++ ys) ≡ behind (behind s xs) ys
+pub behind_append : {V T : Type 0} (s : Session V) (xs ys : List (ServerStep V T)) → behind s (xs ++ ys) ≡ behind (behind s xs) ys
 behind_append s [] ys = refl
 behind_append s (x ∷ xs) ys = behind_append (session_behind s x) xs ys
 
-pub moves_down : {V T : Type 0} (down due : List (Step V T)) (step : Step V T) → down ++ step ∷ due ≡ (down ++ step ∷ []) ++ due
+pub moves_down : {V T : Type 0} (down due : List (ServerStep V T)) (step : ServerStep V T) → down ++ step ∷ due ≡ (down ++ step ∷ []) ++ due
 moves_down [] due step = refl
-moves_down {V} {T} (x ∷ down) due step = ap (λ (xs : List (Step V T)). x ∷ xs) (moves_down down due step)
+moves_down {V} {T} (x ∷ down) due step = ap (λ (xs : List (ServerStep V T)). x ∷ xs) (moves_down down due step)
 
-pub none_due : {V T : Type 0} (due : List (Step V T)) → due ≡ [] → HasSome due → ⊥
-none_due {V} {T} due e t = subst (λ (d : List (Step V T)). HasSome d) e t
+pub none_due : {V T : Type 0} (due : List (ServerStep V T)) → due ≡ [] → HasSome due → ⊥
+none_due {V} {T} due e t = subst (λ (d : List (ServerStep V T)). HasSome d) e t
 
-said_behind : {V T : Type 0} (now s : Session V) (down : List (Step V T)) (step : Step V T) → now ≡ behind s down → session_behind now step ≡ behind s (down ++ step ∷ [])
+said_behind : {V T : Type 0} (now s : Session V) (down : List (ServerStep V T)) (step : ServerStep V T) → now ≡ behind s down → session_behind now step ≡ behind s (down ++ step ∷ [])
 said_behind {V} {T} now s down step e = ap (λ (x : Session V). session_behind x step) e ∙ sym (behind_append s down (step ∷ []))
 
-pub speaks_answer : {V T : Type 0} (engine : Engine V T) (h : Heard) (link : Link V T) (due : List (Step V T)) → link.server.due ≡ due → HasSome due
+pub speaks_answer : {V T : Type 0} (engine : Engine V T) (h : Heard) (link : Link V T) (due : List (ServerStep V T)) → link.server.due ≡ due → HasSome due
     → Answers engine h link → Answers engine h (spoken link due)
 speaks_answer engine h link [] e t a = absurd t
 speaks_answer {V} {T} engine h link (step ∷ due) e t a = record {
@@ -39,24 +39,24 @@ speaks_answer {V} {T} engine h link (step ∷ due) e t a = record {
   transaction = a.transaction;
   final = a.final;
   done = a.done;
-  answer = subst (λ (xs : List (Step V T)). IsAnswer engine.settings h.mark a.session a.final xs)
-      (ap (λ (d : List (Step V T)). link.down ++ d) e ∙ moves_down link.down due step) a.answer;
+  answer = subst (λ (xs : List (ServerStep V T)). IsAnswer engine.settings h.mark a.session a.final xs)
+      (ap (λ (d : List (ServerStep V T)). link.down ++ d) e ∙ moves_down link.down due step) a.answer;
   server = said_behind link.server.session a.session link.down step a.server;
 }
 
-speaks_stop : {V T : Type 0} (stopped : Bool) (h : Heard) (link : Link V T) (due : List (Step V T)) → link.server.due ≡ due → HasSome due
+speaks_stop : {V T : Type 0} (stopped : Bool) (h : Heard) (link : Link V T) (due : List (ServerStep V T)) → link.server.due ≡ due → HasSome due
     → Stops stopped h link → Stops stopped h (spoken link due)
 speaks_stop stopped h link [] e t a = absurd t
 speaks_stop {V} {T} stopped h link (step ∷ due) e t a = record {
   up = a.up;
   session = a.session;
   transaction = a.transaction;
-  cancels = subst (λ (xs : List (Step V T)). Cancels stopped h.mark a.session (acknowledged h.done) xs)
-      (ap (λ (d : List (Step V T)). link.down ++ d) e ∙ moves_down link.down due step) a.cancels;
+  cancels = subst (λ (xs : List (ServerStep V T)). Cancels stopped h.mark a.session (acknowledged h.done) xs)
+      (ap (λ (d : List (ServerStep V T)). link.down ++ d) e ∙ moves_down link.down due step) a.cancels;
   server = said_behind link.server.session a.session link.down step a.server;
 }
 
-pub keeps_speaks : {V T : Type 0} (engine : Engine V T) (n : ℕ) (stage : Stage) (h : Heard) (link : Link V T)
+pub keeps_speaks : {V T : Type 0} (engine : Engine V T) (n : ℕ) (stage : LineStage) (h : Heard) (link : Link V T)
     → Flow engine n stage h link → HasSome link.server.due → Flow engine n stage h (spoken link link.server.due)
 keeps_speaks engine n Idle h link f t = absurd (none_due link.server.due f.still.due t)
 keeps_speaks engine n (Sending false) h link f t = absurd (none_due link.server.due f.0.still.due t)
@@ -79,7 +79,7 @@ as_before link = record { up = link.up ++ []; server = link.server; down = link.
 pub same_link : {V T : Type 0} (link : Link V T) → as_before link ≡ link
 same_link link = ap (λ (u : List Up). record { up = u; server = link.server; down = link.down; asking = link.asking }) (append_nothing link.up)
 
-pub stays : {V T : Type 0} (engine : Engine V T) (n : ℕ) (stage : Stage) (h : Heard) (link : Link V T)
+pub stays : {V T : Type 0} (engine : Engine V T) (n : ℕ) (stage : LineStage) (h : Heard) (link : Link V T)
     → Flow engine n stage h link → Flow engine n stage h (as_before link)
 stays {V} {T} engine n stage h link f = subst (λ (k : Link V T). Flow engine n stage h k) (sym (same_link link)) f
 
@@ -126,12 +126,12 @@ abbrev pub Kept : {V T : Type 0} → Engine V T → Link V T → Act T → Turn 
 Kept engine link a t = FlowOn engine t.line (done_here link (done_by a t))
 
 keeps_read : {V T : Type 0} (engine : Engine V T) (n : ℕ) (h : Heard) (link : Link V T) (part : Part T)
-    → ReadsOn engine n h link part ⊎ ReadsOut n h link part → Kept engine link (Come part) (turn (line n Reading h) (Come part))
+    → ReadsOn engine n h link part ⊎ ReadsOut n h link part → Kept engine link (Come part) (line_turn (line n Reading h) (Come part))
 keeps_read {V} {T} engine n h link part (inl r) = subst (λ (t : Turn T). Kept engine link (Come part) t) (sym r.is) (inr r.answers)
 keeps_read {V} {T} engine n h link part (inr r) = subst (λ (t : Turn T). Kept engine link (Come part) t) (sym r.is) r.still
 
 keeps_skip : {V T : Type 0} (engine : Engine V T) (n : ℕ) (h : Heard) (stopped : Bool) (link : Link V T) (part : Part T)
-    → SkipsOn n h stopped link part ⊎ SkipsOut n h link part → Kept engine link (Come part) (turn (line n Cancelling h) (Come part))
+    → SkipsOn n h stopped link part ⊎ SkipsOut n h link part → Kept engine link (Come part) (line_turn (line n Cancelling h) (Come part))
 keeps_skip {V} {T} engine n h stopped link part (inl r) = subst (λ (t : Turn T). Kept engine link (Come part) t) (sym r.is) (inr (stopped, r.stops))
 keeps_skip {V} {T} engine n h stopped link part (inr r) = subst (λ (t : Turn T). Kept engine link (Come part) t) (sym r.is) r.still
 
@@ -192,8 +192,8 @@ sends_whole n h link f = record {
   named = f.named;
 }
 
-pub keeps_act : {V T : Type 0} (engine : Engine V T) (n : ℕ) (stage : Stage) (h : Heard) (link : Link V T) (a : Act T)
-    → Flow engine n stage h link → Comes a link.down link.server.due → Kept engine link a (turn (line n stage h) a)
+pub keeps_act : {V T : Type 0} (engine : Engine V T) (n : ℕ) (stage : LineStage) (h : Heard) (link : Link V T) (a : Act T)
+    → Flow engine n stage h link → Comes a link.down link.server.due → Kept engine link a (line_turn (line n stage h) a)
 keeps_act engine n Idle h link (Mark reset) f c = quiet_before h (with_mark h reset) link refl refl f
 keeps_act engine n Idle h link Ask f c = (
   record {

@@ -7,8 +7,8 @@ use Rattle.tds_client.specs.declared.heard.Heard.{Heard}
 use Rattle.tds_client.specs.declared.heard.FinalDone.{FinalDone}
 use Rattle.tds_client.specs.declared.heard.FinalDone.TheVariants.{Awaited, Answered, Acknowledged}
 use Rattle.tds_listen.specs.declared.fault.ListenFault.{ListenFault}
-use Rattle.tds_service.specs.Parts.{Part, hear_part, heard_until, is_end, told}
-use Rattle.tds_service.specs.Line.{Line, Stage, Idle, Sending, Reading, Cancelling, Broken, Packet, OfRequest, Ignore, Attention, Act, Mark, Ask, Send, Cancel, Come, Lose, Turn, reads, skips, skips_to_end, turn}
+use Rattle.tds_service.specs.Parts.{Part, hear_part, heard_until, is_end, items_told}
+use Rattle.tds_service.specs.Line.{Line, LineStage, Idle, Sending, Reading, Cancelling, Broken, Packet, OfRequest, Ignore, Attention, Act, Mark, Ask, Send, Cancel, Come, Lose, Turn, reads, skips, skips_to_end, line_turn}
 use Rattle.tds_service.specs.History.{done_by}
 use Rattle.laws_conforming_server.specs.Lawful.{Engine, IsLawful}
 use Rattle.laws_conforming_server.specs.Link as links
@@ -64,8 +64,8 @@ StillLater r a t = Untold r (done_by a t) × ((t.line.asked < r) ⊎ Reaches r t
 later_reads : {T : Type 0} (n r : ℕ) (h : Heard) (part : Part T) (ends : Bool) (u : Heard) (result : Result Heard ListenFault) → n < r
     → StillLater r (Come part) (reads (line n Reading h) part ends u result)
 later_reads n r h part ends u (Err fault) p = (record { told = refl; finished = refl }, inl p)
-later_reads n r h part false u (Ok heard) p = (record { told = to_other n r (told part.items) (above n r p); finished = refl }, inl p)
-later_reads n r h part true u (Ok heard) p = (record { told = to_other n r (told part.items) (above n r p); finished = above n r p }, inl p)
+later_reads n r h part false u (Ok heard) p = (record { told = to_other n r (items_told part.items) (above n r p); finished = refl }, inl p)
+later_reads n r h part true u (Ok heard) p = (record { told = to_other n r (items_told part.items) (above n r p); finished = above n r p }, inl p)
 
 later_skips_to_end : {T : Type 0} (n r : ℕ) (h heard : Heard) (part : Part T) (done : FinalDone) → n < r
     → StillLater r (Come part) (skips_to_end (line n Cancelling h) heard done)
@@ -86,7 +86,7 @@ reached : (n r : ℕ) (h : Heard) → (suc n < r) ⊎ (suc n ≡ r) → (suc n <
 reached n r h (inl p) = inl p
 reached n r h (inr e) = inr (record { asked = e; stage = refl })
 
-later_step : {T : Type 0} (n r : ℕ) (stage : Stage) (h : Heard) (a : Act T) → n < r → StillLater r a (turn (line n stage h) a)
+later_step : {T : Type 0} (n r : ℕ) (stage : LineStage) (h : Heard) (a : Act T) → n < r → StillLater r a (line_turn (line n stage h) a)
 later_step n r Idle h (Mark reset) p = (record { told = refl; finished = refl }, inl p)
 later_step n r Idle h Ask p = (record { told = refl; finished = refl }, reached n r h (next_is n r p))
 later_step n r Idle h (Send last) p = (record { told = refl; finished = refl }, inl p)
@@ -122,11 +122,11 @@ later_step n r (Broken fault) h Lose p = (record { told = refl; finished = refl 
 
 -- ---- It is asked
 
-begins_stage : {V T : Type 0} (engine : Engine V T) (lawful : IsLawful engine) (l : Line) (link : Link V T) (plan : List (Planned T)) (stage : Stage) → stage ≡ Sending false
+begins_stage : {V T : Type 0} (engine : Engine V T) (lawful : IsLawful engine) (l : Line) (link : Link V T) (plan : List (Planned T)) (stage : LineStage) → stage ≡ Sending false
     → Flow engine l.asked stage l.heard link → Runs engine link (moves_by (line l.asked stage l.heard) plan)
     → OwnOf engine l.asked (line l.asked stage l.heard) link plan
 begins_stage {V} {T} engine lawful l link plan stage e =
-    subst (λ (s : Stage). Flow engine l.asked s l.heard link → Runs engine link (moves_by (line l.asked s l.heard) plan) → OwnOf engine l.asked (line l.asked s l.heard) link plan) (sym e)
+    subst (λ (s : LineStage). Flow engine l.asked s l.heard link → Runs engine link (moves_by (line l.asked s l.heard) plan) → OwnOf engine l.asked (line l.asked s l.heard) link plan) (sym e)
     (λ f runs. own_now engine lawful l.asked (Sending false) l.heard link plan f runs)
 
 own_begins : {V T : Type 0} (engine : Engine V T) (lawful : IsLawful engine) (r : ℕ) (l : Line) (link : Link V T) (plan : List (Planned T)) → Reaches r l
@@ -141,15 +141,15 @@ own_behind : {V T : Type 0} (engine : Engine V T) (lawful : IsLawful engine) (r 
 own_behind engine lawful r l link plan (inl p) f runs ih = ih p
 own_behind engine lawful r l link plan (inr e) f runs ih = own_begins engine lawful r l link plan e f runs
 
-pub own_later : {V T : Type 0} (engine : Engine V T) (lawful : IsLawful engine) (r n : ℕ) (stage : Stage) (h : Heard) (link : Link V T) (plan : List (Planned T))
+pub own_later : {V T : Type 0} (engine : Engine V T) (lawful : IsLawful engine) (r n : ℕ) (stage : LineStage) (h : Heard) (link : Link V T) (plan : List (Planned T))
     → Flow engine n stage h link → n < r → Runs engine link (moves_by (line n stage h) plan) → OwnOf engine r (line n stage h) link plan
 own_later engine lawful r n stage h link [] f p runs = own_silent r [] [] (none_told r)
 own_later engine lawful r n stage h link (Does a ∷ plan) f p runs =
-    let s : StillLater r a (turn (line n stage h) a) = later_step n r stage h a p in
-    let l : Line = (turn (line n stage h) a).line in
-    let next = done_here link (done_by a (turn (line n stage h) a)) in
+    let s : StillLater r a (line_turn (line n stage h) a) = later_step n r stage h a p in
+    let l : Line = (line_turn (line n stage h) a).line in
+    let next = done_here link (done_by a (line_turn (line n stage h) a)) in
     let g : FlowOn engine l next = keeps_act engine n stage h link a f runs.0 in
-    own_untold r (done_by a (turn (line n stage h) a)) (ds_by l plan) (answered engine next r (moves_by l plan)) s.0
+    own_untold r (done_by a (line_turn (line n stage h) a)) (ds_by l plan) (answered engine next r (moves_by l plan)) s.0
     (own_behind engine lawful r l next plan s.1 g runs.1 (λ (q : l.asked < r). own_later engine lawful r l.asked l.stage l.heard next plan g q runs.1))
 own_later engine lawful r n stage h link (Speaks ∷ plan) f p runs =
     own_later engine lawful r n stage h (goes engine link links.Speaks) plan (keeps_speaks engine n stage h link f runs.0) p runs.1

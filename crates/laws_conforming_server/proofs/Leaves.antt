@@ -4,7 +4,7 @@ use Rattle.std.specs.Prelude.{Option, Some, None}
 use Rattle.std.proofs.lemmas.Bool.Decides.{nat_tests}
 use Rattle.tds_packet.specs.declared.status.Reset.{Reset}
 use Rattle.tds_client.specs.declared.heard.Heard.{Heard}
-use Rattle.tds_service.specs.Line.{Line, Stage, Idle, Sending, Reading, Cancelling, Broken, Act, Mark, Ask, Send, Cancel, Come, Lose, turn}
+use Rattle.tds_service.specs.Line.{Line, LineStage, Idle, Sending, Reading, Cancelling, Broken, Act, Mark, Ask, Send, Cancel, Come, Lose, line_turn}
 use Rattle.tds_service.specs.History.{done_by, line_after}
 use Rattle.tds_service.specs.Service.{is_clean}
 use Rattle.laws_conforming_server.specs.Lawful.{Engine, IsLawful}
@@ -23,9 +23,9 @@ use Rattle.laws_conforming_server.proofs.Starts.{Owes, OwesBehind, owes_act, owe
 abbrev pub Knows : {V T : Type 0} → Option Reset → Line → Link V T → Type 0
 Knows owed l link = NotBroken l.stage → Owes owed l.heard link
 
-knows_act : {V T : Type 0} (engine : Engine V T) (owed : Option Reset) (n : ℕ) (stage : Stage) (h : Heard) (link : Link V T) (a : Act T)
+knows_act : {V T : Type 0} (engine : Engine V T) (owed : Option Reset) (n : ℕ) (stage : LineStage) (h : Heard) (link : Link V T) (a : Act T)
     → Flow engine n stage h link → Comes a link.down link.server.due → (NotBroken stage → Owes owed h link)
-    → NotBroken (turn (line n stage h) a).line.stage → OwesBehind owed link a (turn (line n stage h) a)
+    → NotBroken (line_turn (line n stage h) a).line.stage → OwesBehind owed link a (line_turn (line n stage h) a)
 knows_act engine owed n Idle h link a f c k b = owes_act engine owed n Idle h link a tt f c (k tt)
 knows_act engine owed n (Sending begun) h link a f c k b = owes_act engine owed n (Sending begun) h link a tt f c (k tt)
 knows_act engine owed n Reading h link a f c k b = owes_act engine owed n Reading h link a tt f c (k tt)
@@ -42,7 +42,7 @@ pub knows_after : {V T : Type 0} (engine : Engine V T) (lawful : IsLawful engine
     → Knows (owed_after engine owed link (moves_by l plan)) (line_after l (acts_in plan)) (link_after engine link (moves_by l plan))
 knows_after engine lawful owed l link [] f k runs = k
 knows_after engine lawful owed l link (Does a ∷ plan) f k runs =
-    knows_after engine lawful (owed_here owed a (turn l a).answer) (turn l a).line (goes engine link (links.Here (done_by a (turn l a)))) plan
+    knows_after engine lawful (owed_here owed a (line_turn l a).answer) (line_turn l a).line (goes engine link (links.Here (done_by a (line_turn l a)))) plan
     (keeps_act engine l.asked l.stage l.heard link a f runs.0)
     (knows_act engine owed l.asked l.stage l.heard link a f runs.0 k) runs.1
 knows_after engine lawful owed l link (Takes ∷ plan) f k runs =
@@ -75,5 +75,5 @@ clean_idle owed h link q o c = record {
 pub clean_on : {V T : Type 0} (engine : Engine V T) (owed : Option Reset) (l : Line) (link : Link V T) → l.stage ≡ Idle → FlowOn engine l link → Knows owed l link
     → is_clean l.heard.mark l.heard.descriptor ≡ true → IsLeftClean owed link
 clean_on engine owed l link e f k c =
-    clean_idle owed l.heard link (subst (λ (s : Stage). Flow engine l.asked s l.heard link) e f)
-    (k (subst (λ (s : Stage). NotBroken s) (sym e) tt)) c
+    clean_idle owed l.heard link (subst (λ (s : LineStage). Flow engine l.asked s l.heard link) e f)
+    (k (subst (λ (s : LineStage). NotBroken s) (sym e) tt)) c

@@ -5,16 +5,16 @@ use Rattle.tds_packet.specs.declared.status.Reset.{Reset}
 use Rattle.tds_client.specs.declared.fault.ClientRefusal.{ClientRefusal}
 use Rattle.tds_service.specs.Parts.{Part}
 use Rattle.tds_service.specs.Line as lines
-use Rattle.tds_service.specs.Line.{Line, Stage, Idle, Sending, Reading, Cancelling, Broken, Act, turn, marks}
+use Rattle.tds_service.specs.Line.{Line, LineStage, Idle, Sending, Reading, Cancelling, Broken, Act, line_turn, marks}
 use Rattle.tds_service.specs.Refusing.{packets, refusal_in}
 use Rattle.tds_service.specs.History.{Done, acts_of, done_by, history, line_after}
 use Rattle.tds_service.specs.Lending.{MarksBy, MarksReused, marking, reset_of}
-use Rattle.tds_service.specs.Service.{Place, Seat, Service, Call, Lease, Resume, Ask, Put, Finish, Cancel, GiveBack, Clean, Cleaned, Keep, Abandon, Came, Lost, Without, Reply, NotNow, Lent, Ticket, Step, acts, acts_unless, abandons, clean_place, cleaned, cleans, find_by, gives_back, has_lease, has_number, has_ticket, hears, is_idle, is_lendable, keeps_it, lends, loses, may_keep, nothing, on, on_one, opens, rests_cleaned, resumes, service_after, step, steps}
+use Rattle.tds_service.specs.Service.{Place, Seat, Service, Call, Lease, Resume, Ask, Put, Finish, Cancel, GiveBack, Clean, Cleaned, Keep, Abandon, Came, Lost, Without, Reply, NotNow, Lent, Ticket, ServiceStep, acts, acts_unless, abandons, clean_place, cleaned, cleans, find_by, gives_back, has_lease, has_number, has_ticket, hears, is_idle, is_lendable, keeps_it, lends, loses, may_keep, nothing, on, on_one, opens, rests_cleaned, resumes, service_after, step, steps}
 use Rattle.laws_conforming_server.proofs.Past.{same}
 
 -- ---- Which connection it is
 
-abbrev pub OnIt : {T : Type 0} → ℕ → ℕ → Step T → Type 0
+abbrev pub OnIt : {T : Type 0} → ℕ → ℕ → ServiceStep T → Type 0
 OnIt lease n t = t.reply ≡ Lent lease n true → t.number ≡ n
 
 opens_on : (T : Type 0) (lease n : ℕ) (s : Service) (b : Bool) → OnIt lease n (opens {T = T} s b)
@@ -25,10 +25,10 @@ lends_on : (T : Type 0) (lease n : ℕ) (s : Service) (found : Option Seat) → 
 lends_on T lease n s None e = opens_on T lease n s (nat_lt (length s.seats) s.max) e
 lends_on T lease n s (Some c) e = cc
 
-abbrev pub lent_if : {T : Type 0} → Bool → Step T → Service → Step T
+abbrev pub lent_if : {T : Type 0} → Bool → ServiceStep T → Service → ServiceStep T
 lent_if b t s = if b then t else nothing s NotNow
 
-if_on : {T : Type 0} (lease n : ℕ) (b : Bool) (t : Step T) (s : Service) → OnIt lease n t → OnIt lease n (lent_if b t s)
+if_on : {T : Type 0} (lease n : ℕ) (b : Bool) (t : ServiceStep T) (s : Service) → OnIt lease n t → OnIt lease n (lent_if b t s)
 if_on lease n true t s o e = o e
 if_on lease n false t s o e = let x : ⊥ = cc in absurd x
 
@@ -49,7 +49,7 @@ unless_on lease n s test c all (Some why) e = let x : ⊥ = cc in absurd x
 
 acts_on : {T : Type 0} (lease n : ℕ) (s : Service) (test : Seat → Bool) (first : Act T) (all : List (Act T)) (found : Option Seat) → OnIt lease n (acts s test first all found)
 acts_on lease n s test first all None e = let x : ⊥ = cc in absurd x
-acts_on lease n s test first all (Some c) e = unless_on lease n s test c all (refusal_in (turn c.line first).answer) e
+acts_on lease n s test first all (Some c) e = unless_on lease n s test c all (refusal_in (line_turn c.line first).answer) e
 
 gives_on : (T : Type 0) (lease n : ℕ) (s : Service) (test : Seat → Bool) (found : Option Seat) → OnIt lease n (gives_back {T = T} s test found)
 gives_on T lease n s test None e = let x : ⊥ = cc in absurd x
@@ -117,13 +117,13 @@ on_last {T} n s (first ∷ before) call =
     ∙ one_behind ((step s first).number == n) (step s first).dones (on n (steps (step s first).service before)) (on n (step (service_after (step s first).service before) call ∷ []))
 
 last_alone : {T : Type 0} (l : Line) (ds : List (Done T)) (d : Done T) → ds ++ d ∷ [] ≡ history l (acts_of (ds ++ d ∷ []))
-    → d ≡ done_by d.act (turn (line_after l (acts_of ds)) d.act)
+    → d ≡ done_by d.act (line_turn (line_after l (acts_of ds)) d.act)
 last_alone l [] d e = cc
 last_alone {T} l (x ∷ ds) d e =
-    let f : ds ++ d ∷ [] ≡ history (turn l x.act).line (acts_of (ds ++ d ∷ [])) = cc in
-    last_alone (turn l x.act).line ds d f
+    let f : ds ++ d ∷ [] ≡ history (line_turn l x.act).line (acts_of (ds ++ d ∷ [])) = cc in
+    last_alone (line_turn l x.act).line ds d f
 
-marked_idle : (T : Type 0) (l : Line) (reset : Reset) (stage : Stage) → lines.Marked ≡ (marks {T = T} l reset stage).answer → stage ≡ Idle
+marked_idle : (T : Type 0) (l : Line) (reset : Reset) (stage : LineStage) → lines.Marked ≡ (marks {T = T} l reset stage).answer → stage ≡ Idle
 marked_idle T l reset Idle e = refl
 marked_idle T l reset (Sending begun) e = let x : ⊥ = cc in absurd x
 marked_idle T l reset Reading e = let x : ⊥ = cc in absurd x
@@ -137,7 +137,7 @@ pub lent_idle : {T : Type 0} (l : Line) (s : Service) (before : List (Call T)) (
     → (step (service_after s before) call).reply ≡ Lent lease n true
     → (line_after l (acts_of (on n (steps s before)))).stage ≡ Idle
 lent_idle {T} l s before call lease n m a e =
-    let t : Step T = step (service_after s before) call in
+    let t : ServiceStep T = step (service_after s before) call in
     let ds : List (Done T) = on n (steps s before) in
     let d : t.dones ≡ marking (reset_of call) ∷ [] =
     subst (λ (r : Reply). MarksBy call r t.dones) e (marks_last s before call m) in

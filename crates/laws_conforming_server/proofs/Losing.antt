@@ -1,9 +1,9 @@
 -- Behind a loss of the connection nobody is told anything.
 use Rattle.std.proofs.Common.{◌≡◌, ◌∙◌, ◌||◌, ℕ, Bool, true, false, List, [], ◌∷◌, ◌++◌, refl, sym, ap, append_assoc}
 use Rattle.tds_client.specs.declared.heard.Heard.{Heard}
-use Rattle.tds_service.specs.Line.{Line, Stage, Idle, Sending, Reading, Cancelling, Broken, Act, Lose, new_line, turn}
+use Rattle.tds_service.specs.Line.{Line, LineStage, Idle, Sending, Reading, Cancelling, Broken, Act, Lose, new_line, line_turn}
 use Rattle.tds_service.specs.History.{Done, done_by, given, history, line_after, told_to}
-use Rattle.laws_conforming_server.specs.Lawful.{Step, told_of}
+use Rattle.laws_conforming_server.specs.Lawful.{ServerStep, told_of}
 use Rattle.laws_conforming_server.specs.Answering.{Begins, finishes, is_finished}
 use Rattle.laws_conforming_server.proofs.Coming.{append_nothing, line}
 use Rattle.laws_conforming_server.proofs.Past.{IsOwn, IsPastOn, Silent, StaysPast, past_step}
@@ -11,15 +11,15 @@ use Rattle.laws_conforming_server.proofs.Past.{IsOwn, IsPastOn, Silent, StaysPas
 silent_acts : {T : Type 0} (r : ℕ) (l : Line) (acts : List (Act T)) → IsPastOn l r → Silent r (history l acts)
 silent_acts r l [] p = record { given_nothing = refl; unfinished = refl }
 silent_acts {T} r l (a ∷ acts) p =
-    let s : StaysPast r a (turn l a) = past_step l.asked r l.stage l.heard a p in
-    let ih : Silent r (history (turn l a).line acts) = silent_acts r (turn l a).line acts s.1 in
+    let s : StaysPast r a (line_turn l a) = past_step l.asked r l.stage l.heard a p in
+    let ih : Silent r (history (line_turn l a).line acts) = silent_acts r (line_turn l a).line acts s.1 in
     record {
-      given_nothing = ap (λ (xs : List T). xs ++ given r (history (turn l a).line acts)) s.0.told ∙ ih.given_nothing;
-      unfinished = ap (λ (b : Bool). b || finishes r (history (turn l a).line acts)) s.0.finished ∙ ih.unfinished;
+      given_nothing = ap (λ (xs : List T). xs ++ given r (history (line_turn l a).line acts)) s.0.told ∙ ih.given_nothing;
+      unfinished = ap (λ (b : Bool). b || finishes r (history (line_turn l a).line acts)) s.0.finished ∙ ih.unfinished;
     }
 
 -- the loss itself
-lost_step : {T : Type 0} (n r : ℕ) (stage : Stage) (h : Heard) → StaysPast {T = T} r Lose (turn (line n stage h) Lose)
+lost_step : {T : Type 0} (n r : ℕ) (stage : LineStage) (h : Heard) → StaysPast {T = T} r Lose (line_turn (line n stage h) Lose)
 lost_step n r Idle h = (record { told = refl; finished = refl }, tt)
 lost_step n r (Sending begun) h = (record { told = refl; finished = refl }, tt)
 lost_step n r Reading h = (record { told = refl; finished = refl }, tt)
@@ -28,18 +28,18 @@ lost_step n r (Broken fault) h = (record { told = refl; finished = refl }, tt)
 
 silent_lost : {T : Type 0} (r : ℕ) (l : Line) (after : List (Act T)) → Silent r (history l (Lose ∷ after))
 silent_lost {T} r l after =
-    let s : StaysPast {T = T} r Lose (turn l Lose) = lost_step l.asked r l.stage l.heard in
-    let rest : Silent r (history (turn {T = T} l Lose).line after) = silent_acts r (turn {T = T} l Lose).line after s.1 in
+    let s : StaysPast {T = T} r Lose (line_turn l Lose) = lost_step l.asked r l.stage l.heard in
+    let rest : Silent r (history (line_turn {T = T} l Lose).line after) = silent_acts r (line_turn {T = T} l Lose).line after s.1 in
     record {
-      given_nothing = ap (λ (xs : List T). xs ++ given r (history (turn {T = T} l Lose).line after)) s.0.told ∙ rest.given_nothing;
-      unfinished = ap (λ (b : Bool). b || finishes r (history (turn {T = T} l Lose).line after)) s.0.finished ∙ rest.unfinished;
+      given_nothing = ap (λ (xs : List T). xs ++ given r (history (line_turn {T = T} l Lose).line after)) s.0.told ∙ rest.given_nothing;
+      unfinished = ap (λ (b : Bool). b || finishes r (history (line_turn {T = T} l Lose).line after)) s.0.finished ∙ rest.unfinished;
     }
 
 -- ---- What was told before
 
 history_both : {T : Type 0} (l : Line) (xs ys : List (Act T)) → history l (xs ++ ys) ≡ history l xs ++ history (line_after l xs) ys
 history_both l [] ys = refl
-history_both {T} l (x ∷ xs) ys = ap (λ (ds : List (Done T)). done_by x (turn l x) ∷ ds) (history_both (turn l x).line xs ys)
+history_both {T} l (x ∷ xs) ys = ap (λ (ds : List (Done T)). done_by x (line_turn l x) ∷ ds) (history_both (line_turn l x).line xs ys)
 
 given_both : {T : Type 0} (r : ℕ) (xs ys : List (Done T)) → given r (xs ++ ys) ≡ given r xs ++ given r ys
 given_both r [] ys = refl
@@ -72,7 +72,7 @@ finished_before before after r =
     ∙ ap (λ (b : Bool). finishes r (history new_line before) || b) (silent_lost r (line_after new_line before) after).unfinished
     ∙ or_false (finishes r (history new_line before))
 
-pub own_before_loss : {V T : Type 0} (before after : List (Act T)) (r : ℕ) (steps : List (Step V T)) → IsOwn r (history new_line (before ++ Lose ∷ after)) steps
+pub own_before_loss : {V T : Type 0} (before after : List (Act T)) (r : ℕ) (steps : List (ServerStep V T)) → IsOwn r (history new_line (before ++ Lose ∷ after)) steps
     → Begins (given r (history new_line before)) (told_of steps)
 own_before_loss {V} {T} before after r steps o =
     (o.begins.0, ap (λ (ts : List T). ts ++ o.begins.0) (sym (told_before before after r)) ∙ o.begins.1)

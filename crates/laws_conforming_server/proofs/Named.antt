@@ -6,9 +6,9 @@ use Rattle.tds_packet.specs.Resets.{header_descriptor}
 use Rattle.tds_client.specs.declared.fault.ClientFault.{ClientFault}
 use Rattle.tds_client.specs.declared.fault.ClientFault.TheVariants as faults
 use Rattle.tds_client.specs.declared.heard.Heard.{Heard}
-use Rattle.tds_service.specs.Line.{Line, Stage, Idle, Sending, Reading, Cancelling, Broken, Packet, OfRequest, Ignore, Attention, Mark, Ask, Send, Cancel, Come, Lose, turn}
+use Rattle.tds_service.specs.Line.{Line, LineStage, Idle, Sending, Reading, Cancelling, Broken, Packet, OfRequest, Ignore, Attention, Mark, Ask, Send, Cancel, Come, Lose, line_turn}
 use Rattle.tds_service.specs.History.{done_by}
-use Rattle.laws_conforming_server.specs.Lawful.{Step, Engine, IsLawful}
+use Rattle.laws_conforming_server.specs.Lawful.{ServerStep, Engine, IsLawful}
 use Rattle.laws_conforming_server.specs.Link as links
 use Rattle.laws_conforming_server.specs.Link.{Link, Runs, Up, ups, done_here, goes}
 use Rattle.laws_conforming_server.specs.Agreeing.{NextInNamed, AllInNamed}
@@ -54,7 +54,7 @@ left_named n h link packets s named (inr are) = ignored_named link packets are
 named_up : {V T : Type 0} (link : Link V T) (u : List Up) → link.up ≡ u → NextInNamed link.server u → NextInNamed link.server link.up
 named_up link u e r = subst (λ (x : List Up). NextInNamed link.server x) (sym e) r
 
-next_named : {V T : Type 0} (engine : Engine V T) (n : ℕ) (stage : Stage) (h : Heard) (link : Link V T)
+next_named : {V T : Type 0} (engine : Engine V T) (n : ℕ) (stage : LineStage) (h : Heard) (link : Link V T)
     → NotBroken stage → Flow engine n stage h link → NextInNamed link.server link.up
 next_named engine n Idle h link b f = named_up link [] f.up tt
 next_named engine n (Sending false) h link b f = named_up link [] f.0.up tt
@@ -68,7 +68,7 @@ next_named engine n (Broken fault) h link b f = absurd b
 
 -- ---- Along a run
 
-named_lost : {V T : Type 0} (engine : Engine V T) (lawful : IsLawful engine) (n : ℕ) (stage : Stage) (h : Heard) (down : List (Step V T)) (fault : ClientFault) (last : Heard) (link : Link V T) (plan : List (Planned T))
+named_lost : {V T : Type 0} (engine : Engine V T) (lawful : IsLawful engine) (n : ℕ) (stage : LineStage) (h : Heard) (down : List (ServerStep V T)) (fault : ClientFault) (last : Heard) (link : Link V T) (plan : List (Planned T))
     → NotBroken stage → Was engine n stage h down link → Runs engine link (moves_by (line n (Broken fault) last) plan)
     → AllInNamed engine link (moves_by (line n (Broken fault) last) plan)
 named_lost engine lawful n stage h down fault last link [] b f runs = tt
@@ -92,10 +92,10 @@ named_lost engine lawful n stage h down fault last link (Speaks ∷ plan) b f ru
     named_lost engine lawful n stage h (said_down down link.server.due) fault last (goes engine link links.Speaks) plan b (was_speaks engine n stage h down link f runs.0) runs.1
 
 -- it is lost now
-named_lose : {V T : Type 0} (engine : Engine V T) (lawful : IsLawful engine) (n : ℕ) (stage : Stage) (h : Heard) (link : Link V T) (plan : List (Planned T))
+named_lose : {V T : Type 0} (engine : Engine V T) (lawful : IsLawful engine) (n : ℕ) (stage : LineStage) (h : Heard) (link : Link V T) (plan : List (Planned T))
     → NotBroken stage → Flow engine n stage h link
-    → Runs engine (done_here link (done_by Lose (turn (line n stage h) Lose))) (moves_by (turn {T = T} (line n stage h) Lose).line plan)
-    → AllInNamed engine (done_here link (done_by Lose (turn (line n stage h) Lose))) (moves_by (turn {T = T} (line n stage h) Lose).line plan)
+    → Runs engine (done_here link (done_by Lose (line_turn (line n stage h) Lose))) (moves_by (line_turn {T = T} (line n stage h) Lose).line plan)
+    → AllInNamed engine (done_here link (done_by Lose (line_turn (line n stage h) Lose))) (moves_by (line_turn {T = T} (line n stage h) Lose).line plan)
 named_lose engine lawful n Idle h link plan b f runs = named_lost engine lawful n Idle h link.down faults.Lost h _ plan tt (stays engine n Idle h link f) runs
 named_lose engine lawful n (Sending begun) h link plan b f runs =
     named_lost engine lawful n (Sending begun) h link.down faults.Lost h _ plan tt (stays engine n (Sending begun) h link f) runs
@@ -108,23 +108,23 @@ pub all_named : {V T : Type 0} (engine : Engine V T) (lawful : IsLawful engine) 
     → NotBroken l.stage → FlowOn engine l link → Runs engine link (moves_by l plan) → AllInNamed engine link (moves_by l plan)
 all_named engine lawful l link [] b f runs = tt
 all_named engine lawful l link (Does (Mark reset) ∷ plan) b f runs =
-    all_named engine lawful (turn l (Mark reset)).line (goes engine link (links.Here (done_by (Mark reset) (turn l (Mark reset))))) plan
+    all_named engine lawful (line_turn l (Mark reset)).line (goes engine link (links.Here (done_by (Mark reset) (line_turn l (Mark reset))))) plan
     (sound engine l.asked l.stage l.heard link (Mark reset) b f runs.0).2
     (keeps_act engine l.asked l.stage l.heard link (Mark reset) f runs.0) runs.1
 all_named engine lawful l link (Does Ask ∷ plan) b f runs =
-    all_named engine lawful (turn l Ask).line (goes engine link (links.Here (done_by Ask (turn l Ask)))) plan
+    all_named engine lawful (line_turn l Ask).line (goes engine link (links.Here (done_by Ask (line_turn l Ask)))) plan
     (sound engine l.asked l.stage l.heard link Ask b f runs.0).2
     (keeps_act engine l.asked l.stage l.heard link Ask f runs.0) runs.1
 all_named engine lawful l link (Does (Send last) ∷ plan) b f runs =
-    all_named engine lawful (turn l (Send last)).line (goes engine link (links.Here (done_by (Send last) (turn l (Send last))))) plan
+    all_named engine lawful (line_turn l (Send last)).line (goes engine link (links.Here (done_by (Send last) (line_turn l (Send last))))) plan
     (sound engine l.asked l.stage l.heard link (Send last) b f runs.0).2
     (keeps_act engine l.asked l.stage l.heard link (Send last) f runs.0) runs.1
 all_named engine lawful l link (Does Cancel ∷ plan) b f runs =
-    all_named engine lawful (turn l Cancel).line (goes engine link (links.Here (done_by Cancel (turn l Cancel)))) plan
+    all_named engine lawful (line_turn l Cancel).line (goes engine link (links.Here (done_by Cancel (line_turn l Cancel)))) plan
     (sound engine l.asked l.stage l.heard link Cancel b f runs.0).2
     (keeps_act engine l.asked l.stage l.heard link Cancel f runs.0) runs.1
 all_named engine lawful l link (Does (Come part) ∷ plan) b f runs =
-    all_named engine lawful (turn l (Come part)).line (goes engine link (links.Here (done_by (Come part) (turn l (Come part))))) plan
+    all_named engine lawful (line_turn l (Come part)).line (goes engine link (links.Here (done_by (Come part) (line_turn l (Come part))))) plan
     (sound engine l.asked l.stage l.heard link (Come part) b f runs.0).2
     (keeps_act engine l.asked l.stage l.heard link (Come part) f runs.0) runs.1
 all_named engine lawful l link (Does Lose ∷ plan) b f runs = named_lose engine lawful l.asked l.stage l.heard link plan b f runs.1

@@ -4,10 +4,10 @@ use Rattle.std.specs.Prelude.{Option, Some, None, if◌then◌else◌}
 use Rattle.tds_packet.specs.declared.status.Reset.{Reset}
 use Rattle.tds_client.specs.declared.fault.ClientFault.TheVariants as faults
 use Rattle.tds_client.specs.declared.heard.Heard.{Heard}
-use Rattle.tds_service.specs.Parts.{Part, told}
-use Rattle.tds_service.specs.Line.{Line, Stage, Idle, Sending, Reading, Cancelling, Broken, Packet, OfRequest, Ignore, Attention, Act, Mark, Ask, Send, Cancel, Come, Lose, Turn, turn}
+use Rattle.tds_service.specs.Parts.{Part, items_told}
+use Rattle.tds_service.specs.Line.{Line, LineStage, Idle, Sending, Reading, Cancelling, Broken, Packet, OfRequest, Ignore, Attention, Act, Mark, Ask, Send, Cancel, Come, Lose, Turn, line_turn}
 use Rattle.tds_service.specs.History.{Done, done_by, given, told_to}
-use Rattle.laws_conforming_server.specs.Lawful.{Step, Engine, IsLawful, told_of}
+use Rattle.laws_conforming_server.specs.Lawful.{ServerStep, Engine, IsLawful, told_of}
 use Rattle.laws_conforming_server.specs.Link as links
 use Rattle.laws_conforming_server.specs.Link.{Link, Move, Runs, Up, ups, Comes, HasSome, TakesNext, done_here, goes, here, spoken, taken, without}
 use Rattle.laws_conforming_server.specs.Answering.{answer_now, answered, finishes, is_finished, or_later}
@@ -20,11 +20,11 @@ use Rattle.laws_conforming_server.proofs.Past.{IsOwn, Silent, Untold, IsPastOn, 
 
 -- ---- Its answer is on its way
 
-abbrev pub left_of : {V T : Type 0} → Link V T → List (Step V T)
+abbrev pub left_of : {V T : Type 0} → Link V T → List (ServerStep V T)
 left_of link = link.down ++ link.server.due
 
 -- tokens of it are told, and the rest is told later
-own_told : {V T : Type 0} (n : ℕ) (d : Done T) (ds : List (Done T)) (tokens : List T) (steps rest : List (Step V T))
+own_told : {V T : Type 0} (n : ℕ) (d : Done T) (ds : List (Done T)) (tokens : List T) (steps rest : List (ServerStep V T))
     → told_to n d.told ≡ tokens → is_finished n d.answer ≡ false → told_of steps ≡ tokens ++ told_of rest → IsOwn n ds rest → IsOwn n (d ∷ ds) steps
 own_told {V} {T} n d ds tokens steps rest e f g o =
     let h : given n (d ∷ ds) ≡ tokens ++ given n ds = ap (λ (xs : List T). xs ++ given n ds) e in
@@ -38,7 +38,7 @@ own_told {V} {T} n d ds tokens steps rest e f g o =
     }
 
 -- the last ones are told
-own_last : {V T : Type 0} (n : ℕ) (d : Done T) (ds : List (Done T)) (tokens : List T) (steps : List (Step V T))
+own_last : {V T : Type 0} (n : ℕ) (d : Done T) (ds : List (Done T)) (tokens : List T) (steps : List (ServerStep V T))
     → told_to n d.told ≡ tokens → told_of steps ≡ tokens → Silent n ds → IsOwn n (d ∷ ds) steps
 own_last {V} {T} n d ds tokens steps e g s =
     let h : given n (d ∷ ds) ≡ told_of steps =
@@ -54,7 +54,7 @@ to_self {T} n tokens = ap (λ (b : Bool). if b then tokens else []) (same n)
 abbrev pub ds_by : {T : Type 0} → Line → List (Planned T) → List (Done T)
 ds_by l plan = here (moves_by l plan)
 
-abbrev pub OwnNext : {V T : Type 0} → ℕ → Act T → Turn T → List (Planned T) → List (Step V T) → Type 0
+abbrev pub OwnNext : {V T : Type 0} → ℕ → Act T → Turn T → List (Planned T) → List (ServerStep V T) → Type 0
 OwnNext n a t plan steps = IsOwn n (done_by a t ∷ ds_by t.line plan) steps
 
 -- the runs behind it
@@ -63,16 +63,16 @@ RunsNext engine link a t plan = Runs engine (done_here link (done_by a t)) (move
 
 own_reads : {V T : Type 0} (engine : Engine V T) (n : ℕ) (h : Heard) (link : Link V T) (part : Part T) (plan : List (Planned T))
     → ReadsOn engine n h link part ⊎ ReadsOut n h link part
-    → RunsNext engine link (Come part) (turn (line n Reading h) (Come part)) plan
+    → RunsNext engine link (Come part) (line_turn (line n Reading h) (Come part)) plan
     → ((after : Heard) (next : Link V T) → Answers engine after next → Runs engine next (moves_by (line n Reading after) plan) → IsOwn n (ds_by (line n Reading after) plan) (left_of next))
-    → OwnNext n (Come part) (turn (line n Reading h) (Come part)) plan (left_of link)
+    → OwnNext n (Come part) (line_turn (line n Reading h) (Come part)) plan (left_of link)
 own_reads {V} {T} engine n h link part plan (inl r) runs ih =
     subst (λ (t : Turn T). OwnNext n (Come part) t plan (left_of link)) (sym r.is)
-    (own_told n _ (ds_by (line n Reading r.after) plan) (told part.items) (left_of link) (left_of (came link part)) (to_self n (told part.items)) refl r.tells
+    (own_told n _ (ds_by (line n Reading r.after) plan) (items_told part.items) (left_of link) (left_of (came link part)) (to_self n (items_told part.items)) refl r.tells
     (ih r.after (came link part) r.answers (subst (λ (t : Turn T). RunsNext engine link (Come part) t plan) r.is runs)))
 own_reads {V} {T} engine n h link part plan (inr r) runs ih =
     subst (λ (t : Turn T). OwnNext n (Come part) t plan (left_of link)) (sym r.is)
-    (own_last n _ (ds_by (line n Idle r.after) plan) (told part.items) (left_of link) (to_self n (told part.items)) r.tells
+    (own_last n _ (ds_by (line n Idle r.after) plan) (items_told part.items) (left_of link) (to_self n (items_told part.items)) r.tells
     (past n (line n Idle r.after) plan (omega arith)))
 
 own_same : {V T : Type 0} (engine : Engine V T) (n : ℕ) (h : Heard) (link : Link V T) (plan : List (Planned T)) (d : Done T) → Untold n d
@@ -84,12 +84,12 @@ own_same {V} {T} engine n h link plan d u a runs ih =
     own_untold n d (ds_by (line n Reading h) plan) (left_of link) u
     (ih link a (subst (λ (k : Link V T). Runs engine k (moves_by (line n Reading h) plan)) (same_link link) runs))
 
-told_on : {V T : Type 0} (n : ℕ) (ds : List (Done T)) (xs ys : List (Step V T)) → xs ≡ ys → IsOwn n ds xs → IsOwn n ds ys
-told_on {V} {T} n ds xs ys e o = subst (λ (zs : List (Step V T)). IsOwn n ds zs) e o
+told_on : {V T : Type 0} (n : ℕ) (ds : List (Done T)) (xs ys : List (ServerStep V T)) → xs ≡ ys → IsOwn n ds xs → IsOwn n ds ys
+told_on {V} {T} n ds xs ys e o = subst (λ (zs : List (ServerStep V T)). IsOwn n ds zs) e o
 
-spoken_left : {V T : Type 0} (link : Link V T) (due : List (Step V T)) → link.server.due ≡ due → HasSome due → left_of (spoken link due) ≡ left_of link
+spoken_left : {V T : Type 0} (link : Link V T) (due : List (ServerStep V T)) → link.server.due ≡ due → HasSome due → left_of (spoken link due) ≡ left_of link
 spoken_left link [] e t = absurd t
-spoken_left {V} {T} link (step ∷ due) e t = sym (ap (λ (d : List (Step V T)). link.down ++ d) e ∙ moves_down link.down due step)
+spoken_left {V} {T} link (step ∷ due) e t = sym (ap (λ (d : List (ServerStep V T)). link.down ++ d) e ∙ moves_down link.down due step)
 
 pub own_reading : {V T : Type 0} (engine : Engine V T) (n : ℕ) (h : Heard) (link : Link V T) (plan : List (Planned T)) → Answers engine h link
     → Runs engine link (moves_by (line n Reading h) plan) → IsOwn n (ds_by (line n Reading h) plan) (left_of link)
@@ -124,10 +124,10 @@ none_in_parts engine n r wanted link (Ignore request ∷ packets) are = refl
 none_in_parts engine n r wanted link (Attention ∷ packets) are = refl
 
 -- what is answered along a run, by what is due as a packet is taken
-later : {V T : Type 0} (engine : Engine V T) (r : ℕ) (link : Link V T) (moves : List (Move T)) (now : Option (List (Step V T)))
+later : {V T : Type 0} (engine : Engine V T) (r : ℕ) (link : Link V T) (moves : List (Move T)) (now : Option (List (ServerStep V T)))
     → answer_now engine link r link.up ≡ now
     → answered engine link r (links.Takes ∷ moves) ≡ or_later now (answered engine (goes engine link links.Takes) r moves)
-later {V} {T} engine r link moves now e = ap (λ (x : Option (List (Step V T))). or_later x (answered engine (goes engine link links.Takes) r moves)) e
+later {V} {T} engine r link moves now e = ap (λ (x : Option (List (ServerStep V T))). or_later x (answered engine (goes engine link links.Takes) r moves)) e
 
 -- The last packet of the request is taken, or it isn't yet.
 pub record Starts {V T : Type 0} (engine : Engine V T) (n : ℕ) (h : Heard) (link next : Link V T) (u : List Up) : Type 0 where
@@ -174,7 +174,7 @@ starts_by engine lawful n h link named s (Ignore request ∷ packets) are = absu
 starts_by engine lawful n h link named s (Attention ∷ packets) are = absurd are
 
 -- whether it is being sent, or is out
-abbrev pub Out : {V T : Type 0} → ℕ → Stage → Heard → Link V T → Type 0
+abbrev pub Out : {V T : Type 0} → ℕ → LineStage → Heard → Link V T → Type 0
 Out n Idle h link = ⊥
 Out n (Sending false) h link = Quiet h link × Named n h link
 Out n (Sending true) h link = Uploads n h link (AreParts n h.mark)
@@ -196,11 +196,11 @@ own_starts : {V T : Type 0} (engine : Engine V T) (n : ℕ) (h : Heard) (link : 
 own_starts {V} {T} engine n h link plan s runs =
     let next : Link V T = goes engine link links.Takes in
     told_on n (ds_by (line n Reading h) plan) (left_of next) (answered engine link n (links.Takes ∷ moves_by (line n Reading h) plan))
-    (ap (λ (d : List (Step V T)). d ++ next.server.due) s.none
+    (ap (λ (d : List (ServerStep V T)). d ++ next.server.due) s.none
     ∙ sym (later engine n link (moves_by (line n Reading h) plan) (Some next.server.due) s.now))
     (own_reading engine n h next plan s.answers runs)
 
-pub own_waits : {V T : Type 0} (engine : Engine V T) (n r : ℕ) (stage : Stage) (h : Heard) (link : Link V T) (plan : List (Planned T))
+pub own_waits : {V T : Type 0} (engine : Engine V T) (n r : ℕ) (stage : LineStage) (h : Heard) (link : Link V T) (plan : List (Planned T))
     → answer_now engine link r link.up ≡ None
     → IsOwn r (ds_by (line n stage h) plan) (answered engine (goes engine link links.Takes) r (moves_by (line n stage h) plan))
     → OwnOf engine r (line n stage h) link (Takes ∷ plan)
@@ -209,7 +209,7 @@ own_waits engine n r stage h link plan e o =
     (sym (later engine r link (moves_by (line n stage h) plan) None e)) o
 
 -- nothing is done there
-own_before : {V T : Type 0} (engine : Engine V T) (n : ℕ) (stage : Stage) (h : Heard) (link : Link V T) (plan : List (Planned T)) (d : Done T) → Untold n d
+own_before : {V T : Type 0} (engine : Engine V T) (n : ℕ) (stage : LineStage) (h : Heard) (link : Link V T) (plan : List (Planned T)) (d : Done T) → Untold n d
     → Out n stage h link → Runs engine (as_before link) (moves_by (line n stage h) plan)
     → ((next : Link V T) → Out n stage h next → Runs engine next (moves_by (line n stage h) plan) → OwnOf engine n (line n stage h) next plan)
     → IsOwn n (d ∷ ds_by (line n stage h) plan) (answered engine (as_before link) n (moves_by (line n stage h) plan))
@@ -218,7 +218,7 @@ own_before {V} {T} engine n stage h link plan d u o runs ih =
     (ih (as_before link) (subst (λ (k : Link V T). Out n stage h k) (sym (same_link link)) o) runs)
 
 -- it is done with
-own_past : {V T : Type 0} (n : ℕ) (d : Done T) (l : Line) (plan : List (Planned T)) (steps : List (Step V T)) → Untold n d → IsPastOn l n
+own_past : {V T : Type 0} (n : ℕ) (d : Done T) (l : Line) (plan : List (Planned T)) (steps : List (ServerStep V T)) → Untold n d → IsPastOn l n
     → IsOwn n (d ∷ ds_by l plan) steps
 own_past n d l plan steps u p = own_untold n d (ds_by l plan) steps u (own_silent n (ds_by l plan) steps (past n l plan p))
 
@@ -241,7 +241,7 @@ no_last : {V T : Type 0} (engine : Engine V T) (n r : ℕ) (h : Heard) (link : L
 no_last engine n r h link f =
     subst (λ (u : List Up). answer_now engine link r u ≡ None) (sym f.up) (none_in_parts engine n r h.mark link f.packets f.are)
 
-pub own_now : {V T : Type 0} (engine : Engine V T) (lawful : IsLawful engine) (n : ℕ) (stage : Stage) (h : Heard) (link : Link V T) (plan : List (Planned T))
+pub own_now : {V T : Type 0} (engine : Engine V T) (lawful : IsLawful engine) (n : ℕ) (stage : LineStage) (h : Heard) (link : Link V T) (plan : List (Planned T))
     → Out n stage h link → Runs engine link (moves_by (line n stage h) plan) → OwnOf engine n (line n stage h) link plan
 own_now engine lawful n Idle h link plan o runs = absurd o
 own_now engine lawful n Cancelling h link plan o runs = absurd o

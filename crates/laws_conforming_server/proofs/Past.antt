@@ -6,10 +6,10 @@ use Rattle.tds_client.specs.declared.heard.Heard.{Heard}
 use Rattle.tds_client.specs.declared.heard.FinalDone.{FinalDone}
 use Rattle.tds_client.specs.declared.heard.FinalDone.TheVariants.{Awaited, Answered, Acknowledged}
 use Rattle.tds_listen.specs.declared.fault.ListenFault.{ListenFault}
-use Rattle.tds_service.specs.Parts.{Part, hear_part, heard_until, is_end, told}
-use Rattle.tds_service.specs.Line.{Line, Stage, Idle, Sending, Reading, Cancelling, Broken, Act, Mark, Ask, Send, Cancel, Come, Lose, Turn, reads, skips, skips_to_end, turn}
+use Rattle.tds_service.specs.Parts.{Part, hear_part, heard_until, is_end, items_told}
+use Rattle.tds_service.specs.Line.{Line, LineStage, Idle, Sending, Reading, Cancelling, Broken, Act, Mark, Ask, Send, Cancel, Come, Lose, Turn, reads, skips, skips_to_end, line_turn}
 use Rattle.tds_service.specs.History.{Done, done_by, given, told_to}
-use Rattle.laws_conforming_server.specs.Lawful.{Step, told_of}
+use Rattle.laws_conforming_server.specs.Lawful.{ServerStep, told_of}
 use Rattle.laws_conforming_server.specs.Link.{here}
 use Rattle.laws_conforming_server.specs.Answering.{Begins, finishes, is_finished}
 use Rattle.laws_conforming_server.proofs.Coming.{line}
@@ -27,12 +27,12 @@ above n r h = grind (arith, nat_tests)
 -- ---- What is told of an answer
 
 -- What this request is given is a beginning of it, and all of it where the request is finished.
-pub record IsOwn {V T : Type 0} (r : ℕ) (ds : List (Done T)) (steps : List (Step V T)) : Type 0 where
+pub record IsOwn {V T : Type 0} (r : ℕ) (ds : List (Done T)) (steps : List (ServerStep V T)) : Type 0 where
   pub begins : Begins (given r ds) (told_of steps)
   pub whole : finishes r ds ≡ true → given r ds ≡ told_of steps
 
 -- It speaks of what is told of them alone.
-pub own_alike : {V T : Type 0} (r : ℕ) (ds : List (Done T)) (xs ys : List (Step V T)) → told_of xs ≡ told_of ys → IsOwn r ds xs → IsOwn r ds ys
+pub own_alike : {V T : Type 0} (r : ℕ) (ds : List (Done T)) (xs ys : List (ServerStep V T)) → told_of xs ≡ told_of ys → IsOwn r ds xs → IsOwn r ds ys
 own_alike {V} {T} r ds xs ys e o = record {
   begins = (o.begins.0, o.begins.1 ∙ e);
   whole = λ (w : finishes r ds ≡ true). o.whole w ∙ e;
@@ -47,13 +47,13 @@ pub record Untold {T : Type 0} (r : ℕ) (d : Done T) : Type 0 where
   pub told : told_to r d.told ≡ []
   pub finished : is_finished r d.answer ≡ false
 
-pub own_silent : {V T : Type 0} (r : ℕ) (ds : List (Done T)) (steps : List (Step V T)) → Silent r ds → IsOwn r ds steps
+pub own_silent : {V T : Type 0} (r : ℕ) (ds : List (Done T)) (steps : List (ServerStep V T)) → Silent r ds → IsOwn r ds steps
 own_silent {V} {T} r ds steps s = record {
   begins = (told_of steps, ap (λ (xs : List T). xs ++ told_of steps) s.given_nothing);
   whole = λ (e : finishes r ds ≡ true). let b : ⊥ = cc (s.unfinished, e) in absurd b;
 }
 
-pub own_untold : {V T : Type 0} (r : ℕ) (d : Done T) (ds : List (Done T)) (steps : List (Step V T)) → Untold r d → IsOwn r ds steps → IsOwn r (d ∷ ds) steps
+pub own_untold : {V T : Type 0} (r : ℕ) (d : Done T) (ds : List (Done T)) (steps : List (ServerStep V T)) → Untold r d → IsOwn r ds steps → IsOwn r (d ∷ ds) steps
 own_untold {V} {T} r d ds steps u o =
     let e : given r (d ∷ ds) ≡ given r ds = ap (λ (xs : List T). xs ++ given r ds) u.told in
     let f : finishes r (d ∷ ds) ≡ finishes r ds = ap (λ (b : Bool). b || finishes r ds) u.finished in
@@ -70,7 +70,7 @@ silent_untold {T} r d ds u s = record {
 
 -- ---- Requests that are done with
 
-abbrev pub IsPast : Stage → ℕ → ℕ → Type 0
+abbrev pub IsPast : LineStage → ℕ → ℕ → Type 0
 IsPast Idle n r = r ≤ n
 IsPast (Sending begun) n r = r < n
 IsPast Reading n r = r < n
@@ -89,8 +89,8 @@ to_other {T} n r tokens e = ap (λ (b : Bool). if b then tokens else []) e
 past_reads : {T : Type 0} (n r : ℕ) (h : Heard) (part : Part T) (ends : Bool) (u : Heard) (result : Result Heard ListenFault) → r < n
     → StaysPast r (Come part) (reads (line n Reading h) part ends u result)
 past_reads n r h part ends u (Err fault) p = (record { told = refl; finished = refl }, tt)
-past_reads n r h part false u (Ok heard) p = (record { told = to_other n r (told part.items) (below n r p); finished = refl }, p)
-past_reads n r h part true u (Ok heard) p = (record { told = to_other n r (told part.items) (below n r p); finished = below n r p }, omega arith)
+past_reads n r h part false u (Ok heard) p = (record { told = to_other n r (items_told part.items) (below n r p); finished = refl }, p)
+past_reads n r h part true u (Ok heard) p = (record { told = to_other n r (items_told part.items) (below n r p); finished = below n r p }, omega arith)
 
 past_skips_to_end : {T : Type 0} (n r : ℕ) (h heard : Heard) (part : Part T) (done : FinalDone) → r ≤ n
     → StaysPast r (Come part) (skips_to_end (line n Cancelling h) heard done)
@@ -104,7 +104,7 @@ past_skips n r h part ends u (Err fault) p = (record { told = refl; finished = r
 past_skips n r h part false u (Ok heard) p = (record { told = refl; finished = refl }, p)
 past_skips n r h part true u (Ok heard) p = past_skips_to_end n r h heard part heard.done p
 
-pub past_step : {T : Type 0} (n r : ℕ) (stage : Stage) (h : Heard) (a : Act T) → IsPast stage n r → StaysPast r a (turn (line n stage h) a)
+pub past_step : {T : Type 0} (n r : ℕ) (stage : LineStage) (h : Heard) (a : Act T) → IsPast stage n r → StaysPast r a (line_turn (line n stage h) a)
 past_step n r Idle h (Mark reset) p = (record { told = refl; finished = refl }, p)
 past_step n r Idle h Ask p = (record { told = refl; finished = refl }, omega arith)
 past_step n r Idle h (Send last) p = (record { told = refl; finished = refl }, p)
@@ -142,6 +142,6 @@ pub past : {T : Type 0} (r : ℕ) (l : Line) (plan : List (Planned T)) → IsPas
 past r l [] p = record { given_nothing = refl; unfinished = refl }
 past r l (Does a ∷ plan) p =
     let s = past_step l.asked r l.stage l.heard a p in
-    silent_untold r (done_by a (turn l a)) (here (moves_by (turn l a).line plan)) s.0 (past r (turn l a).line plan s.1)
+    silent_untold r (done_by a (line_turn l a)) (here (moves_by (line_turn l a).line plan)) s.0 (past r (line_turn l a).line plan s.1)
 past r l (Takes ∷ plan) p = past r l plan p
 past r l (Speaks ∷ plan) p = past r l plan p

@@ -1,6 +1,6 @@
 -- A run of a connection by itself, with what its client does in the place of what came of it.
 use Rattle.std.proofs.Common.{◌≡◌, ◌∙◌, List, [], ◌∷◌, refl, ap}
-use Rattle.tds_service.specs.Line.{Line, Act, turn}
+use Rattle.tds_service.specs.Line.{Line, Act, line_turn}
 use Rattle.tds_service.specs.History.{Done, done_by, history, line_after}
 use Rattle.laws_conforming_server.specs.Lawful.{Engine, IsLawful}
 use Rattle.laws_conforming_server.specs.Link as links
@@ -16,7 +16,7 @@ pub data Planned (T : Type 0) : Type 0 where
 
 abbrev pub moves_by : {T : Type 0} → Line → List (Planned T) → List (Move T)
 moves_by l [] = []
-moves_by l (Does a ∷ plan) = links.Here (done_by a (turn l a)) ∷ moves_by (turn l a).line plan
+moves_by l (Does a ∷ plan) = links.Here (done_by a (line_turn l a)) ∷ moves_by (line_turn l a).line plan
 moves_by l (Takes ∷ plan) = links.Takes ∷ moves_by l plan
 moves_by l (Speaks ∷ plan) = links.Speaks ∷ moves_by l plan
 
@@ -34,11 +34,11 @@ pub record Follows {T : Type 0} (l : Line) (acts : List (Act T)) (moves : List (
 first_same : {A : Type 0} (x y : A) (xs ys : List A) → x ∷ xs ≡ y ∷ ys → (x ≡ y) × (xs ≡ ys)
 first_same x y xs ys e = (cc, cc)
 
-follows_act : {T : Type 0} (l : Line) (d : Done T) (a : Act T) (acts : List (Act T)) (moves : List (Move T)) → d ≡ done_by a (turn l a)
-    → Follows (turn l a).line acts moves → Follows l (a ∷ acts) (links.Here d ∷ moves)
+follows_act : {T : Type 0} (l : Line) (d : Done T) (a : Act T) (acts : List (Act T)) (moves : List (Move T)) → d ≡ done_by a (line_turn l a)
+    → Follows (line_turn l a).line acts moves → Follows l (a ∷ acts) (links.Here d ∷ moves)
 follows_act {T} l d a acts moves e f = record {
   plan = Does a ∷ f.plan;
-  moves_are = ap (λ (x : Done T). links.Here x ∷ moves) e ∙ ap (λ (ms : List (Move T)). links.Here (done_by a (turn l a)) ∷ ms) f.moves_are;
+  moves_are = ap (λ (x : Done T). links.Here x ∷ moves) e ∙ ap (λ (ms : List (Move T)). links.Here (done_by a (line_turn l a)) ∷ ms) f.moves_are;
   acts_are = ap (λ (xs : List (Act T)). a ∷ xs) f.acts_are;
 }
 
@@ -47,8 +47,8 @@ follows l [] [] e = record { plan = []; moves_are = refl; acts_are = refl }
 follows l (a ∷ acts) [] e = let b : ⊥ = cc in absurd b
 follows l [] (links.Here d ∷ moves) e = let b : ⊥ = cc in absurd b
 follows l (a ∷ acts) (links.Here d ∷ moves) e =
-    let both = first_same d (done_by a (turn l a)) (here moves) (history (turn l a).line acts) e in
-    follows_act l d a acts moves both.0 (follows (turn l a).line acts moves both.1)
+    let both = first_same d (done_by a (line_turn l a)) (here moves) (history (line_turn l a).line acts) e in
+    follows_act l d a acts moves both.0 (follows (line_turn l a).line acts moves both.1)
 follows {T} l acts (links.Takes ∷ moves) e =
     let f = follows l acts moves e in
     record { plan = Takes ∷ f.plan; moves_are = ap (λ (ms : List (Move T)). links.Takes ∷ ms) f.moves_are; acts_are = f.acts_are }
@@ -62,7 +62,7 @@ pub flow_after : {V T : Type 0} (engine : Engine V T) (lawful : IsLawful engine)
     → FlowOn engine (line_after l (acts_in plan)) (link_after engine link (moves_by l plan))
 flow_after engine lawful l link [] f runs = f
 flow_after engine lawful l link (Does a ∷ plan) f runs =
-    flow_after engine lawful (turn l a).line (goes engine link (links.Here (done_by a (turn l a)))) plan
+    flow_after engine lawful (line_turn l a).line (goes engine link (links.Here (done_by a (line_turn l a)))) plan
     (keeps_act engine l.asked l.stage l.heard link a f runs.0) runs.1
 flow_after engine lawful l link (Takes ∷ plan) f runs =
     flow_after engine lawful l (goes engine link links.Takes) plan (keeps_takes engine lawful l.asked l.stage l.heard link f runs.0) runs.1

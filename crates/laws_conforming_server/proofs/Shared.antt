@@ -9,7 +9,7 @@ use Rattle.tds_service.specs.Parts.{Item}
 use Rattle.tds_service.specs.Line as line
 use Rattle.tds_service.specs.Line.{new_line}
 use Rattle.tds_service.specs.History.{given, history}
-use Rattle.laws_conforming_server.specs.Lawful.{Session, Step, Says, Ends, Engine, IsAnswer, IsLawful, reset_by, told_of}
+use Rattle.laws_conforming_server.specs.Lawful.{Session, ServerStep, Says, Ends, Engine, IsAnswer, IsLawful, reset_by, told_of}
 use Rattle.laws_conforming_server.specs.Link.{IsRun}
 use Rattle.laws_conforming_server.specs.Alone.{DoesReset, ResetsFirst, answered_alone, new_beside}
 use Rattle.laws_conforming_server.proofs.Examples.{acknowledged, at, done, reset, whole}
@@ -20,10 +20,10 @@ use Rattle.laws_conforming_server.proofs.Plans.{Planned, Does, Takes, Speaks, ac
 abbrev pub count : ℕ → Item ℕ
 count n = record { sign = signs.Nothing; token = n }
 
-abbrev pub counted : Session ℕ → List (Step ℕ ℕ)
+abbrev pub counted : Session ℕ → List (ServerStep ℕ ℕ)
 counted s = Says (count s.settings) (at s.transaction (suc s.settings)) ∷ Says done (at s.transaction (suc s.settings)) ∷ Ends ∷ []
 
-abbrev pub counts_by : Option Reset → Session ℕ → List (Step ℕ ℕ)
+abbrev pub counts_by : Option Reset → Session ℕ → List (ServerStep ℕ ℕ)
 counts_by None s = counted s
 counts_by (Some Full) s = Says reset (at 0 0) ∷ counted (at 0 0)
 counts_by (Some KeepTransaction) s = Says reset (at s.transaction 0) ∷ counted (at s.transaction 0)
@@ -46,7 +46,7 @@ counting_is_lawful = record {
   stops = λ request s. (refl, refl);
 }
 
-abbrev pub counting_resets : (s : Session ℕ) (asked : Reset) → List (Step ℕ ℕ)
+abbrev pub counting_resets : (s : Session ℕ) (asked : Reset) → List (ServerStep ℕ ℕ)
 counting_resets s Full = Says reset (at 0 0) ∷ []
 counting_resets s KeepTransaction = Says reset (at s.transaction 0) ∷ []
 

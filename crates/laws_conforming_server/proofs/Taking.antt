@@ -5,8 +5,8 @@ use Rattle.tds_packet.specs.declared.status.Reset.{Reset}
 use Rattle.tds_client.specs.declared.heard.Heard.{Heard}
 use Rattle.tds_client.specs.declared.heard.FinalDone.{FinalDone}
 use Rattle.tds_client.specs.Acts.{is_acknowledgement}
-use Rattle.tds_service.specs.Line.{Stage, Idle, Sending, Reading, Cancelling, Broken, Packet, OfRequest, Ignore, Attention}
-use Rattle.laws_conforming_server.specs.Lawful.{Session, Step, Says, Ends, Breaks, Engine, IsLawful, IsAnswer, IsStop, reset_left}
+use Rattle.tds_service.specs.Line.{LineStage, Idle, Sending, Reading, Cancelling, Broken, Packet, OfRequest, Ignore, Attention}
+use Rattle.laws_conforming_server.specs.Lawful.{Session, ServerStep, Says, Ends, Breaks, Engine, IsLawful, IsAnswer, IsStop, reset_left}
 use Rattle.laws_conforming_server.specs.Link.{Up, ups, Link, TakesNext, taken}
 use Rattle.laws_conforming_server.proofs.Hears.{acknowledged}
 use Rattle.laws_conforming_server.proofs.Chains.{behind, Cancels, answer_cancels, stops_behind}
@@ -36,7 +36,7 @@ pub answers_it : {V T : Type 0} (engine : Engine V T) (lawful : IsLawful engine)
     → reset ≡ h.mark
     → IsAnswer engine.settings h.mark link.server.session false (link.down ++ engine.answers request link.server.session reset link.asking.named)
 answers_it {V} {T} engine lawful h link s request reset e =
-    subst (λ (d : List (Step V T)). IsAnswer engine.settings h.mark link.server.session false (d ++ engine.answers request link.server.session reset link.asking.named)) (sym s.down)
+    subst (λ (d : List (ServerStep V T)). IsAnswer engine.settings h.mark link.server.session false (d ++ engine.answers request link.server.session reset link.asking.named)) (sym s.down)
     (subst (λ (m : Option Reset). IsAnswer engine.settings m link.server.session false (engine.answers request link.server.session reset link.asking.named)) e
     (lawful.answers request link.server.session reset link.asking.named))
 
@@ -78,7 +78,7 @@ takes_whole_left engine lawful n h link named s (OfRequest request first own fal
   named = named;
 })
 takes_whole_left {V} {T} engine lawful n h link named s (OfRequest request first own true ∷ packets) are t =
-    let steps : List (Step V T) = link.down ++ engine.answers request link.server.session (if first then own else link.server.reset) link.asking.named in
+    let steps : List (ServerStep V T) = link.down ++ engine.answers request link.server.session (if first then own else link.server.reset) link.asking.named in
     inr (
       false,
       record {
@@ -113,8 +113,8 @@ takes_ignored {V} {T} engine n h link named s (Ignore request ∷ packets) are t
     session = link.server.session;
     transaction = s.transaction;
     cancels = subst (λ (d : FinalDone). Cancels false h.mark link.server.session (acknowledged d) (link.down ++ link.server.due)) (sym s.done)
-        (subst (λ (xs : List (Step V T)). Cancels false h.mark link.server.session false (xs ++ link.server.due)) (sym s.down)
-        (subst (λ (xs : List (Step V T)). Cancels false h.mark link.server.session false xs) (sym s.due) refl));
+        (subst (λ (xs : List (ServerStep V T)). Cancels false h.mark link.server.session false (xs ++ link.server.due)) (sym s.down)
+        (subst (λ (xs : List (ServerStep V T)). Cancels false h.mark link.server.session false xs) (sym s.due) refl));
     server = no_down h link s;
   },
 )
@@ -131,7 +131,7 @@ or_is_false : (a b : Bool) → (a || b) ≡ false → a ≡ false
 or_is_false true b e = e
 or_is_false false b e = refl
 
-never_acknowledged : {V T : Type 0} (mark : Option Reset) (s : Session V) (acked : Bool) (steps : List (Step V T))
+never_acknowledged : {V T : Type 0} (mark : Option Reset) (s : Session V) (acked : Bool) (steps : List (ServerStep V T))
     → Cancels false mark s acked steps → acked ≡ false
 never_acknowledged mark s acked [] c = c
 never_acknowledged mark s acked (Says item after ∷ steps) c =
@@ -145,7 +145,7 @@ takes_attention : {V T : Type 0} (engine : Engine V T) (lawful : IsLawful engine
     → Stops true h (taken engine link (ups link.asking (Attention ∷ [])))
 takes_attention {V} {T} engine lawful h link a =
     let none : acknowledged h.done ≡ false = never_acknowledged h.mark a.session (acknowledged h.done) (link.down ++ link.server.due) a.cancels in
-    let stop : List (Step V T) = engine.stops link.asking.request link.server.session in
+    let stop : List (ServerStep V T) = engine.stops link.asking.request link.server.session in
     record {
       up = refl;
       session = a.session;
@@ -157,7 +157,7 @@ takes_attention {V} {T} engine lawful h link a =
       server = a.server;
     }
 
-pub keeps_takes : {V T : Type 0} (engine : Engine V T) (lawful : IsLawful engine) (n : ℕ) (stage : Stage) (h : Heard) (link : Link V T)
+pub keeps_takes : {V T : Type 0} (engine : Engine V T) (lawful : IsLawful engine) (n : ℕ) (stage : LineStage) (h : Heard) (link : Link V T)
     → Flow engine n stage h link → TakesNext link.up link.server.due → Flow engine n stage h (taken engine link link.up)
 keeps_takes engine lawful n Idle h link f t = absurd (none_taken link f.up t)
 keeps_takes engine lawful n (Sending false) h link f t = absurd (none_taken link f.0.up t)

@@ -4,7 +4,7 @@ use Rattle.tds_packet.specs.declared.status.Reset.{Reset}
 use Rattle.tds_client.specs.declared.sign.Sign.{Sign}
 use Rattle.tds_client.specs.declared.sign.Sign.TheVariants as signs
 use Rattle.tds_service.specs.Line.{Act, Answer, Mark, Marked, Packet, OfRequest, Ignore, Attention}
-use Rattle.laws_conforming_server.specs.Lawful.{Session, Step, Says, Ends, Breaks, Engine, reset_by, reset_left}
+use Rattle.laws_conforming_server.specs.Lawful.{Session, ServerStep, Says, Ends, Breaks, Engine, reset_by, reset_left}
 use Rattle.laws_conforming_server.specs.Link.{Asking, Up, Link, Move, Here, Takes, Speaks, goes, new_link, session_behind}
 use Rattle.laws_conforming_server.specs.Starting.{owed_here, owed_next}
 use Rattle.laws_conforming_server.specs.Answering.{or_later}
@@ -17,21 +17,21 @@ IsChange (signs.Change change) = Unit {0}
 IsChange (signs.Done kind status) = ⊥
 
 -- What a reset leaves of a session, or where it is done that session.
-abbrev pub left_by : {V : Type 0} → V → Option Reset → Session V → Session V
-left_by settings None s = s
-left_by settings (Some reset) s = reset_by settings reset s
+abbrev pub left_of_session : {V : Type 0} → V → Option Reset → Session V → Session V
+left_of_session settings None s = s
+left_of_session settings (Some reset) s = reset_by settings reset s
 
 -- Changes alone, of which one is the reset's end. None changes what it leaves.
-abbrev pub DoesReset : {V T : Type 0} → V → Option Reset → Session V → List (Step V T) → Type 0
+abbrev pub DoesReset : {V T : Type 0} → V → Option Reset → Session V → List (ServerStep V T) → Type 0
 DoesReset settings reset s [] = reset ≡ None
 DoesReset settings reset s (Says item after ∷ steps) =
-    IsChange item.sign × (left_by settings reset after ≡ left_by settings reset s) × DoesReset settings (reset_left reset item.sign) after steps
+    IsChange item.sign × (left_of_session settings reset after ≡ left_of_session settings reset s) × DoesReset settings (reset_left reset item.sign) after steps
 DoesReset settings reset s (Ends ∷ steps) = ⊥
 DoesReset settings reset s (Breaks ∷ steps) = ⊥
 
 -- A request that asks for a reset is answered by that, and then as without one in the session that it leaves (MS-TDS 2.2.3.1.2).
 pub record ResetsFirst {V T : Type 0} (engine : Engine V T) : Type 0 where
-  pub resets : (request : ℕ) (s : Session V) (reset : Reset) (named : ℕ) → List (Step V T)
+  pub resets : (request : ℕ) (s : Session V) (reset : Reset) (named : ℕ) → List (ServerStep V T)
   pub does : (request : ℕ) (s : Session V) (reset : Reset) (named : ℕ)
       → DoesReset engine.settings (Some reset) s (resets request s reset named)
   pub answers : (request : ℕ) (s : Session V) (reset : Reset) (named : ℕ)
@@ -43,11 +43,11 @@ pub record ResetsFirst {V T : Type 0} (engine : Engine V T) : Type 0 where
 -- Its session, and what it has still to say. Nobody asks it for a reset.
 pub record Own (V T : Type 0) : Type 0 where
   pub session : Session V
-  pub due : List (Step V T)
+  pub due : List (ServerStep V T)
 
 -- A mark is set where a lease begins: then it is a new one, or one in the transaction that is kept, without settings.
 abbrev pub own_here : {V T : Type 0} → V → Option Reset → Session V → Act T → Answer → Own V T → Own V T
-own_here settings owed s (Mark reset) Marked own = record { session = left_by settings owed s; due = [] }
+own_here settings owed s (Mark reset) Marked own = record { session = left_of_session settings owed s; due = [] }
 own_here settings owed s act answer own = own
 
 -- It takes the same packets, and answers in its own session, whose transaction their header names. An attention before the reset is
@@ -64,13 +64,13 @@ abbrev pub own_taken : {V T : Type 0} → Engine V T → Option Reset → List U
 own_taken engine owed [] own = own
 own_taken engine owed (next ∷ others) own = own_takes engine owed next.asking next.packet own
 
-abbrev pub own_says : {V T : Type 0} → Session V → List (Step V T) → Own V T
+abbrev pub own_says : {V T : Type 0} → Session V → List (ServerStep V T) → Own V T
 own_says s [] = record { session = s; due = [] }
 own_says s (step ∷ due) = record { session = session_behind s step; due = due }
 
 -- While a reset is owed it waits; a transaction that is to be kept may be rolled back meanwhile, there as here. Then it says as much:
 -- the next thing, but where more is due here than there, which tells of the reset.
-abbrev pub own_speaks : {V T : Type 0} → V → Option Reset → Session V → List (Step V T) → Own V T → Own V T
+abbrev pub own_speaks : {V T : Type 0} → V → Option Reset → Session V → List (ServerStep V T) → Own V T → Own V T
 own_speaks settings owed s [] own = own
 own_speaks settings (Some reset) s (step ∷ due) own = record { session = reset_by settings reset (session_behind s step); due = own.due }
 own_speaks settings None s (step ∷ due) own = if nat_lt (length own.due) (length (step ∷ due)) then own else own_says own.session own.due
@@ -109,23 +109,23 @@ beside_after engine b (move ∷ moves) = beside_after engine (goes_beside engine
 -- Its session is the one of the other server, or where a reset is owed what that leaves; and what it has still to say is the end of
 -- what the other one has.
 pub record IsBeside {V T : Type 0} (settings : V) (b : Beside V T) : Type 0 where
-  pub session : b.own.session ≡ left_by settings b.owed b.link.server.session
-  pub before : List (Step V T)
+  pub session : b.own.session ≡ left_of_session settings b.owed b.link.server.session
+  pub before : List (ServerStep V T)
   pub due : b.link.server.due ≡ before ++ b.own.due
 
 -- ---- What it answers
 
-abbrev pub alone_by : {V T : Type 0} → Engine V T → Option Reset → ℕ → Asking → Packet → Own V T → Option (List (Step V T))
+abbrev pub alone_by : {V T : Type 0} → Engine V T → Option Reset → ℕ → Asking → Packet → Own V T → Option (List (ServerStep V T))
 alone_by engine owed r asking (OfRequest request first reset true) own =
     if request == r then Some (own_takes engine owed asking (OfRequest request first reset true) own).due else None
 alone_by engine owed r asking packet own = None
 
-abbrev pub alone_now : {V T : Type 0} → Engine V T → Option Reset → ℕ → List Up → Own V T → Option (List (Step V T))
+abbrev pub alone_now : {V T : Type 0} → Engine V T → Option Reset → ℕ → List Up → Own V T → Option (List (ServerStep V T))
 alone_now engine owed r [] own = None
 alone_now engine owed r (next ∷ others) own = alone_by engine owed r next.asking next.packet own
 
 -- What is due there where the last packet of this request is taken. Nothing, where it isn't taken in this run.
-abbrev pub answered_alone : {V T : Type 0} → Engine V T → Beside V T → ℕ → List (Move T) → List (Step V T)
+abbrev pub answered_alone : {V T : Type 0} → Engine V T → Beside V T → ℕ → List (Move T) → List (ServerStep V T)
 answered_alone engine b r [] = []
 answered_alone engine b r (Here d ∷ moves) = answered_alone engine (goes_beside engine b (Here d)) r moves
 answered_alone engine b r (Takes ∷ moves) = or_later (alone_now engine b.owed r b.link.up b.own) (answered_alone engine (goes_beside engine b Takes) r moves)

@@ -19,17 +19,17 @@ pub record Session (V : Type 0) : Type 0 where
 
 -- What a server says, one thing after the other: a token, with the session behind it; or a message's end, between two tokens or
 -- inside one.
-pub data Step (V T : Type 0) : Type 0 where
-  Says : (item : Item T) (after : Session V) → Step V T
-  Ends : Step V T
-  Breaks : Step V T
+pub data ServerStep (V T : Type 0) : Type 0 where
+  Says : (item : Item T) (after : Session V) → ServerStep V T
+  Ends : ServerStep V T
+  Breaks : ServerStep V T
 
 -- The settings behind a login and behind a reset; what is answered to the request of this number, in this session, if it asks for
 -- this reset and its header names this transaction (MS-TDS 2.2.5.3.2); and what is said to an attention behind that request.
 pub record Engine (V T : Type 0) : Type 0 where
   pub settings : V
-  pub answers : (request : ℕ) (s : Session V) (reset : Option Reset) (named : ℕ) → List (Step V T)
-  pub stops : (request : ℕ) (s : Session V) → List (Step V T)
+  pub answers : (request : ℕ) (s : Session V) (reset : Option Reset) (named : ℕ) → List (ServerStep V T)
+  pub stops : (request : ℕ) (s : Session V) → List (ServerStep V T)
 
 -- ---- Sessions
 
@@ -67,7 +67,7 @@ final_by final (signs.Change change) = final
 final_by final (signs.Done kind status) = not (has_bit status more)
 
 -- An answer is one message. Its last DONE is final, none acknowledges an attention, and a reset that was asked for is done in it.
-abbrev pub IsAnswer : {V T : Type 0} → V → Option Reset → Session V → Bool → List (Step V T) → Type 0
+abbrev pub IsAnswer : {V T : Type 0} → V → Option Reset → Session V → Bool → List (ServerStep V T) → Type 0
 IsAnswer settings reset s final [] = ⊥
 IsAnswer settings reset s final (Says item after ∷ steps) =
     Leads settings reset s item.sign after × (is_acknowledgement item.sign ≡ false)
@@ -86,13 +86,13 @@ LeadsOut s (signs.Change (changes.Commit d)) after = ⊥
 LeadsOut s (signs.Change changes.ResetDone) after = ⊥
 LeadsOut s (signs.Done kind status) after = after.transaction ≡ s.transaction
 
-abbrev pub UnlessAcknowledged : {V T : Type 0} → Bool → List (Step V T) → Type 0 → Type 0
+abbrev pub UnlessAcknowledged : {V T : Type 0} → Bool → List (ServerStep V T) → Type 0 → Type 0
 UnlessAcknowledged true steps others = steps ≡ []
 UnlessAcknowledged false steps others = others
 
 -- The message that comes may be broken off, between two tokens or inside one. The end of the message that has the acknowledgement, a
 -- DONE with bit 0020 (MS-TDS 2.2.7.6), is the last thing said.
-abbrev pub IsStop : {V T : Type 0} → Session V → Bool → List (Step V T) → Type 0
+abbrev pub IsStop : {V T : Type 0} → Session V → Bool → List (ServerStep V T) → Type 0
 IsStop s acknowledged [] = ⊥
 IsStop s acknowledged (Says item after ∷ steps) =
     LeadsOut s item.sign after × IsStop after (acknowledged || is_acknowledgement item.sign) steps
@@ -107,7 +107,7 @@ pub record IsLawful {V T : Type 0} (engine : Engine V T) : Type 0 where
   pub stops : (request : ℕ) (s : Session V) → IsStop s false (engine.stops request s)
 
 -- What a caller may be told of them.
-abbrev pub told_of : {V T : Type 0} → List (Step V T) → List T
+abbrev pub told_of : {V T : Type 0} → List (ServerStep V T) → List T
 told_of [] = []
 told_of (Says item after ∷ steps) = told_by item.sign item.token (told_of steps)
 told_of (Ends ∷ steps) = told_of steps

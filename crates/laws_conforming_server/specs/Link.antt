@@ -6,7 +6,7 @@ use Rattle.tds_service.specs.Parts.{Item, Close}
 use Rattle.tds_service.specs.Line as line
 use Rattle.tds_service.specs.Line.{Act, Answer, Packet, OfRequest, Ignore, Attention}
 use Rattle.tds_service.specs.History.{Done}
-use Rattle.laws_conforming_server.specs.Lawful.{Session, Step, Says, Ends, Breaks, Engine}
+use Rattle.laws_conforming_server.specs.Lawful.{Session, ServerStep, Says, Ends, Breaks, Engine}
 
 -- ---- The server
 
@@ -14,7 +14,7 @@ use Rattle.laws_conforming_server.specs.Lawful.{Session, Step, Says, Ends, Break
 pub record Server (V T : Type 0) : Type 0 where
   pub session : Session V
   pub reset : Option Reset
-  pub due : List (Step V T)
+  pub due : List (ServerStep V T)
 
 -- The request that was asked last, and the transaction that its header names.
 pub record Asking : Type 0 where
@@ -27,26 +27,26 @@ pub record Up : Type 0 where
   pub packet : Packet
 
 -- A request is run as soon as its last packet is there, with the reset that its first one asks for (MS-TDS 2.2.3.1.2).
-abbrev pub reads : {V T : Type 0} → Engine V T → Server V T → (request named : ℕ) → Option Reset → Bool → Server V T
-reads engine server request named reset false = record { session = server.session; reset = reset; due = server.due }
-reads engine server request named reset true =
+abbrev pub server_reads : {V T : Type 0} → Engine V T → Server V T → (request named : ℕ) → Option Reset → Bool → Server V T
+server_reads engine server request named reset false = record { session = server.session; reset = reset; due = server.due }
+server_reads engine server request named reset true =
     record { session = server.session; reset = None; due = engine.answers request server.session reset named }
 
 -- A request that is to be ignored is forgotten (2.2.3.1.2). An attention stops the answer (2.2.1.7).
 abbrev pub takes : {V T : Type 0} → Engine V T → Server V T → Asking → Packet → Server V T
 takes engine server asking (OfRequest request first reset last) =
-    reads engine server request asking.named (if first then reset else server.reset) last
+    server_reads engine server request asking.named (if first then reset else server.reset) last
 takes engine server asking (Ignore request) = record { session = server.session; reset = None; due = server.due }
 takes engine server asking Attention =
     record { session = server.session; reset = None; due = engine.stops asking.request server.session }
 
 -- One message after the other: a request waits for the end of the answer before it, an attention doesn't.
-abbrev pub MayTake : {V T : Type 0} → Packet → List (Step V T) → Type 0
+abbrev pub MayTake : {V T : Type 0} → Packet → List (ServerStep V T) → Type 0
 MayTake (OfRequest request first reset last) due = due ≡ []
 MayTake (Ignore request) due = due ≡ []
 MayTake Attention due = Unit {0}
 
-abbrev pub session_behind : {V T : Type 0} → Session V → Step V T → Session V
+abbrev pub session_behind : {V T : Type 0} → Session V → ServerStep V T → Session V
 session_behind s (Says item after) = after
 session_behind s Ends = s
 session_behind s Breaks = s
@@ -57,7 +57,7 @@ session_behind s Breaks = s
 pub record Link (V T : Type 0) : Type 0 where
   pub up : List Up
   pub server : Server V T
-  pub down : List (Step V T)
+  pub down : List (ServerStep V T)
   pub asking : Asking
 
 -- Behind a login.
@@ -77,37 +77,37 @@ pub data Move (T : Type 0) : Type 0 where
 
 -- ---- What comes at the service's end is what is on its way, in order
 
-abbrev pub IsEnd : {V T : Type 0} → Close → List (Step V T) → Type 0
+abbrev pub IsEnd : {V T : Type 0} → Close → List (ServerStep V T) → Type 0
 IsEnd parts.Goes down = Unit {0}
 IsEnd parts.Ends (Ends ∷ down) = Unit {0}
 IsEnd parts.Cut (Breaks ∷ down) = Unit {0}
 IsEnd close down = ⊥
 
-abbrev pub IsNext : {V T : Type 0} → List (Item T) → Close → List (Step V T) → Type 0
+abbrev pub IsNext : {V T : Type 0} → List (Item T) → Close → List (ServerStep V T) → Type 0
 IsNext [] close down = IsEnd close down
 IsNext (item ∷ items) close (Says said after ∷ down) = (item ≡ said) × IsNext items close down
 IsNext (item ∷ items) close down = ⊥
 
-abbrev pub without_end : {V T : Type 0} → Close → List (Step V T) → List (Step V T)
+abbrev pub without_end : {V T : Type 0} → Close → List (ServerStep V T) → List (ServerStep V T)
 without_end parts.Goes down = down
 without_end close [] = []
 without_end close (step ∷ down) = down
 
-abbrev pub without : {V T : Type 0} → List (Item T) → Close → List (Step V T) → List (Step V T)
+abbrev pub without : {V T : Type 0} → List (Item T) → Close → List (ServerStep V T) → List (ServerStep V T)
 without [] close down = without_end close down
 without (item ∷ items) close [] = []
 without (item ∷ items) close (step ∷ down) = without items close down
 
-abbrev pub HasSome : {V T : Type 0} → List (Step V T) → Type 0
+abbrev pub HasSome : {V T : Type 0} → List (ServerStep V T) → Type 0
 HasSome [] = ⊥
 HasSome (step ∷ steps) = Unit {0}
 
 -- A part without a token and without an end is the front of a token, which is on its way or is being said.
-abbrev pub Comes : {V T : Type 0} → Act T → List (Step V T) → List (Step V T) → Type 0
+abbrev pub Comes : {V T : Type 0} → Act T → List (ServerStep V T) → List (ServerStep V T) → Type 0
 Comes (line.Come part) down due = HasSome (down ++ due) × IsNext part.items part.close down
 Comes act down due = Unit {0}
 
-abbrev pub behind_act : {V T : Type 0} → Act T → List (Step V T) → List (Step V T)
+abbrev pub behind_act : {V T : Type 0} → Act T → List (ServerStep V T) → List (ServerStep V T)
 behind_act (line.Come part) down = without part.items part.close down
 behind_act act down = down
 
@@ -134,7 +134,7 @@ taken engine link [] = link
 taken engine link (next ∷ others) =
     record { up = others; server = takes engine link.server next.asking next.packet; down = link.down; asking = link.asking }
 
-abbrev pub spoken : {V T : Type 0} → Link V T → List (Step V T) → Link V T
+abbrev pub spoken : {V T : Type 0} → Link V T → List (ServerStep V T) → Link V T
 spoken link [] = link
 spoken link (step ∷ due) = record {
   up = link.up;
@@ -148,7 +148,7 @@ goes engine link (Here d) = done_here link d
 goes engine link Takes = taken engine link link.up
 goes engine link Speaks = spoken link link.server.due
 
-abbrev pub TakesNext : {V T : Type 0} → List Up → List (Step V T) → Type 0
+abbrev pub TakesNext : {V T : Type 0} → List Up → List (ServerStep V T) → Type 0
 TakesNext [] due = ⊥
 TakesNext (next ∷ others) due = MayTake next.packet due
 

@@ -5,7 +5,7 @@ use Rattle.tds_packet.specs.Resets.{strongest}
 use Rattle.tds_service.specs.Line.{Act, Answer, Mark, Marked, Packet, OfRequest}
 use Rattle.tds_service.specs.Service as service
 use Rattle.tds_service.specs.Service.{Service}
-use Rattle.laws_conforming_server.specs.Lawful.{Session, Step, Says, Ends, Breaks, Engine, Leads, LeadsOut, reset_left}
+use Rattle.laws_conforming_server.specs.Lawful.{Session, ServerStep, Says, Ends, Breaks, Engine, Leads, LeadsOut, reset_left}
 use Rattle.laws_conforming_server.specs.Link.{Server, Up, Link, Move, Here, Takes, Speaks, goes}
 
 -- A reset is owed from where it is marked up to where the server says its end. Of two the stronger one is.
@@ -13,12 +13,12 @@ abbrev pub owed_here : {T : Type 0} → Option Reset → Act T → Answer → Op
 owed_here owed (Mark reset) Marked = strongest (Some reset) owed
 owed_here owed act answer = owed
 
-abbrev pub owed_behind : {V T : Type 0} → Option Reset → Step V T → Option Reset
+abbrev pub owed_behind : {V T : Type 0} → Option Reset → ServerStep V T → Option Reset
 owed_behind owed (Says item after) = reset_left owed item.sign
 owed_behind owed Ends = owed
 owed_behind owed Breaks = owed
 
-abbrev pub owed_next : {V T : Type 0} → Option Reset → List (Step V T) → Option Reset
+abbrev pub owed_next : {V T : Type 0} → Option Reset → List (ServerStep V T) → Option Reset
 owed_next owed [] = owed
 owed_next owed (step ∷ due) = owed_behind owed step
 
@@ -33,7 +33,7 @@ NextAsOwed owed server (next ∷ others) = RunsAsOwed owed server next.packet
 
 -- Where one is owed nothing is run before it is done: the session is left as it is, but that its transaction may be rolled back,
 -- until it is what that reset makes of it. So the first that is run finds what is set anew, and no transaction, or the one kept.
-abbrev pub SaidAsOwed : {V T : Type 0} → V → Option Reset → Session V → List (Step V T) → Type 0
+abbrev pub SaidAsOwed : {V T : Type 0} → V → Option Reset → Session V → List (ServerStep V T) → Type 0
 SaidAsOwed settings (Some reset) s (Says item after ∷ due) = Leads settings (Some reset) s item.sign after ⊎ LeadsOut s item.sign after
 SaidAsOwed settings owed s due = Unit {0}
 
@@ -61,5 +61,5 @@ pub record IsLeftClean {V T : Type 0} (owed : Option Reset) (link : Link V T) : 
   pub transaction : link.server.session.transaction ≡ 0
 
 -- What a table answers where it is told that a cleaning is over.
-abbrev pub cleaning_over : (T : Type 0) → Service → ℕ → service.Step T
+abbrev pub cleaning_over : (T : Type 0) → Service → ℕ → service.ServiceStep T
 cleaning_over T s lease = service.step s (service.Cleaned lease)

@@ -2,8 +2,8 @@
 use Rattle.std.specs.Prelude.{◌≡◌, ◌⊎◌, ◌+◌, ℕ, suc, List, [], ◌∷◌, length, None, max}
 use Rattle.tds_service.specs.Parts as parts
 use Rattle.tds_service.specs.Parts.{Item, Close, Part}
-use Rattle.tds_service.specs.Line.{Act, Come, Stage, Reading, Cancelling, Packet, OfRequest, Ignore, Attention}
-use Rattle.laws_conforming_server.specs.Lawful.{Session, Step, Engine}
+use Rattle.tds_service.specs.Line.{Act, Come, LineStage, Reading, Cancelling, Packet, OfRequest, Ignore, Attention}
+use Rattle.laws_conforming_server.specs.Lawful.{Session, ServerStep, Engine}
 use Rattle.laws_conforming_server.specs.Link.{Asking, Server, Up, Link, Move, Here, Takes, Speaks, HasSome, TakesNext, session_behind, takes}
 
 -- ---- A measure
@@ -13,12 +13,12 @@ abbrev pub twice : {A : Type 0} → List A → ℕ
 twice [] = 0
 twice (x ∷ xs) = 2 + twice xs
 
-abbrev pub all_said : {V T : Type 0} → Session V → List (Step V T) → Session V
+abbrev pub all_said : {V T : Type 0} → Session V → List (ServerStep V T) → Session V
 all_said s [] = s
 all_said s (step ∷ due) = all_said (session_behind s step) due
 
 -- An attention may be taken before or behind each thing that is due: the most that may be left then.
-abbrev pub left_at_attention : {V T : Type 0} → (Session V → ℕ) → Session V → List (Step V T) → ℕ
+abbrev pub left_at_attention : {V T : Type 0} → (Session V → ℕ) → Session V → List (ServerStep V T) → ℕ
 left_at_attention behind s [] = suc (behind s)
 left_at_attention behind s (step ∷ due) = max (suc (behind s)) (2 + left_at_attention behind (session_behind s step) due)
 
@@ -28,15 +28,15 @@ stopped engine asking s = record { session = s; reset = None; due = engine.stops
 abbrev pub with_all_said : {V T : Type 0} → Server V T → Server V T
 with_all_said server = record { session = all_said server.session server.due; reset = server.reset; due = [] }
 
-abbrev pub left_by : {V T : Type 0} → Engine V T → (Server V T → ℕ) → Server V T → Asking → Packet → ℕ
-left_by engine behind server asking (OfRequest request first reset last) =
+abbrev pub work_left : {V T : Type 0} → Engine V T → (Server V T → ℕ) → Server V T → Asking → Packet → ℕ
+work_left engine behind server asking (OfRequest request first reset last) =
     twice server.due + suc (behind (takes engine (with_all_said server) asking (OfRequest request first reset last)))
-left_by engine behind server asking (Ignore request) = twice server.due + suc (behind (takes engine (with_all_said server) asking (Ignore request)))
-left_by engine behind server asking Attention = left_at_attention (λ s. behind (stopped engine asking s)) server.session server.due
+work_left engine behind server asking (Ignore request) = twice server.due + suc (behind (takes engine (with_all_said server) asking (Ignore request)))
+work_left engine behind server asking Attention = left_at_attention (λ s. behind (stopped engine asking s)) server.session server.due
 
 abbrev pub left_for : {V T : Type 0} → Engine V T → List Up → Server V T → ℕ
 left_for engine [] server = twice server.due
-left_for engine (next ∷ others) server = left_by engine (λ s. left_for engine others s) server next.asking next.packet
+left_for engine (next ∷ others) server = work_left engine (λ s. left_for engine others s) server next.asking next.packet
 
 abbrev pub left_to_do : {V T : Type 0} → Engine V T → Link V T → ℕ
 left_to_do engine link = left_for engine link.up link.server + length link.down
@@ -62,7 +62,7 @@ Works (Here d) = Delivers d.act × (d.sent ≡ [])
 
 -- ---- Who waits
 
-abbrev pub Waits : Stage → Type 0
+abbrev pub Waits : LineStage → Type 0
 Waits Reading = Unit {0}
 Waits Cancelling = Unit {0}
 Waits stage = ⊥

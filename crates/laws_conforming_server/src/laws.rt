@@ -11,7 +11,7 @@ ghost use Rattle.laws_conforming_server.specs.Link.{IsRun, Link, May, Move, goes
 ghost use Rattle.laws_conforming_server.specs.Answering.{Begins, NoFault, answered, finishes};
 ghost use Rattle.laws_conforming_server.specs.Agreeing.{AllInNamed, IsQuiet};
 ghost use Rattle.laws_conforming_server.specs.Starting.{IsLeftClean, StartsFresh, owed_after};
-ghost use Rattle.laws_conforming_server.specs.Alone.{IsBeside, ResetsFirst, answered_alone, left_by};
+ghost use Rattle.laws_conforming_server.specs.Alone.{IsBeside, ResetsFirst, answered_alone, left_of_session};
 ghost use Rattle.laws_conforming_server.specs.Alone.{beside_after, new_beside};
 ghost use Rattle.laws_conforming_server.specs.Working.{CanGo, Waits, Works, left_to_do};
 
@@ -121,5 +121,5 @@ pub fn as_if_alone<V, T>()
         → IsBeside engine.settings (beside_after engine (new_beside engine) moves) }
     // Behind a full reset, whatever was before, it is as behind a login.
     ensures fresh { (engine : Engine V T) (s : Session V)
-        → left_by engine.settings (Some Full) s ≡ (new_link engine).server.session }
+        → left_of_session engine.settings (Some Full) s ≡ (new_link engine).server.session }
 {}

@@ -12,7 +12,7 @@ use Rattle.tds_listen.specs.declared.fault.ListenFault.{ListenFault}
 use Rattle.tds_wire.specs.declared.told.Token.{Token}
 use Rattle.tds_service.specs.Parts.{Part, heard_until, hear_part, is_end}
 use Rattle.tds_service.specs.Line as line
-use Rattle.tds_service.specs.Line.{Act, Answer, Line, Packet, Stage, Idle, Sending, Reading, Cancelling, Broken, Turn, turn}
+use Rattle.tds_service.specs.Line.{Act, Answer, Line, Packet, LineStage, Idle, Sending, Reading, Cancelling, Broken, Turn, line_turn}
 use Rattle.tds_service.specs.History.{done_by, history}
 use Rattle.tds_judge.specs.declared.talk.Event.TheVariants as events
 use Rattle.tds_judge.specs.declared.talk.Transaction.{Transaction}
@@ -27,20 +27,20 @@ use Rattle.laws_conforming_server.specs.Answering.{IsNoFault, NoFault, UnlessLos
 use Rattle.laws_never_blamed.proofs.Hears.{IsLast, NotAcknowledged, as_reset, is_acknowledged, or_true}
 use Rattle.laws_never_blamed.proofs.Steps.{Answers, Asked, At, Knows, Rests, Skips, Stands, Stops, packet_seen, part_reads, part_skips, reading_begins, reads_stand, skipping_begins, skips_stand}
 
-abbrev pub line_at : ℕ → Stage → Heard → Line
+abbrev pub line_at : ℕ → LineStage → Heard → Line
 line_at n stage h = record { asked = n; stage = stage; heard = h }
 
-abbrev pub Moves : Eye → ℕ → Stage → Heard → Watch → List Said → Act Token → Type 0
+abbrev pub Moves : Eye → ℕ → LineStage → Heard → Watch → List Said → Act Token → Type 0
 Moves eye n stage h w past act =
-    IsNoFault (turn (line_at n stage h) act).answer
-    → Stands (turn (line_at n stage h) act).line (watch_by (done_by act (turn (line_at n stage h) act)) w) (sees_done eye w past (done_by act (turn (line_at n stage h) act)))
+    IsNoFault (line_turn (line_at n stage h) act).answer
+    → Stands (line_turn (line_at n stage h) act).line (watch_by (done_by act (line_turn (line_at n stage h) act)) w) (sees_done eye w past (done_by act (line_turn (line_at n stage h) act)))
 
 -- ---- Marks, and asking
 
 knows_marked : (h : Heard) (mark : Option Reset) (past : List Said) → Knows h past → Knows (record h { mark = mark }) past
 knows_marked h mark past k = record { lawful = k.lawful; agreed = k.agreed; size = k.size; last = k.last }
 
-mark_moves : (eye : Eye) (n : ℕ) (stage : Stage) (h : Heard) (w : Watch) (past : List Said) (reset : Reset)
+mark_moves : (eye : Eye) (n : ℕ) (stage : LineStage) (h : Heard) (w : Watch) (past : List Said) (reset : Reset)
     → Knows h past → At stage w.begun w.named h past → Moves eye n stage h w past (line.Mark reset)
 mark_moves eye n Idle h w past reset k a well =
     record { knows = knows_marked h _ past k; at = (a.0, record { place = a.1.place; done = a.1.done }) }
@@ -49,7 +49,7 @@ mark_moves eye n Reading h w past reset k a well = record { knows = k; at = a }
 mark_moves eye n Cancelling h w past reset k a well = record { knows = k; at = a }
 mark_moves eye n (Broken fault) h w past reset k a well = record { knows = k; at = a }
 
-ask_moves : (eye : Eye) (n : ℕ) (stage : Stage) (h : Heard) (w : Watch) (past : List Said)
+ask_moves : (eye : Eye) (n : ℕ) (stage : LineStage) (h : Heard) (w : Watch) (past : List Said)
     → Knows h past → At stage w.begun w.named h past → Moves eye n stage h w past line.Ask
 ask_moves eye n Idle h w past k a well = record { knows = k; at = (a.0, refl, a.1) }
 ask_moves eye n (Sending begun) h w past k a well = record { knows = k; at = a }
@@ -140,7 +140,7 @@ sent_stands : (n : ℕ) (h : Heard) (begun : Bool) (named : ℕ) (past : List Sa
 sent_stands n h begun named past false none k a = record { knows = k; at = (none, a) }
 sent_stands n h begun named past true none k a = record { knows = k; at = subst (λ (b : Bool). At Reading b named h past) (sym none) a }
 
-send_moves : (eye : Eye) (n : ℕ) (stage : Stage) (h : Heard) (w : Watch) (past : List Said) (last : Bool)
+send_moves : (eye : Eye) (n : ℕ) (stage : LineStage) (h : Heard) (w : Watch) (past : List Said) (last : Bool)
     → Knows h past → At stage w.begun w.named h past → Moves eye n stage h w past (line.Send last)
 send_moves eye n (Sending false) h w past last k a well =
     let both = begins_sent eye h w.named (sees_packet eye past) last a.1 (packet_seen eye h past k) (rests_packet eye h past a.2) in
@@ -211,7 +211,7 @@ stop_reading eye n h false named past k a = let both = stop_asked eye h past k a
 stop_reading eye n h true named past k a =
     let both = stop_answer eye h past k a in record { knows = both.0; at = (both.1, sym (not_acknowledged h.done a.done)) }
 
-cancel_moves : (eye : Eye) (n : ℕ) (stage : Stage) (h : Heard) (w : Watch) (past : List Said)
+cancel_moves : (eye : Eye) (n : ℕ) (stage : LineStage) (h : Heard) (w : Watch) (past : List Said)
     → Knows h past → At stage w.begun w.named h past → Moves eye n stage h w past line.Cancel
 cancel_moves eye n Idle h w past k a well = record { knows = k; at = a }
 cancel_moves eye n (Sending false) h w past k a well = record { knows = k; at = (a.0, a.2) }
@@ -260,7 +260,7 @@ comes_so eye w past part t quiet stands =
     subst (λ (sent : List Packet). Stands t.line (watch_by (done_by (line.Come part) t) w) (sees_come eye w.begun (sees_outs eye w.named past sent) part)) (sym quiet.0)
     (subst (λ (named : ℕ). Stands t.line (record { named = named; begun = if is_end part.close then false else true }) (sees_come eye w.begun past part)) (sym quiet.1) stands)
 
-come_moves : (eye : Eye) (n : ℕ) (stage : Stage) (h : Heard) (w : Watch) (past : List Said) (part : Part Token)
+come_moves : (eye : Eye) (n : ℕ) (stage : LineStage) (h : Heard) (w : Watch) (past : List Said) (part : Part Token)
     → AreBehindLogin part.items × EndsIf (acknowledge part.items) part.close → Knows h past → At stage w.begun w.named h past → Moves eye n stage h w past (line.Come part)
 come_moves eye n Reading h w past part plain k a well =
     let both = reading_begins eye w.begun w.named h (sees_packet eye past) (packet_seen eye h past k) (reading_packet eye w.begun w.named h past a) in
@@ -278,7 +278,7 @@ come_moves eye n Idle h w past part plain k a well = absurd well
 come_moves eye n (Sending begun) h w past part plain k a well = absurd well
 come_moves eye n (Broken fault) h w past part plain k a well = absurd well
 
-lose_moves : (eye : Eye) (n : ℕ) (stage : Stage) (h : Heard) (w : Watch) (past : List Said)
+lose_moves : (eye : Eye) (n : ℕ) (stage : LineStage) (h : Heard) (w : Watch) (past : List Said)
     → Knows h past → At stage w.begun w.named h past → Moves eye n stage h w past line.Lose
 lose_moves eye n Idle h w past k a well = record { knows = k; at = tt }
 lose_moves eye n (Sending begun) h w past k a well = record { knows = k; at = tt }
@@ -286,7 +286,7 @@ lose_moves eye n Reading h w past k a well = record { knows = k; at = tt }
 lose_moves eye n Cancelling h w past k a well = record { knows = k; at = tt }
 lose_moves eye n (Broken fault) h w past k a well = record { knows = k; at = tt }
 
-pub moves : (eye : Eye) (n : ℕ) (stage : Stage) (h : Heard) (w : Watch) (past : List Said) (act : Act Token) → ComesBehindLogin act
+pub moves : (eye : Eye) (n : ℕ) (stage : LineStage) (h : Heard) (w : Watch) (past : List Said) (act : Act Token) → ComesBehindLogin act
     → Knows h past → At stage w.begun w.named h past → Moves eye n stage h w past act
 moves eye n stage h w past (line.Mark reset) plain k a = mark_moves eye n stage h w past reset k a
 moves eye n stage h w past line.Ask plain k a = ask_moves eye n stage h w past k a
@@ -310,9 +310,9 @@ all_lawful : (eye : Eye) (l : Line) (w : Watch) (past : List Said) (acts : List 
     → IsLawful (seen eye w past (history l acts))
 all_lawful eye l w past [] plain stands well = stands.knows.lawful
 all_lawful eye l w past (act ∷ acts) plain stands well =
-    unless_closed eye (turn l act).answer past (seen eye (watch_by (done_by act (turn l act)) w) (sees_done eye w past (done_by act (turn l act))) (history (turn l act).line acts))
-    (NoFault (history (turn l act).line acts)) stands.knows.lawful
-    (all_lawful eye (turn l act).line (watch_by (done_by act (turn l act)) w) (sees_done eye w past (done_by act (turn l act))) acts plain.1
+    unless_closed eye (line_turn l act).answer past (seen eye (watch_by (done_by act (line_turn l act)) w) (sees_done eye w past (done_by act (line_turn l act))) (history (line_turn l act).line acts))
+    (NoFault (history (line_turn l act).line acts)) stands.knows.lawful
+    (all_lawful eye (line_turn l act).line (watch_by (done_by act (line_turn l act)) w) (sees_done eye w past (done_by act (line_turn l act))) acts plain.1
     (moves eye l.asked l.stage l.heard w past act plain.0 stands.knows stands.at well.0))
     well.1
 

@@ -1,9 +1,9 @@
 -- What is seen of bytes is a lawful conversation, from a new judge on.
 use Rattle.std.proofs.Common.{◌≡◌, ◌==◌, true, false, List, [], ◌∷◌, Option, Some, refl, sym, ap, subst}
 use Rattle.tds_wire.specs.declared.told.Token.{Token}
-use Rattle.tds_wire.specs.Reading.{Reading}
+use Rattle.tds_wire.specs.Reading.{Parser}
 use Rattle.tds_service.specs.Line as line
-use Rattle.tds_service.specs.Line.{Act, Answer, Line, new_line, turn}
+use Rattle.tds_service.specs.Line.{Act, Answer, Line, new_line, line_turn}
 use Rattle.tds_service.specs.History.{Done, done_by, history}
 use Rattle.laws_conforming_server.specs.Answering.{NoFault, UnlessLost}
 use Rattle.tds_judge.specs.declared.frame.Frame.{Frame}
@@ -34,21 +34,21 @@ all_lawful : (l : Line) (w : Watch) (past : List Said) (acts : List (Act Token))
     → AreSeen w past (history l acts) all → IsLawful all
 all_lawful l w past [] all plain stands well is = subst IsLawful (sym is) stands.knows.lawful
 all_lawful l w past (act ∷ acts) all plain stands well is =
-    let d = done_by act (turn l act) in
-    seen_lawful d.answer w past d (λ v before. AreSeen v before (history (turn l act).line acts) all) all (NoFault (history (turn l act).line acts)) stands.knows.lawful well.1
-    (λ (eye : Eye) (rest : AreSeen (watch_by d w) (sees_done eye w past d) (history (turn l act).line acts) all) (others : NoFault (history (turn l act).line acts)).
-    all_lawful (turn l act).line (watch_by d w) (sees_done eye w past d) acts all plain.1
+    let d = done_by act (line_turn l act) in
+    seen_lawful d.answer w past d (λ v before. AreSeen v before (history (line_turn l act).line acts) all) all (NoFault (history (line_turn l act).line acts)) stands.knows.lawful well.1
+    (λ (eye : Eye) (rest : AreSeen (watch_by d w) (sees_done eye w past d) (history (line_turn l act).line acts) all) (others : NoFault (history (line_turn l act).line acts)).
+    all_lawful (line_turn l act).line (watch_by d w) (sees_done eye w past d) acts all plain.1
     (moves eye l.asked l.stage l.heard w past act plain.0 stands.knows stands.at well.0) others rest) is
 
 -- ---- A new judge
 
-begins : (limits : Limits) (j : Judge) (r : Reading) → IsNew limits j → j.parser ≡ Some r → State (record { limits = j.limits; talk = j.talk; told = [] }) line.Idle false (new_wire r) (run_of j []) []
+begins : (limits : Limits) (j : Judge) (r : Parser) → IsNew limits j → j.parser ≡ Some r → State (record { limits = j.limits; talk = j.talk; told = [] }) line.Idle false (new_wire r) (run_of j []) []
 unfolding further found_in
 begins limits j r new parser = record {
   client = j.client;
   server = j.server;
   parser = r;
-  run_is = ap (λ (x : Option Reading). run_of (record j { parser = x }) []) parser;
+  run_is = ap (λ (x : Option Parser). run_of (record j { parser = x }) []) parser;
   out = record {
     due = ap (λ (f : Frame). f.due) new.client;
     edge = First (ap (λ (f : Frame). f.part) new.client) (ap (λ (f : Frame). f.offset) new.client);
@@ -62,7 +62,7 @@ begins limits j r new parser = record {
 }
 
 -- what was said of the bytes is what is seen
-pub heard_of : (cuts : Cuts) (limits : Limits) (j : Judge) (r : Reading) (acts : List (Act Token)) (shown : List Shown)
+pub heard_of : (cuts : Cuts) (limits : Limits) (j : Judge) (r : Parser) (acts : List (Act Token)) (shown : List Shown)
     → IsNew limits j → j.parser ≡ Some r → IsHanded r (history new_line acts) shown → NoFault (history new_line acts)
     → (tells : Tells (run_of j []) (seen (pieces shown) (run_of j []))) × AreSeen new_watch [] (history new_line acts) tells.events
 heard_of cuts limits j r acts shown new parser handed well =

@@ -19,21 +19,21 @@ use Rattle.tds_client.specs.declared.state.Cancelled.{Cancelled}
 use Rattle.tds_client.specs.declared.state.Cancelled.TheVariants as cancels
 use Rattle.tds_client.specs.declared.state.Sent.{Sent}
 use Rattle.tds_client.specs.declared.state.Sent.TheVariants as sents
-use Rattle.tds_client.specs.Packets.{attention, ignore, packet_bytes}
+use Rattle.tds_client.specs.Packets.{stop_bytes, ignore, packet_bytes}
 use Rattle.tds_client.specs.Parts.{left_of}
 use Rattle.tds_client.specs.Sending.{Effect, cancelled, cancelled_in, cancelled_sending, room, sent, sent_in, sent_of, started}
 use Rattle.tds_client.specs.Session as session
 use Rattle.tds_client.specs.Session.{ClientSession, lost, marked, unless_idle, with_stage}
 use Rattle.tds_client.specs.Streams.{finished, finished_in, packets_are, put, put_in}
 use Rattle.tds_wire.specs.declared.told.Token.{Token}
-use Rattle.tds_wire.specs.Reading.{Reading}
+use Rattle.tds_wire.specs.Reading.{Parser}
 use Rattle.tds_client.specs.declared.heard.Heard.{Heard}
 use Rattle.tds_client.specs.declared.heard.FinalDone.{FinalDone}
 use Rattle.tds_client.specs.declared.heard.FinalDone.TheVariants.{Awaited, Answered, Acknowledged}
 use Rattle.tds_listen.specs.declared.fault.ListenFault.{ListenFault}
 use Rattle.tds_service.specs.Parts.{Part, hear_part, heard_until, is_end}
 use Rattle.tds_service.specs.Line as line
-use Rattle.tds_service.specs.Line.{Act, Line, Attention, Ignore, turn}
+use Rattle.tds_service.specs.Line.{Act, Line, Attention, Ignore, line_turn}
 use Rattle.tds_service.specs.History.{Done, done_by, history}
 use Rattle.tds_service.specs.Refusing.{packets}
 use Rattle.tds_service.specs.Ties.{full_in, stage_of}
@@ -215,7 +215,7 @@ abbrev cancelled_by : ClientSession → Kind → ℕ → Bool → Effect Cancell
 cancelled_by s kind packets none =
     if none
     then record { answer = cancels.Unsent; session = with_stage s session.Idle; bytes = [] }
-    else record { answer = cancels.Asked; session = with_stage s session.Cancelling; bytes = ignore kind packets ++ attention }
+    else record { answer = cancels.Asked; session = with_stage s session.Cancelling; bytes = ignore kind packets ++ stop_bytes }
 
 -- The line's stage by whether nothing is out.
 abbrev line_by : End → Bool → Line
@@ -235,8 +235,8 @@ stops e w pen t kind left packets false fits =
     let ended : ignore kind packets ≡ ignore (packets_are pen.kind) pen.packets =
     ap (λ (k : Kind). ignore k packets) fits.0 ∙ ap (ignore (packets_are pen.kind)) (sym fits.1) in
     record {
-      plays = one (line_by e false) w (wire_of pen e) line.Cancel t (ignore kind packets ++ attention) (wire_of pen e)
-          ((ignore kind packets, attention, pen, refl, (ended, refl), (attention, [], pen, sym (append-nil attention), (refl, refl), (refl, refl))), refl, refl);
+      plays = one (line_by e false) w (wire_of pen e) line.Cancel t (ignore kind packets ++ stop_bytes) (wire_of pen e)
+          ((ignore kind packets, stop_bytes, pen, refl, (ended, refl), (stop_bytes, [], pen, sym (append-nil stop_bytes), (refl, refl), (refl, refl))), refl, refl);
       holds = tt;
     }
 
@@ -257,8 +257,8 @@ cancel_goes e session.Reading w pen t x holds is =
     subst (Effects (at e session.Reading) w pen t (line.Cancel ∷ [])) (ok_same _ x is) (record {
       watch = w;
       pen_behind = pen;
-      plays = one (line_at (at e session.Reading)) w (wire_of pen e) line.Cancel t attention (wire_of pen e)
-          ((attention, [], pen, sym (append-nil attention), (refl, refl), (refl, refl)), refl, refl);
+      plays = one (line_at (at e session.Reading)) w (wire_of pen e) line.Cancel t stop_bytes (wire_of pen e)
+          ((stop_bytes, [], pen, sym (append-nil stop_bytes), (refl, refl), (refl, refl)), refl, refl);
       holds = tt;
     })
 cancel_goes e session.Cancelling w pen t x holds is =
@@ -288,7 +288,7 @@ lose_goes e (session.Broken fault) w pen t =
 
 -- ---- What comes: no request is being sent behind it
 
-abbrev NotSending : line.Stage → Type 0
+abbrev NotSending : line.LineStage → Type 0
 NotSending (line.Sending begun) = ⊥
 NotSending _ = Unit {0}
 
@@ -307,7 +307,7 @@ skips_not l ends until (Err fault) = tt
 skips_not l false until (Ok h) = tt
 skips_not l true until (Ok h) = skipped_not l h h.done
 
-comes_not : (l : Line) (part : Part Token) (stage : line.Stage) → NotSending (line.comes l part stage).line.stage
+comes_not : (l : Line) (part : Part Token) (stage : line.LineStage) → NotSending (line.comes l part stage).line.stage
 comes_not l part line.Idle = tt
 comes_not l part (line.Sending begun) = tt
 comes_not l part line.Reading = reads_not l part (is_end part.close) (heard_until false l.heard part.items) (hear_part false l.heard part)
@@ -322,11 +322,11 @@ holds_none named pen session.Cancelling other = tt
 holds_none named pen (session.Broken fault) other = tt
 
 come_goes : (e : End) (w : Watch) (pen : Pen) (part : Part Token) (t : ℕ) (bytes : List ℕ) (behind : End)
-    → IsIn e.reading e.is_first part (turn (line_at e) (line.Come part)).answer bytes behind.reading → Hears e part behind
+    → IsIn e.reading e.is_first part (line_turn (line_at e) (line.Come part)).answer bytes behind.reading → Hears e part behind
     → Goes e w pen (line.Come part ∷ []) (Bytes ToClient t bytes) behind
 come_goes e w pen part t bytes behind is hears =
     let l = line_at e in
-    let v = watch_by (done_by (line.Come part) (turn l (line.Come part))) w in
+    let v = watch_by (done_by (line.Come part) (line_turn l (line.Come part))) w in
     record {
       watch = v;
       pen_behind = pen;
@@ -389,7 +389,7 @@ all_shown e w pen (x ∷ xs) typed holds (done, typed_behind, called) =
     behind_one (line_at e) (line_at x.behind) w g.watch (wire_of pen e) (wire_of g.pen_behind x.behind) (acts_by e.client x.call) (acts_of x.behind xs) (piece_by x.call x.time x.bytes) (handed xs)
     g.plays (all_shown x.behind g.watch g.pen_behind xs typed_behind g.holds called)
 
-pub called_shows : (size : ℕ) (r : Reading) (calls : List Called) → IsPacketSize size → AreCalled (new_end size r) calls
+pub called_shows : (size : ℕ) (r : Parser) (calls : List Called) → IsPacketSize size → AreCalled (new_end size r) calls
     → AllShown line.new_line new_watch (new_wire r) (acts_of (new_end size r) calls) (handed calls)
 called_shows size r calls lawful called =
     all_shown (new_end size r) new_watch (record { kind = Batch; packets = 0 }) calls (record { size = lawful; descriptor = omega arith }) tt called

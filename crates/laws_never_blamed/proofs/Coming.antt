@@ -8,13 +8,13 @@ use Rattle.tds_wire.specs.declared.told.Token.{Token}
 use Rattle.tds_front.specs.declared.front.Front.{Front}
 use Rattle.tds_service.specs.History.{Done, acts_of, line_after}
 use Rattle.tds_service.specs.Line as line
-use Rattle.tds_service.specs.Line.{Act, Answer, Line, Packet, new_line, turn as turning}
+use Rattle.tds_service.specs.Line.{Act, Answer, Line, Packet, new_line, line_turn}
 use Rattle.tds_service.specs.Parts.{Part}
 use Rattle.tds_service.specs.Service.{Call, Seat, Service, new_service, on, seat_numbered, service_after, steps}
 use Rattle.tds_relay.specs.Pool as pool
 use Rattle.tds_relay.specs.Pool.{Pool, Event, Sharing, Way, pool_after, new_pool, turn, whose}
 use Rattle.tds_relay.specs.Fronting.{calls_along, done_on}
-use Rattle.tds_relay.specs.Core.{End, Open, Core, done_by, end_at, told, what_in}
+use Rattle.tds_relay.specs.Core.{End, Open, Core, dones_of_part, end_at, end_told, what_in}
 use Rattle.tds_relay.specs.Machine.{Machine, IsHanded, IsTold, Manner, MayHand, end_whose, hears_of_reset, is_said}
 use Rattle.tds_relay.specs.Pool.{owes_reset}
 use Rattle.tds_relay.proofs.ends.Ending.{whose_by}
@@ -98,9 +98,9 @@ module _ (s : Side) (sharing : Sharing) (key : ℕ) (by : ByHistory) (events : L
 
   abbrev Of : List (Done Token) → Type 0
   Of dones = IsHanded (is_said (what_in dones) (Some (Open front w stands.asks))) manner → IsTold owed (hears_of_reset (what_in dones) (Some (Open front w stands.asks))) manner part
-      → NowEnd (Some (told (what_in dones) (Open front w stands.asks))) (goes_on_behind begun manner part) (sees_handed s begun past manner part)
+      → NowEnd (Some (end_told (what_in dones) (Open front w stands.asks))) (goes_on_behind begun manner part) (sees_handed s begun past manner part)
 
-  right_by : (l : Line) (answer : Answer) → (turning l (line.Come part)).answer ≡ answer → (pool.hearing_of answer ≡ pool.Wrong → ⊥) → heard_of l part ≡ pool.Wrong → ⊥
+  right_by : (l : Line) (answer : Answer) → (line_turn l (line.Come part)).answer ≡ answer → (pool.hearing_of answer ≡ pool.Wrong → ⊥) → heard_of l part ≡ pool.Wrong → ⊥
   right_by l answer a not wrong = not (ap pool.hearing_of (sym a) ∙ wrong)
 
   come_plain : (k : Holds (outs_of sharing events) d key front.stage w stands.place) → Plain sharing (events ++ pool.Comes k.hold.number part way ∷ []) → (heard_of k.seat.line part ≡ pool.Wrong → ⊥)
@@ -112,40 +112,40 @@ module _ (s : Side) (sharing : Sharing) (key : ℕ) (by : ByHistory) (events : L
       (subst (λ (ds : List (Done Token)). AllBehindLogin (acts_of ds)) ours.out all).0
 
   heeded_by : (k : Holds (outs_of sharing events) d key front.stage w stands.place) → Plain sharing (events ++ pool.Comes k.hold.number part way ∷ []) → (heard_of k.seat.line part ≡ pool.Wrong → ⊥)
-      → By (turning k.seat.line (line.Come part)).answer
+      → By (line_turn k.seat.line (line.Come part)).answer
   heeded_by k behind_login right =
       let login : ComesBehindLogin (line.Come part) = come_plain k behind_login right in
       let kept = seat_kept sharing by events h.core k.hold.number k.seat stands.is (plain_front sharing events (pool.Comes k.hold.number part way ∷ []) behind_login) k.its.there in
       handed_seen s front stands.asks owed begun past part.items part.close login.0 w stands.place (outs_of sharing events k.hold.number) k.seat.line.stage
-      (turning k.seat.line (line.Come part)).answer manner k.tied (heeds k.seat.line part login kept) here
+      (line_turn k.seat.line (line.Come part)).answer manner k.tied (heeds k.seat.line part login kept) here
 
   heard_by : (k : Holds (outs_of sharing events) d key front.stage w stands.place) → Plain sharing (events ++ pool.Comes k.hold.number part way ∷ [])
-      → HeardAs k.seat.line.stage (Rattle.tds_service.specs.Parts.is_end part.close) (turning k.seat.line (line.Come part)) → By (turning k.seat.line (line.Come part)).answer
+      → HeardAs k.seat.line.stage (Rattle.tds_service.specs.Parts.is_end part.close) (line_turn k.seat.line (line.Come part)) → By (line_turn k.seat.line (line.Come part)).answer
   heard_by k login (Breaks fault a) = subst By (sym a) (closed_seen s front w stands.asks owed begun past part manner fault here)
   heard_by k login (ReadsOn is goes a sent l) = heeded_by k login (right_by k.seat.line line.More a (λ e. let u : ⊥ = cc in u))
   heard_by k login (ReadsEnd request is a sent l) = heeded_by k login (right_by k.seat.line (line.Finished request) a (λ e. let u : ⊥ = cc in u))
   heard_by k login (SkipsOn is a sent l) = heeded_by k login (right_by k.seat.line line.More a (λ e. let u : ⊥ = cc in u))
   heard_by k login (SkipsEnd request is a sent l) = heeded_by k login (right_by k.seat.line (line.Acked request) a (λ e. let u : ⊥ = cc in u))
 
-  held_seen : (k : Holds (outs_of sharing events) d key front.stage w stands.place) → Plain sharing (events ++ pool.Comes k.hold.number part way ∷ []) → Of (done_by d k.hold.number part)
+  held_seen : (k : Holds (outs_of sharing events) d key front.stage w stands.place) → Plain sharing (events ++ pool.Comes k.hold.number part way ∷ []) → Of (dones_of_part d k.hold.number part)
   held_seen k login = subst Of (sym (came_done d key k.hold k.seat part k.its)) (heard_by k login (heard_as k.seat.line part))
 
-  its_seen : Standing (outs_of sharing events) d key front.stage w stands.place → whose d number ≡ Some key → Of (done_by d number part)
+  its_seen : Standing (outs_of sharing events) d key front.stage w stands.place → whose d number ≡ Some key → Of (dones_of_part d number part)
   its_seen (inl k) mine =
       let number_is : k.hold.number ≡ number = whose_number d key number k.hold k.seat (sound_at sharing events h.core stands.is) k.its mine in
-      subst (λ (m : ℕ). Plain sharing (events ++ pool.Comes m part way ∷ []) → Of (done_by d m part)) number_is (held_seen k) plain
+      subst (λ (m : ℕ). Plain sharing (events ++ pool.Comes m part way ∷ []) → Of (dones_of_part d m part)) number_is (held_seen k) plain
   its_seen (inr k) mine = absurd (absent_whose d key number (sound_at sharing events h.core stands.is) k.absent.none mine)
 
   mine_seen : whose d number ≡ Some key
-      → NowEnd (option_map (told (what_in (done_by d number part))) (end_at h.core.ends key)) (goes_on_behind begun manner part) (sees_handed s begun past manner part)
+      → NowEnd (option_map (end_told (what_in (dones_of_part d number part))) (end_at h.core.ends key)) (goes_on_behind begun manner part) (sees_handed s begun past manner part)
   mine_seen mine =
-      let what = what_in (done_by d number part) in
+      let what = what_in (dones_of_part d number part) in
       let on : IsHanded (is_said what (Some (Open front w stands.asks))) manner =
       subst (λ (o : Option End). IsHanded (is_said what o) manner) stands.end_is (subst (λ (who : Option ℕ). IsHanded (is_said what (end_whose who h.core.ends)) manner) mine may.handed_on) in
       let told_it : IsTold owed (hears_of_reset what (Some (Open front w stands.asks))) manner part =
       subst (λ (o : Option End). IsTold owed (hears_of_reset what o) manner part) stands.end_is
       (subst (λ (who : Option ℕ). IsTold owed (hears_of_reset what (end_whose who h.core.ends)) manner part) mine may.told) in
-      subst (λ (o : Option End). NowEnd (option_map (told what) o) (goes_on_behind begun manner part) (sees_handed s begun past manner part)) (sym stands.end_is) (its_seen stands.standing mine on told_it)
+      subst (λ (o : Option End). NowEnd (option_map (end_told what) o) (goes_on_behind begun manner part) (sees_handed s begun past manner part)) (sym stands.end_is) (its_seen stands.standing mine on told_it)
 
   abbrev Behind : Sight
   Behind = record { begun = goes_on_behind begun manner part; past = sees_handed s begun past manner part }
@@ -154,7 +154,7 @@ module _ (s : Side) (sharing : Sharing) (key : ℕ) (by : ByHistory) (events : L
   Before = record { begun = begun; past = past }
 
   abbrev Told : End → End
-  Told = told (what_in (done_by d number part))
+  Told = end_told (what_in (dones_of_part d number part))
 
   abbrev AtIf : Bool → Type 0
   AtIf b = NowEnd (if b then option_map Told (end_at h.core.ends key) else end_at h.core.ends key) (if b then Behind else Before).begun (if b then Behind else Before).past

@@ -6,7 +6,7 @@ use Rattle.tds_judge.specs.declared.frame.Due.TheVariants as due
 use Rattle.tds_judge.specs.declared.frame.Frame.{Frame}
 use Rattle.tds_judge.specs.declared.frame.Inside.TheVariants as inside
 use Rattle.tds_judge.specs.declared.talk.Event.TheVariants as events
-use Rattle.tds_wire.specs.Reading.{Reading}
+use Rattle.tds_wire.specs.Reading.{Parser}
 use Rattle.tds_judge.specs.declared.headers.Field.TheVariants as fields
 use Rattle.tds_judge.specs.declared.headers.Headed.{Headed}
 use Rattle.tds_judge.specs.declared.headers.Headed.TheVariants as read
@@ -33,17 +33,17 @@ last o b (c ∷ bytes) = last (next o) c bytes
 abbrev pub skipped : Frame → ℕ → ℕ → Frame
 skipped c left o = record c { due = due.Data left; inside = inside.Skipped; offset = o }
 
-skip_more : (base : Base) (t b left o : ℕ) (c s : Frame) (r : Reading) (past : List Said) → nat_lt 1 left ≡ true
+skip_more : (base : Base) (t b left o : ℕ) (c s : Frame) (r : Parser) (past : List Said) → nat_lt 1 left ≡ true
     → step ToServer t b (run_at base (skipped c left o) s r past) ≡ run_at base (skipped c (left - 1) (next o)) s r past
 unfolding step due_by inside_by
 skip_more base t b left o c s r past more = rw more refl
 
-skip_last : (base : Base) (t b o : ℕ) (c s : Frame) (r : Reading) (past : List Said)
+skip_last : (base : Base) (t b o : ℕ) (c s : Frame) (r : Parser) (past : List Said)
     → step ToServer t b (run_at base (skipped c 1 o) s r past) ≡ over (client_spot o t) (run_at base (skipped c 1 (next o)) s r past)
 unfolding step due_by inside_by
 skip_last base t b o c s r past = refl
 
-pub skips_all : (base : Base) (t b left o : ℕ) (bytes : List ℕ) (c s : Frame) (r : Reading) (past : List Said) → length (b ∷ bytes) ≡ left
+pub skips_all : (base : Base) (t b left o : ℕ) (bytes : List ℕ) (c s : Frame) (r : Parser) (past : List Said) → length (b ∷ bytes) ≡ left
     → steps ToServer t (b ∷ bytes) (run_at base (skipped c left o) s r past)
     ≡ over (client_spot (last o b bytes) t) (run_at base (skipped c 1 (on o (b ∷ bytes))) s r past)
 unfolding steps
@@ -59,23 +59,23 @@ skips_all base t b left o (d ∷ bytes) c s r past is =
 abbrev pub prefix : Frame → ℕ → Heading → ℕ → Frame
 prefix c left h o = record c { due = due.Data left; inside = inside.Prefix h; offset = o }
 
-prefix_more : (base : Base) (t b left o : ℕ) (h g : Heading) (c s : Frame) (r : Reading) (past : List Said) → heading_by h b ≡ read.On g → nat_lt 1 left ≡ true
+prefix_more : (base : Base) (t b left o : ℕ) (h g : Heading) (c s : Frame) (r : Parser) (past : List Said) → heading_by h b ≡ read.On g → nat_lt 1 left ≡ true
     → step ToServer t b (run_at base (prefix c left h o) s r past) ≡ run_at base (prefix c (left - 1) g (next o)) s r past
 unfolding step due_by inside_by
 prefix_more base t b left o h g c s r past is more = rw (is, more) refl
 
-prefix_names : (base : Base) (t b left o n : ℕ) (h g : Heading) (c s : Frame) (r : Reading) (past : List Said) → heading_by h b ≡ read.Names n g → nat_lt 1 left ≡ true
+prefix_names : (base : Base) (t b left o n : ℕ) (h g : Heading) (c s : Frame) (r : Parser) (past : List Said) → heading_by h b ≡ read.Names n g → nat_lt 1 left ≡ true
     → step ToServer t b (run_at base (prefix c left h o) s r past)
     ≡ run_at base (prefix c (left - 1) g (next o)) s r (says (client_spot o t) (events.Names n) past)
 unfolding step due_by inside_by further found_in
 prefix_names base t b left o n h g c s r past is more = rw (is, more) refl
 
-prefix_passed : (base : Base) (t b left o : ℕ) (h : Heading) (c s : Frame) (r : Reading) (past : List Said) → heading_by h b ≡ read.Over → nat_lt 1 left ≡ true
+prefix_passed : (base : Base) (t b left o : ℕ) (h : Heading) (c s : Frame) (r : Parser) (past : List Said) → heading_by h b ≡ read.Over → nat_lt 1 left ≡ true
     → step ToServer t b (run_at base (prefix c left h o) s r past) ≡ run_at base (skipped c (left - 1) (next o)) s r past
 unfolding step due_by inside_by
 prefix_passed base t b left o h c s r past is more = rw (is, more) refl
 
-prefix_last : (base : Base) (t b o : ℕ) (h : Heading) (c s : Frame) (r : Reading) (past : List Said) → heading_by h b ≡ read.Over
+prefix_last : (base : Base) (t b o : ℕ) (h : Heading) (c s : Frame) (r : Parser) (past : List Said) → heading_by h b ≡ read.Over
     → step ToServer t b (run_at base (prefix c 1 h o) s r past) ≡ over (client_spot o t) (run_at base (skipped c 1 (next o)) s r past)
 unfolding step due_by inside_by
 prefix_last base t b o h c s r past is = rw is refl
@@ -93,7 +93,7 @@ left_after left [] = left
 left_after left (b ∷ bytes) = left_after (left - 1) bytes
 
 -- the first of them
-prefix_on : (found : Headed) (base : Base) (t b left o : ℕ) (h g : Heading) (bytes : List ℕ) (c s : Frame) (r : Reading) (past : List Said) (end : Run)
+prefix_on : (found : Headed) (base : Base) (t b left o : ℕ) (h g : Heading) (bytes : List ℕ) (c s : Frame) (r : Parser) (past : List Said) (end : Run)
     → heading_by h b ≡ found → heading_after found bytes ≡ read.On g → nat_lt 1 left ≡ true
     → ((k : Heading) → heading_after (read.On k) bytes ≡ read.On g → steps ToServer t bytes (run_at base (prefix c (left - 1) k (next o)) s r past) ≡ end)
     → steps ToServer t (b ∷ bytes) (run_at base (prefix c left h o) s r past) ≡ end
@@ -103,7 +103,7 @@ prefix_on (read.Names n k) base t b left o h g bytes c s r past end is so more r
 prefix_on read.Over base t b left o h g bytes c s r past end is so more rest = absurd cc
 prefix_on (read.Wrong fault) base t b left o h g bytes c s r past end is so more rest = absurd cc
 
-prefix_run : (base : Base) (t left o : ℕ) (h g : Heading) (bytes : List ℕ) (c s : Frame) (r : Reading) (past : List Said)
+prefix_run : (base : Base) (t left o : ℕ) (h g : Heading) (bytes : List ℕ) (c s : Frame) (r : Parser) (past : List Said)
     → heading_after (read.On h) bytes ≡ read.On g → length bytes < left
     → steps ToServer t bytes (run_at base (prefix c left h o) s r past) ≡ run_at base (prefix c (left_after left bytes) g (on o bytes)) s r past
 unfolding steps
@@ -141,7 +141,7 @@ named_there : (value h : ℕ) → heading_by (amid value) h ≡ read.Names (spel
 unfolding heading_by
 named_there value h = refl
 
-pub names : (base : Base) (t a b c d e f g h left o : ℕ) (rest : List ℕ) (x s : Frame) (r : Reading) (past : List Said) → 18 < left
+pub names : (base : Base) (t a b c d e f g h left o : ℕ) (rest : List ℕ) (x s : Frame) (r : Parser) (past : List Said) → 18 < left
     → steps ToServer t (22 ∷ 0 ∷ 0 ∷ 0 ∷ 18 ∷ 0 ∷ 0 ∷ 0 ∷ 2 ∷ 0 ∷ a ∷ b ∷ c ∷ d ∷ e ∷ f ∷ g ∷ h ∷ rest) (run_at base (prefix x left new_heading o) s r past)
     ≡ steps ToServer t rest (run_at base (prefix x (left - 18) (rest_of 4 0) (next (on o (front a b c d e f g)))) s r
     (says (client_spot (on o (front a b c d e f g)) t) (events.Names (descriptor a b c d e f g h)) past))
@@ -159,7 +159,7 @@ names base t a b c d e f g h left o rest x s r past more =
     ∙ ap (λ (k : ℕ). run_at base (prefix x k (rest_of 4 0) (next place)) s r (says (client_spot place t) (events.Names (descriptor a b c d e f g h)) past)) m)
 
 -- the last byte of ALL_HEADERS, and what stands behind it
-passes_all : (base : Base) (t b left o : ℕ) (h : Heading) (bytes : List ℕ) (c s : Frame) (r : Reading) (past : List Said) → heading_by h b ≡ read.Over → length (b ∷ bytes) ≡ left
+passes_all : (base : Base) (t b left o : ℕ) (h : Heading) (bytes : List ℕ) (c s : Frame) (r : Parser) (past : List Said) → heading_by h b ≡ read.Over → length (b ∷ bytes) ≡ left
     → steps ToServer t (b ∷ bytes) (run_at base (prefix c left h o) s r past)
     ≡ over (client_spot (last o b bytes) t) (run_at base (skipped c 1 (on o (b ∷ bytes))) s r past)
 unfolding steps
@@ -178,7 +178,7 @@ count_over : (b value : ℕ) → heading_by (rest_of 1 value) b ≡ read.Over
 unfolding heading_by
 count_over b value = refl
 
-pub headers_end : (base : Base) (t left o : ℕ) (body : List ℕ) (c s : Frame) (r : Reading) (past : List Said) → length (1 ∷ 0 ∷ 0 ∷ 0 ∷ body) ≡ left
+pub headers_end : (base : Base) (t left o : ℕ) (body : List ℕ) (c s : Frame) (r : Parser) (past : List Said) → length (1 ∷ 0 ∷ 0 ∷ 0 ∷ body) ≡ left
     → steps ToServer t (1 ∷ 0 ∷ 0 ∷ 0 ∷ body) (run_at base (prefix c left (rest_of 4 0) o) s r past)
     ≡ over (client_spot (last o 1 (0 ∷ 0 ∷ 0 ∷ body)) t) (run_at base (skipped c 1 (on o (1 ∷ 0 ∷ 0 ∷ 0 ∷ body))) s r past)
 unfolding steps

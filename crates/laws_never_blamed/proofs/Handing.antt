@@ -14,7 +14,7 @@ use Rattle.tds_service.specs.Line as line
 use Rattle.tds_service.specs.Line.{Answer}
 use Rattle.tds_relay.specs.declared.pool.coming.What.{What}
 use Rattle.tds_relay.specs.declared.pool.coming.What.TheVariants as whats
-use Rattle.tds_relay.specs.Core.{Open, told, what_of}
+use Rattle.tds_relay.specs.Core.{Open, end_told, what_of}
 use Rattle.tds_relay.specs.Machine.{IsHanded, IsTold, Manner, Whole, Without, Withheld, hears_of_reset, is_said, news_in}
 use Rattle.tds_relay.specs.Promises.{one_if}
 use Rattle.tds_relay.proofs.ends.Tying.{Tied}
@@ -156,7 +156,7 @@ skip_ends eye past acknowledged whole a = fine_answered eye past whole (λ final
 
 abbrev Read : Side → Front → Option Reset → Bool → Bool → List Said → List (Item Token) → Close → What → Type 0
 Read s front asks begun tells past items close what =
-    NowEnd (Some (told what (Open front false asks))) (goes_or_ends close) (sees_told s begun past tells (record { items = items; close = close }))
+    NowEnd (Some (end_told what (Open front false asks))) (goes_or_ends close) (sees_told s begun past tells (record { items = items; close = close }))
 
 read_goes : (s : Side) (front : Front) (asks : Option Reset) (begun tells : Bool) (past : List Said) (items : List (Item Token)) → front.stage ≡ stages.Underway true → Now (stages.Underway true) asks begun past
     → AreBehindLogin items → acknowledge items ≡ false → IsLeft tells begun asks items → Read s front asks begun tells past items Goes whats.Goes
@@ -235,16 +235,16 @@ skip_all s front asks begun tells past items close e now plain told ends =
 abbrev pub Handed : Side → Front → Bool → Option Reset → Bool → Bool → List Said → Part Token → Manner → Answer → Type 0
 Handed s front w asks owed begun past part manner answer =
     IsHanded (is_said (what_of answer) (Some (Open front w asks))) manner → IsTold owed (hears_of_reset (what_of answer) (Some (Open front w asks))) manner part
-    → NowEnd (Some (told (what_of answer) (Open front w asks))) (goes_on_behind begun manner part) (sees_handed s begun past manner part)
+    → NowEnd (Some (end_told (what_of answer) (Open front w asks))) (goes_on_behind begun manner part) (sees_handed s begun past manner part)
 
 stage_now : (front : Front) (asks : Option Reset) (begun : Bool) (past : List Said) (stage : Stage) → front.stage ≡ stage → Now front.stage asks begun past → Now stage asks begun past
 stage_now front asks begun past stage e now = subst (λ (x : Stage). Now x asks begun past) e now
 
 -- withheld from one that is to be closed by it, or that has taken its request back
 over_handed : (s : Side) (front : Front) (w : Bool) (asks : Option Reset) (begun : Bool) (past : List Said) (part : Part Token) (manner : Manner) → Now front.stage asks begun past → manner ≡ Withheld
-    → NowEnd (Some (told whats.Closed (Open front w asks))) (goes_on_behind begun manner part) (sees_handed s begun past manner part)
+    → NowEnd (Some (end_told whats.Closed (Open front w asks))) (goes_on_behind begun manner part) (sees_handed s begun past manner part)
 over_handed s front w asks begun past part manner now e =
-    subst (λ (m : Manner). NowEnd (Some (told whats.Closed (Open front w asks))) (goes_on_behind begun m part) (sees_handed s begun past m part)) (sym e) (record { fine = now.fine; at = tt })
+    subst (λ (m : Manner). NowEnd (Some (end_told whats.Closed (Open front w asks))) (goes_on_behind begun m part) (sees_handed s begun past m part)) (sym e) (record { fine = now.fine; at = tt })
 
 kept_handed : (s : Side) (front : Front) (w : Bool) (asks : Option Reset) (begun : Bool) (past : List Said) (part : Part Token) (manner : Manner) → Now front.stage asks begun past → manner ≡ Withheld
     → NowEnd (Some (Open front w asks)) (goes_on_behind begun manner part) (sees_handed s begun past manner part)
@@ -305,19 +305,19 @@ module _ (s : Side) (front : Front) (asks : Option Reset) (owed begun : Bool) (p
   skips_all request Withheld e now told_it ends on told = absurd on
 
   -- where its line reads an answer, or skips one
-  reading : (p : serving.Place) (out : Bool) (l : line.Stage) → Tied front.stage false p l out → l ≡ line.Reading → front.stage ≡ stages.Underway true
-  reading p out l tied is = let t : Tied front.stage false p line.Reading out = subst (λ (x : line.Stage). Tied front.stage false p x out) is tied in t.0
+  reading : (p : serving.ServerIsAt) (out : Bool) (l : line.LineStage) → Tied front.stage false p l out → l ≡ line.Reading → front.stage ≡ stages.Underway true
+  reading p out l tied is = let t : Tied front.stage false p line.Reading out = subst (λ (x : line.LineStage). Tied front.stage false p x out) is tied in t.0
 
-  skipping : (p : serving.Place) (out : Bool) (l : line.Stage) → Tied front.stage false p l out → l ≡ line.Cancelling → front.stage ≡ stages.Stopping
-  skipping p out l tied is = let t : Tied front.stage false p line.Cancelling out = subst (λ (x : line.Stage). Tied front.stage false p x out) is tied in t.0
+  skipping : (p : serving.ServerIsAt) (out : Bool) (l : line.LineStage) → Tied front.stage false p l out → l ≡ line.Cancelling → front.stage ≡ stages.Stopping
+  skipping p out l tied is = let t : Tied front.stage false p line.Cancelling out = subst (λ (x : line.LineStage). Tied front.stage false p x out) is tied in t.0
 
-  never_reads : (p : serving.Place) (out : Bool) (l : line.Stage) → Tied front.stage true p l out → l ≡ line.Reading → ⊥
+  never_reads : (p : serving.ServerIsAt) (out : Bool) (l : line.LineStage) → Tied front.stage true p l out → l ≡ line.Reading → ⊥
   never_reads p out l tied is = let e : line.Reading ≡ line.Cancelling = sym is ∙ tied.0 in let u : ⊥ = cc in u
 
   abbrev Brings : Bool → Manner → Answer → Type 0
   Brings w manner answer = Handed s front w asks owed begun past Came manner answer
 
-  pub handed_seen : (w : Bool) (p : serving.Place) (out : Bool) (l : line.Stage) (answer : Answer) (manner : Manner) → Tied front.stage w p l out → Heeded Came l answer → Now front.stage asks begun past
+  pub handed_seen : (w : Bool) (p : serving.ServerIsAt) (out : Bool) (l : line.LineStage) (answer : Answer) (manner : Manner) → Tied front.stage w p l out → Heeded Came l answer → Now front.stage asks begun past
       → Handed s front w asks owed begun past Came manner answer
   handed_seen w p out l answer manner tied (Breaks fault a) now =
       subst (Brings w manner) (sym a) (closed_seen s front w asks owed begun past Came manner fault now)

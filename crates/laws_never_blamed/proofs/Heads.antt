@@ -15,7 +15,7 @@ use Rattle.tds_judge.specs.declared.talk.Event.{Event}
 use Rattle.tds_judge.specs.declared.talk.Event.TheVariants as events
 use Rattle.tds_judge.specs.declared.talk.Limits.{Limits}
 use Rattle.tds_judge.specs.declared.talk.Talk.{Talk}
-use Rattle.tds_wire.specs.Reading.{Reading, restarted}
+use Rattle.tds_wire.specs.Reading.{Parser, restarted}
 use Rattle.tds_judge.specs.Framing.{Run, begins, due_by, frame_of, goes_on, headed, headed_by, opened, step, steps, taken_up}
 use Rattle.tds_judge.specs.PacketHeads.{event_of, head_of, inside_of, is_plausible, is_to_fill, shifted}
 use Rattle.tds_judge.specs.History.{Said, found_in, further}
@@ -27,7 +27,7 @@ pub record Base : Type 0 where
   pub talk : Talk
   pub told : List Finding
 
-abbrev pub run_at : Base → Frame → Frame → Reading → List Said → Run
+abbrev pub run_at : Base → Frame → Frame → Parser → List Said → Run
 run_at base c s r past = record {
   judge = record { limits = base.limits; client = c; server = s; talk = further past base.talk; parser = Some r };
   told = found_in base.limits past base.talk base.told;
@@ -50,14 +50,14 @@ spelled7 a b c d e f g = shifted (shifted (shifted (shifted (shifted (shifted (s
 abbrev pub head_spot : Direction → ℕ → ℕ → Spot
 head_spot direction o t = record { direction = direction; offset = seven o; time = t }
 
-pub client_head : (base : Base) (t a b c d e f g h : ℕ) (rest : List ℕ) (x s : Frame) (r : Reading) (past : List Said)
+pub client_head : (base : Base) (t a b c d e f g h : ℕ) (rest : List ℕ) (x s : Frame) (r : Parser) (past : List Said)
     → steps ToServer t (a ∷ b ∷ c ∷ d ∷ e ∷ f ∷ g ∷ h ∷ rest) (run_at base (record x { due = due.Head 0 0 }) s r past)
     ≡ steps ToServer t rest (headed (head_spot ToServer x.offset t) (shifted (spelled7 a b c d e f g) h)
     (run_at base (record x { due = due.Head 7 (spelled7 a b c d e f g); offset = next (seven x.offset) }) s r past))
 unfolding steps step due_by
 client_head base t a b c d e f g h rest x s r past = refl
 
-pub server_head : (base : Base) (t a b c d e f g h : ℕ) (rest : List ℕ) (x s : Frame) (r : Reading) (past : List Said)
+pub server_head : (base : Base) (t a b c d e f g h : ℕ) (rest : List ℕ) (x s : Frame) (r : Parser) (past : List Said)
     → steps ToClient t (a ∷ b ∷ c ∷ d ∷ e ∷ f ∷ g ∷ h ∷ rest) (run_at base x (record s { due = due.Head 0 0 }) r past)
     ≡ steps ToClient t rest (headed (head_spot ToClient s.offset t) (shifted (spelled7 a b c d e f g) h)
     (run_at base x (record s { due = due.Head 7 (spelled7 a b c d e f g); offset = next (seven s.offset) }) r past))
@@ -143,14 +143,14 @@ client_spot offset time = record { direction = ToServer; offset = offset; time =
 abbrev pub server_spot : ℕ → ℕ → Spot
 server_spot offset time = record { direction = ToClient; offset = offset; time = time }
 
-pub client_begins : (base : Base) (c s : Frame) (r : Reading) (past : List Said) (o t : ℕ) (head : Head) (event : Event) → event_of head ≡ event
+pub client_begins : (base : Base) (c s : Frame) (r : Parser) (past : List Said) (o t : ℕ) (head : Head) (event : Event) → event_of head ≡ event
     → begins (client_spot o t) head (run_at base c s r past)
     ≡ opened (client_spot o t) parts.Within (inside_of head.kind) head (run_at base c s r (says (client_spot o t) event (says (client_spot o t) (events.Packet head.size (is_to_fill ToServer head)) past)))
 unfolding begins further found_in
 client_begins base c s r past o t head event e =
     ap (λ (x : Event). opened (client_spot o t) parts.Within (inside_of head.kind) head (run_at base c s r (says (client_spot o t) x (says (client_spot o t) (events.Packet head.size (is_to_fill ToServer head)) past)))) e
 
-pub client_goes_on : (base : Base) (c s : Frame) (r : Reading) (past : List Said) (o t : ℕ) (head : Head) → ((head.kind == c.kind) && not (head.kind == 6)) ≡ true
+pub client_goes_on : (base : Base) (c s : Frame) (r : Parser) (past : List Said) (o t : ℕ) (head : Head) → ((head.kind == c.kind) && not (head.kind == 6)) ≡ true
     → goes_on (client_spot o t) c head (run_at base c s r past)
     ≡ opened (client_spot o t) parts.Within c.inside head (run_at base c s r (says (client_spot o t) (events.Later head.status) (says (client_spot o t) (events.Packet head.size (is_to_fill ToServer head)) past)))
 unfolding goes_on further found_in
@@ -158,13 +158,13 @@ client_goes_on base c s r past o t head e = rw e refl
 
 -- ---- A message of the server begins, and goes on
 
-pub server_begins : (base : Base) (c s : Frame) (r : Reading) (past : List Said) (o t : ℕ) (head : Head) → (head.kind == 18) ≡ false → (c.kind == 18) ≡ false
+pub server_begins : (base : Base) (c s : Frame) (r : Parser) (past : List Said) (o t : ℕ) (head : Head) → (head.kind == 18) ≡ false → (c.kind == 18) ≡ false
     → begins (server_spot o t) head (run_at base c s r past)
     ≡ opened (server_spot o t) parts.Within inside.Walked head (run_at base c s (restarted r) (says (server_spot o t) events.Answer (says (server_spot o t) (events.Packet head.size false) past)))
 unfolding begins further found_in
 server_begins base c s r past o t head e f = rw (e, f) refl
 
-pub server_goes_on : (base : Base) (c s : Frame) (r : Reading) (past : List Said) (o t : ℕ) (head : Head) → ((head.kind == s.kind) && not (head.kind == 6)) ≡ true
+pub server_goes_on : (base : Base) (c s : Frame) (r : Parser) (past : List Said) (o t : ℕ) (head : Head) → ((head.kind == s.kind) && not (head.kind == 6)) ≡ true
     → goes_on (server_spot o t) s head (run_at base c s r past)
     ≡ opened (server_spot o t) parts.Within s.inside head (run_at base c s r (says (server_spot o t) (events.Packet head.size false) past))
 unfolding goes_on further found_in

@@ -15,7 +15,7 @@ use Rattle.tds_client.specs.declared.heard.FinalDone.{FinalDone}
 use Rattle.tds_client.specs.declared.heard.FinalDone.TheVariants.{Awaited, Answered, Acknowledged}
 use Rattle.tds_client.specs.declared.sign.DoneKind.TheVariants.{Statement, Procedure, InProcedure}
 use Rattle.tds_client.specs.declared.sign.Sign.TheVariants as signs
-use Rattle.tds_client.specs.Hearing.{acknowledges_by, any_sign, changed, done_behind, is_full as is_full_mark, reset_told, place_change, place_done, with_done}
+use Rattle.tds_client.specs.Hearing.{acknowledges_by, any_sign, descriptor_changed, done_behind, is_full as is_full_mark, reset_told, place_change, place_done, with_done}
 use Rattle.tds_listen.specs.Signs.{change_sign, done_kind, sign_by, transaction_change, unclear_sign}
 use Rattle.tds_wire.specs.declared.told.ChangeValue.{ChangeValue}
 use Rattle.tds_wire.specs.declared.told.ChangeValue.TheVariants as changes
@@ -199,17 +199,17 @@ Fits true h new old = ((new == 0) ≡ false) × ((h.descriptor == 0) || (h.descr
 Fits false h new old = (h.descriptor == 0) || (h.descriptor == old) ≡ true
 
 begun_so : (h : Heard) (new : ℕ) (z full b : Bool)
-    → IfOk (changed h (Begin new) (if z || full then None else if b then Some new else None)) (λ next. Moves h new next × ((z ≡ false) × (b ≡ true)))
+    → IfOk (descriptor_changed h (Begin new) (if z || full then None else if b then Some new else None)) (λ next. Moves h new next × ((z ≡ false) × (b ≡ true)))
 begun_so h new true full b = tt
 begun_so h new false true b = tt
 begun_so h new false false true = (refl, (refl, refl))
 begun_so h new false false false = tt
 
-commit_so : (h : Heard) (old : ℕ) (b : Bool) → IfOk (changed h (Commit old) (if b then Some 0 else None)) (λ next. Moves h 0 next × (b ≡ true))
+commit_so : (h : Heard) (old : ℕ) (b : Bool) → IfOk (descriptor_changed h (Commit old) (if b then Some 0 else None)) (λ next. Moves h 0 next × (b ≡ true))
 commit_so h old true = (refl, refl)
 commit_so h old false = tt
 
-rollback_so : (h : Heard) (old : ℕ) (b : Bool) → IfOk (changed h (Rollback old) (if b then Some 0 else None)) (λ next. Moves h 0 next × (b ≡ true))
+rollback_so : (h : Heard) (old : ℕ) (b : Bool) → IfOk (descriptor_changed h (Rollback old) (if b then Some 0 else None)) (λ next. Moves h 0 next × (b ≡ true))
 rollback_so h old true = (refl, refl)
 rollback_so h old false = tt
 
@@ -279,7 +279,7 @@ moves_follow cancelling h kind type new old owed last next known both =
 
 reset_follows : (cancelling : Bool) (mark : Option Reset) (descriptor : ℕ) (done : FinalDone) (kind type : ℕ) (owed : Asks) (last : Transaction)
     → owed ≡ as_reset mark → IsLast last descriptor
-    → IfOk (changed (record { descriptor = descriptor; mark = mark; done = done }) ResetDone (Some (reset_told mark descriptor)))
+    → IfOk (descriptor_changed (record { descriptor = descriptor; mark = mark; done = done }) ResetDone (Some (reset_told mark descriptor)))
     (λ next. Follows cancelling (record { descriptor = descriptor; mark = mark; done = done }) kind (told.Change (record { kind = type; value = changes.ResetDone })) owed last next)
 reset_follows cancelling None descriptor done kind type owed last owes is = record {
   left = refl;

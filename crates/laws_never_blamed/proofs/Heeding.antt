@@ -18,7 +18,7 @@ use Rattle.tds_wire.specs.declared.fault.Refusal.{Refusal}
 use Rattle.tds_wire.specs.declared.told.Token.{Token}
 use Rattle.tds_service.specs.Parts.{Item, Close, Goes, Ends, Cut, Fails, Part, close_by, hear_items, heard_until, is_end, unless_owed}
 use Rattle.tds_service.specs.Line as line
-use Rattle.tds_service.specs.Line.{Act, Answer, Line, Stage, Idle, Sending, Reading, Cancelling, Broken, More, Finished, Acked, Fault, Turn, reads, skips, skips_to_end, turn}
+use Rattle.tds_service.specs.Line.{Act, Answer, Line, LineStage, Idle, Sending, Reading, Cancelling, Broken, More, Finished, Acked, Fault, Turn, reads, skips, skips_to_end, line_turn}
 use Rattle.tds_service.specs.History.{line_after}
 use Rattle.tds_judge.specs.declared.talk.Transaction.TheVariants as transactions
 use Rattle.tds_judge.specs.Talking.{acknowledges}
@@ -76,7 +76,7 @@ items_heed c h (item ∷ items) plain =
 -- ---- A part
 
 -- What an answer to a part says of it, and of what was heard then.
-pub data Heeded (part : Part Token) (s : Stage) (answer : Answer) : Type 0 where
+pub data Heeded (part : Part Token) (s : LineStage) (answer : Answer) : Type 0 where
   Breaks : (fault : ListenFault) → answer ≡ Fault fault → Heeded part s answer
   ReadsOn : s ≡ Reading → answer ≡ More → acknowledge part.items ≡ false → part.close ≡ Goes → Heeded part s answer
   ReadsAll : (request : ℕ) → s ≡ Reading → answer ≡ Finished request → acknowledge part.items ≡ false → part.close ≡ Ends → Heeded part s answer
@@ -84,7 +84,7 @@ pub data Heeded (part : Part Token) (s : Stage) (answer : Answer) : Type 0 where
   SkipsAll : (request : ℕ) → s ≡ Cancelling → answer ≡ Acked request → acknowledge part.items ≡ true → is_end part.close ≡ true → Heeded part s answer
 
 -- By where a line is: what was heard of the message that comes there.
-abbrev pub Kept : Stage → Heard → Type 0
+abbrev pub Kept : LineStage → Heard → Type 0
 Kept Idle h = h.done ≡ Awaited
 Kept (Sending begun) h = h.done ≡ Awaited
 Kept Reading h = NotAcknowledged h.done
@@ -95,7 +95,7 @@ abbrev Stays : Line → Type 0
 Stays l = Kept l.stage l.heard
 
 -- both of a turn
-record Both (part : Part Token) (s : Stage) (t : Turn Token) : Type 0 where
+record Both (part : Part Token) (s : LineStage) (t : Turn Token) : Type 0 where
   answers : Heeded part s t.answer
   stays : Stays t.line
 
@@ -133,7 +133,7 @@ read_fails l items u refusal (Err fault) = record { answers = Breaks (listens.Cl
 read_fails l items u refusal (Ok next) = record { answers = Breaks (listens.Wire refusal) refl; stays = tt }
 
 read_any : (n : ℕ) (h : Heard) (items : List (Item Token)) (close : Close) → AreBehindLogin items → NotAcknowledged h.done
-    → Both (part_at items close) Reading (turn (line_at n Reading h) (line.Come (part_at items close)))
+    → Both (part_at items close) Reading (line_turn (line_at n Reading h) (line.Come (part_at items close)))
 read_any n h items Goes plain none =
     read_goes (line_at n Reading h) items h (heard_until false h items) (hear_items false h items) none (items_heed false h items plain)
 read_any n h items Ends plain none =
@@ -179,7 +179,7 @@ skip_fails l items u refusal (Err fault) = record { answers = Breaks (listens.Cl
 skip_fails l items u refusal (Ok next) = record { answers = Breaks (listens.Wire refusal) refl; stays = tt }
 
 skip_any : (n : ℕ) (h : Heard) (items : List (Item Token)) (close : Close) → AreBehindLogin items → EndsIf (acknowledge items) close → is_acknowledged h.done ≡ false
-    → Both (part_at items close) Cancelling (turn (line_at n Cancelling h) (line.Come (part_at items close)))
+    → Both (part_at items close) Cancelling (line_turn (line_at n Cancelling h) (line.Come (part_at items close)))
 skip_any n h items Goes plain ends none =
     skip_goes (line_at n Cancelling h) items h (heard_until true h items) (hear_items true h items) none ends (items_heed true h items plain)
 skip_any n h items Ends plain ends none =
@@ -190,15 +190,15 @@ skip_any n h items (Fails refusal) plain ends none = skip_fails (line_at n Cance
 
 -- ---- Any line
 
-come_at : (n : ℕ) (s : Stage) (h : Heard) (items : List (Item Token)) (close : Close) → AreBehindLogin items → EndsIf (acknowledge items) close → Kept s h
-    → Both (part_at items close) s (turn (line_at n s h) (line.Come (part_at items close)))
+come_at : (n : ℕ) (s : LineStage) (h : Heard) (items : List (Item Token)) (close : Close) → AreBehindLogin items → EndsIf (acknowledge items) close → Kept s h
+    → Both (part_at items close) s (line_turn (line_at n s h) (line.Come (part_at items close)))
 come_at n Idle h items close plain ends kept = record { answers = Breaks (listens.Client AnswerInIdle) refl; stays = tt }
 come_at n (Sending begun) h items close plain ends kept = record { answers = Breaks (listens.Client AnswerInSending) refl; stays = tt }
 come_at n Reading h items close plain ends kept = read_any n h items close plain kept
 come_at n Cancelling h items close plain ends kept = skip_any n h items close plain ends kept
 come_at n (Broken fault) h items close plain ends kept = record { answers = Breaks (listens.Client fault) refl; stays = tt }
 
-pub heeds : (l : Line) (part : Part Token) → ComesBehindLogin (line.Come part) → Kept l.stage l.heard → Heeded part l.stage (turn l (line.Come part)).answer
+pub heeds : (l : Line) (part : Part Token) → ComesBehindLogin (line.Come part) → Kept l.stage l.heard → Heeded part l.stage (line_turn l (line.Come part)).answer
 heeds l part plain kept = (come_at l.asked l.stage l.heard part.items part.close plain.0 plain.1 kept).answers
 
 unacknowledged : (done : FinalDone) → NotAcknowledged done → is_acknowledged done ≡ false
@@ -206,7 +206,7 @@ unacknowledged Awaited none = refl
 unacknowledged Answered none = refl
 unacknowledged Acknowledged none = absurd none
 
-act_stays : (n : ℕ) (s : Stage) (h : Heard) (act : Act Token) → ComesBehindLogin act → Kept s h → Stays (turn (line_at n s h) act).line
+act_stays : (n : ℕ) (s : LineStage) (h : Heard) (act : Act Token) → ComesBehindLogin act → Kept s h → Stays (line_turn (line_at n s h) act).line
 act_stays n Idle h (line.Mark reset) plain kept = kept
 act_stays n (Sending begun) h (line.Mark reset) plain kept = kept
 act_stays n Reading h (line.Mark reset) plain kept = kept
@@ -238,4 +238,4 @@ act_stays n (Broken fault) h line.Lose plain kept = tt
 
 pub all_stay : (l : Line) (acts : List (Act Token)) → AllBehindLogin acts → Kept l.stage l.heard → Kept (line_after l acts).stage (line_after l acts).heard
 all_stay l [] plain kept = kept
-all_stay l (act ∷ acts) plain kept = all_stay (turn l act).line acts plain.1 (act_stays l.asked l.stage l.heard act plain.0 kept)
+all_stay l (act ∷ acts) plain kept = all_stay (line_turn l act).line acts plain.1 (act_stays l.asked l.stage l.heard act plain.0 kept)

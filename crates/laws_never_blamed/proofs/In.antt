@@ -13,8 +13,8 @@ use Rattle.tds_judge.specs.declared.frame.Part.TheVariants as parts
 use Rattle.tds_judge.specs.declared.talk.Event.{Event}
 use Rattle.tds_judge.specs.declared.talk.Event.TheVariants as events
 use Rattle.tds_wire.specs.declared.told.Token.{Token}
-use Rattle.tds_wire.specs.Reading.{Reading, is_between, restarted}
-use Rattle.tds_listen.specs.Hearing.{Stands, Tokens, tokens_in}
+use Rattle.tds_wire.specs.Reading.{Parser, is_between, restarted}
+use Rattle.tds_listen.specs.Hearing.{Stands, TokensHeard, tokens_in}
 use Rattle.tds_judge.specs.Framing.{begins, headed, opened, opened_frame, over, steps}
 use Rattle.tds_judge.specs.PacketHeads.{head_of, is_plausible, shifted}
 use Rattle.tds_judge.specs.History.{Said, found_in, further}
@@ -45,7 +45,7 @@ abbrev pub BehindAnswer : Bool → Frame → Type 0
 BehindAnswer true s = Quiet s × (s.part ≡ parts.Between)
 BehindAnswer false s = Comes s
 
-abbrev pub ended_by : Bool → Reading → List Event
+abbrev pub ended_by : Bool → Parser → List Event
 ended_by true r = events.Answered (is_between r) ∷ []
 ended_by false r = []
 
@@ -55,19 +55,19 @@ abbrev answer_frame : Bool → Frame → Frame
 answer_frame true s = record s { due = due.Head 0 0; part = parts.Between; inside = inside.Walked }
 answer_frame false s = record s { due = due.Head 0 0; part = parts.Within; inside = inside.Walked }
 
-over_answer : (base : Base) (o t : ℕ) (ends : Bool) (c s : Frame) (r : Reading) (past : List Said) → (s.status % 2 == 1) ≡ ends → (s.kind == 18) ≡ false
+over_answer : (base : Base) (o t : ℕ) (ends : Bool) (c s : Frame) (r : Parser) (past : List Said) → (s.status % 2 == 1) ≡ ends → (s.kind == 18) ≡ false
     → (behind : List Said) × Follows (ended_by ends r) past behind
     × (over (server_spot o t) (run_at base c (record s { part = parts.Within; inside = inside.Walked }) r past) ≡ run_at base c (answer_frame ends s) r behind)
 unfolding over further found_in
 over_answer base o t true c s r past e k = (says (server_spot o t) (events.Answered (is_between r)) past, (server_spot o t, refl), rw (e, k) refl)
 over_answer base o t false c s r past e k = (past, refl, rw e refl)
 
-opened_more : (base : Base) (o t : ℕ) (head : Head) (c s : Frame) (r : Reading) (past : List Said) → (head.size == 8) ≡ false
+opened_more : (base : Base) (o t : ℕ) (head : Head) (c s : Frame) (r : Parser) (past : List Said) → (head.size == 8) ≡ false
     → opened (server_spot o t) parts.Within inside.Walked head (run_at base c s r past) ≡ run_at base c (opened_frame s parts.Within inside.Walked head) r past
 unfolding opened
 opened_more base o t head c s r past more = rw more refl
 
-opened_empty : (base : Base) (o t : ℕ) (head : Head) (c s : Frame) (r : Reading) (past : List Said) → (head.size == 8) ≡ true
+opened_empty : (base : Base) (o t : ℕ) (head : Head) (c s : Frame) (r : Parser) (past : List Said) → (head.size == 8) ≡ true
     → opened (server_spot o t) parts.Within inside.Walked head (run_at base c s r past) ≡ over (server_spot o t) (run_at base c (opened_frame s parts.Within inside.Walked head) r past)
 unfolding opened
 opened_empty base o t head c s r past none = rw none refl
@@ -76,22 +76,22 @@ abbrev answer_head : ℕ → ℕ → ℕ → Head
 answer_head status size id = record { kind = 4; status = status; size = size; id = id }
 
 -- the data of a packet, and its end
-pub record Read (base : Base) (o t : ℕ) (ends : Bool) (head : Head) (content : List ℕ) (c s : Frame) (r u : Reading) (past : List Said) (tokens : List Token) : Type 0 where
+pub record Read (base : Base) (o t : ℕ) (ends : Bool) (head : Head) (content : List ℕ) (c s : Frame) (r u : Parser) (past : List Said) (tokens : List Token) : Type 0 where
   pub frame : Frame
   pub behind : List Said
   pub follows : Follows (says_of tokens ++ ended_by ends u) past behind
   pub is : steps ToClient t content (opened (server_spot o t) parts.Within inside.Walked head (run_at base c s r past)) ≡ run_at base c (answer_frame ends frame) u behind
   pub kind : frame.kind ≡ 4
 
-reads : (cuts : Cuts) (base : Base) (o t : ℕ) (ends : Bool) (status id : ℕ) (content : List ℕ) (c s : Frame) (r u : Reading) (past : List Said) (all : Tokens)
+reads : (cuts : Cuts) (base : Base) (o t : ℕ) (ends : Bool) (status id : ℕ) (content : List ℕ) (c s : Frame) (r u : Parser) (past : List Said) (all : TokensHeard)
     → (status % 2 == 1) ≡ ends → tokens_in r content ≡ all → all.stop ≡ Stands u
     → Read base o t ends (answer_head status (8 + length content) id) content c s r u past all.tokens
 unfolding steps
 reads cuts base o t ends status id [] c s r u past all e is stop =
     let head = answer_head status 8 id in
     let there : Frame = opened_frame s parts.Within inside.Walked head in
-    let nothing : all.tokens ≡ [] = ap (λ (x : Tokens). x.tokens) (sym is ∙ none r) in
-    let stays : Stands r ≡ Stands u = ap (λ (x : Tokens). x.stop) (sym (none r) ∙ is) ∙ stop in
+    let nothing : all.tokens ≡ [] = ap (λ (x : TokensHeard). x.tokens) (sym is ∙ none r) in
+    let stays : Stands r ≡ Stands u = ap (λ (x : TokensHeard). x.stop) (sym (none r) ∙ is) ∙ stop in
     let same : r ≡ u = cc in
     let (behind, follows, ended) = over_answer base o t ends c there u past e refl in
     record {
@@ -99,7 +99,7 @@ reads cuts base o t ends status id [] c s r u past all e is stop =
       behind = behind;
       follows = subst (λ (xs : List Token). Follows (says_of xs ++ ended_by ends u) past behind) (sym nothing) follows;
       is =
-          ap (λ (x : Reading). opened (server_spot o t) parts.Within inside.Walked head (run_at base c s x past)) same
+          ap (λ (x : Parser). opened (server_spot o t) parts.Within inside.Walked head (run_at base c s x past)) same
           ∙ (opened_empty base o t head c s u past refl ∙ ended);
       kind = refl;
     }
@@ -159,7 +159,7 @@ answer_plain status size id most = rw (le-ltb size 8 most) refl
 abbrev pub IsNumbered : Frame → ℕ → Type 0
 IsNumbered s id = s.part ≡ parts.Lost → nat_lt id 2 ≡ true
 
-start_begins : (base : Base) (t status size spid id window : ℕ) (c s : Frame) (r : Reading) (past : List Said) → Start s → IsNumbered s id → Small status size spid id window → 8 ≤ size
+start_begins : (base : Base) (t status size spid id window : ℕ) (c s : Frame) (r : Parser) (past : List Said) → Start s → IsNumbered s id → Small status size spid id window → 8 ≤ size
     → headed (head_spot ToClient s.offset t) (answer_value status size spid id window) (run_at base c (headed_frame status size spid id s) r past)
     ≡ begins (head_spot ToClient s.offset t) (answer_head status size id) (run_at base c (headed_frame status size spid id s) r past)
 start_begins base t status size spid id window c s r past (Behind part) numbered small most =
@@ -170,14 +170,14 @@ start_begins base t status size spid id window c s r past (First part offset) nu
     (answer_spelled status size spid id window small) (answer_plain status size id most) part
     (ap (λ (o : ℕ). (seven o == 7) && nat_lt id 2) offset ∙ numbered part)
 
-pub record Told (base : Base) (t : ℕ) (ends : Bool) (bytes : List ℕ) (c s : Frame) (r u : Reading) (past : List Said) (said : List Event) : Type 0 where
+pub record Told (base : Base) (t : ℕ) (ends : Bool) (bytes : List ℕ) (c s : Frame) (r u : Parser) (past : List Said) (said : List Event) : Type 0 where
   pub frame : Frame
   pub behind : List Said
   pub follows : Follows said past behind
   pub is : steps ToClient t bytes (run_at base c s r past) ≡ run_at base c frame u behind
   pub so : BehindAnswer ends frame
 
-pub answer_begins : (cuts : Cuts) (base : Base) (t status spid id window : ℕ) (ends : Bool) (content : List ℕ) (c s : Frame) (j r u : Reading) (past : List Said) (all : Tokens)
+pub answer_begins : (cuts : Cuts) (base : Base) (t status spid id window : ℕ) (ends : Bool) (content : List ℕ) (c s : Frame) (j r u : Parser) (past : List Said) (all : TokensHeard)
     → Quiet s → IsNumbered s id → (c.kind == 18) ≡ false → Small status (8 + length content) spid id window → (status % 2 == 1) ≡ ends
     → restarted j ≡ r → tokens_in r content ≡ all → all.stop ≡ Stands u
     → Told base t ends (answer_bytes status (8 + length content) spid id window content) c s j u past
@@ -199,12 +199,12 @@ answer_begins cuts base t status spid id window ends content c s j r u past all 
           ∙ (ap (steps ToClient t content)
           (start_begins base t status (8 + length content) spid id window c s j past quiet.start numbered small (omega arith)
           ∙ (server_begins base c there j past spot.offset t head refl other
-          ∙ ap (λ (x : Reading). opened spot parts.Within inside.Walked head (run_at base c there x said)) anew))
+          ∙ ap (λ (x : Parser). opened spot parts.Within inside.Walked head (run_at base c there x said)) anew))
           ∙ data_read.is));
       so = behind_answer ends data_read.frame data_read.kind;
     }
 
-pub answer_goes_on : (cuts : Cuts) (base : Base) (t status spid id window : ℕ) (ends : Bool) (content : List ℕ) (c s : Frame) (r u : Reading) (past : List Said) (all : Tokens)
+pub answer_goes_on : (cuts : Cuts) (base : Base) (t status spid id window : ℕ) (ends : Bool) (content : List ℕ) (c s : Frame) (r u : Parser) (past : List Said) (all : TokensHeard)
     → Comes s → Small status (8 + length content) spid id window → (status % 2 == 1) ≡ ends → tokens_in r content ≡ all → all.stop ≡ Stands u
     → Told base t ends (answer_bytes status (8 + length content) spid id window content) c s r u past
     (events.Packet (8 + length content) false ∷ (says_of all.tokens ++ ended_by ends u))

@@ -8,7 +8,7 @@ use Rattle.tds_packet.specs.declared.kind.Kind.TheVariants as kinds
 use Rattle.tds_packet.specs.Layout.{kind_byte}
 use Rattle.tds_client.specs.declared.message.MessageKind.{MessageKind}
 use Rattle.tds_client.specs.declared.message.MessageKind.TheVariants.{Batch, Procedure, BulkLoad, Transaction}
-use Rattle.tds_client.specs.Packets.{attention, ignore, packet_bytes}
+use Rattle.tds_client.specs.Packets.{stop_bytes, ignore, packet_bytes}
 use Rattle.tds_client.specs.Streams.{packets_are}
 use Rattle.tds_request.specs.Layout.{all_headers}
 use Rattle.tds_judge.specs.declared.finding.Direction.TheVariants.{ToServer}
@@ -22,7 +22,7 @@ use Rattle.tds_judge.specs.declared.frame.Inside.TheVariants as inside
 use Rattle.tds_judge.specs.declared.frame.Part.TheVariants as parts
 use Rattle.tds_judge.specs.declared.talk.Event.{Event}
 use Rattle.tds_judge.specs.declared.talk.Event.TheVariants as events
-use Rattle.tds_wire.specs.Reading.{Reading}
+use Rattle.tds_wire.specs.Reading.{Parser}
 use Rattle.tds_judge.specs.Framing.{begins, headed, opened, opened_frame, over, steps}
 use Rattle.tds_judge.specs.PacketHeads.{event_of, head_of, inside_of, is_plausible, shifted}
 use Rattle.tds_judge.specs.Headers.{new_heading}
@@ -118,7 +118,7 @@ After true kind c = Rests c
 After false kind c = Amid kind c
 
 -- What bytes say, and where the direction is behind them.
-pub record Spoken (base : Base) (t : ℕ) (bytes : List ℕ) (c s : Frame) (r : Reading) (past : List Said) (said : List Event) (Then : Frame → Type 0) : Type 0 where
+pub record Spoken (base : Base) (t : ℕ) (bytes : List ℕ) (c s : Frame) (r : Parser) (past : List Said) (said : List Event) (Then : Frame → Type 0) : Type 0 where
   pub frame : Frame
   pub behind : List Said
   pub follows : Follows said past behind
@@ -131,7 +131,7 @@ abbrev behind_frame : Bool → Frame → Frame
 behind_frame true c = record c { due = due.Head 0 0; part = parts.Between }
 behind_frame false c = record c { due = due.Head 0 0; part = parts.Within }
 
-over_packet : (base : Base) (o t : ℕ) (last : Bool) (c s : Frame) (r : Reading) (past : List Said) → (c.status % 2 == 1) ≡ last → (c.status / 2 % 2 == 1) ≡ false → c.inside ≡ inside.Skipped
+over_packet : (base : Base) (o t : ℕ) (last : Bool) (c s : Frame) (r : Parser) (past : List Said) → (c.status % 2 == 1) ≡ last → (c.status / 2 % 2 == 1) ≡ false → c.inside ≡ inside.Skipped
     → over (client_spot o t) (run_at base (record c { part = parts.Within }) s r past) ≡ run_at base (behind_frame last c) s r past
 unfolding over
 over_packet base o t true c s r past ends plain passed = rw (ends, plain, passed) refl
@@ -139,12 +139,12 @@ over_packet base o t false c s r past ends plain passed = rw ends refl
 
 -- ---- A header
 
-opened_more : (base : Base) (o t : ℕ) (i : Inside) (head : Head) (c s : Frame) (r : Reading) (past : List Said) → (head.size == 8) ≡ false
+opened_more : (base : Base) (o t : ℕ) (i : Inside) (head : Head) (c s : Frame) (r : Parser) (past : List Said) → (head.size == 8) ≡ false
     → opened (client_spot o t) parts.Within i head (run_at base c s r past) ≡ run_at base (opened_frame c parts.Within i head) s r past
 unfolding opened
 opened_more base o t i head c s r past more = rw more refl
 
-opened_empty : (base : Base) (o t : ℕ) (i : Inside) (head : Head) (c s : Frame) (r : Reading) (past : List Said) → (head.size == 8) ≡ true
+opened_empty : (base : Base) (o t : ℕ) (i : Inside) (head : Head) (c s : Frame) (r : Parser) (past : List Said) → (head.size == 8) ≡ true
     → opened (client_spot o t) parts.Within i head (run_at base c s r past) ≡ over (client_spot o t) (run_at base (opened_frame c parts.Within i head) s r past)
 unfolding opened
 opened_empty base o t i head c s r past none = rw none refl
@@ -154,7 +154,7 @@ abbrev of_request : MessageKind → ℕ → List ℕ → ℕ → Head
 of_request kind status content before = head_for (packets_are kind) status (8 + length content) before
 
 -- its data, which nobody reads
-opened_skips : (base : Base) (o t : ℕ) (last : Bool) (kind : MessageKind) (status before : ℕ) (content : List ℕ) (c s : Frame) (r : Reading) (past : List Said)
+opened_skips : (base : Base) (o t : ℕ) (last : Bool) (kind : MessageKind) (status before : ℕ) (content : List ℕ) (c s : Frame) (r : Parser) (past : List Said)
     → (status % 2 == 1) ≡ last → (status / 2 % 2 == 1) ≡ false
     → (f : Frame) × (steps ToServer t content (opened (client_spot o t) parts.Within inside.Skipped (of_request kind status content before) (run_at base c s r past)) ≡ run_at base (behind_frame last f) s r past)
     × (f.kind ≡ kind_byte (packets_are kind)) × (f.inside ≡ inside.Skipped)
@@ -178,7 +178,7 @@ opened_skips base o t last kind status before (b ∷ bytes) c s r past ends plai
     )
 
 -- its data, which begin with ALL_HEADERS
-opened_names : (base : Base) (o t : ℕ) (last : Bool) (kind : MessageKind) (status before named : ℕ) (body : List ℕ) (c s : Frame) (r : Reading) (past : List Said)
+opened_names : (base : Base) (o t : ℕ) (last : Bool) (kind : MessageKind) (status before named : ℕ) (body : List ℕ) (c s : Frame) (r : Parser) (past : List Said)
     → (status % 2 == 1) ≡ last → (status / 2 % 2 == 1) ≡ false → named < 2 ^ 64
     → (f : Frame) × (spot : Spot)
     × (steps ToServer t (all_headers named ++ body) (opened (client_spot o t) parts.Within (inside.Prefix new_heading) (of_request kind status (all_headers named ++ body) before) (run_at base c s r past))
@@ -227,7 +227,7 @@ abbrev headed_frame : Kind → ℕ → ℕ → ℕ → Frame → Frame
 headed_frame kind status size before c =
     record c { due = due.Head 7 (spelled7 (kind_byte kind) status (size / 256) (size % 256) 0 0 ((before + 1) % 256)); offset = next (seven c.offset) }
 
-edge_begins : (base : Base) (t : ℕ) (kind : Kind) (status size : ℕ) (c s : Frame) (r : Reading) (past : List Said) → Edge c → status < 256 → size < 65536
+edge_begins : (base : Base) (t : ℕ) (kind : Kind) (status size : ℕ) (c s : Frame) (r : Parser) (past : List Said) → Edge c → status < 256 → size < 65536
     → is_plausible ToServer (head_for kind status size 0) ≡ true
     → headed (head_spot ToServer c.offset t) (value_of kind status size 0) (run_at base (headed_frame kind status size 0 c) s r past)
     ≡ begins (head_spot ToServer c.offset t) (head_for kind status size 0) (run_at base (headed_frame kind status size 0 c) s r past)
@@ -238,7 +238,7 @@ edge_begins base t kind status size c s r past (First part offset) small few pla
     first_begins (head_spot ToServer c.offset t) (value_of kind status size 0) (head_for kind status size 0) (run_at base (headed_frame kind status size 0 c) s r past)
     (packet_head kind status size 0 small few) plain part (ap (λ (o : ℕ). (seven o == 7) && nat_lt 1 2) offset)
 
-header_begins : (base : Base) (t : ℕ) (kind : Kind) (status : ℕ) (content : List ℕ) (c s : Frame) (r : Reading) (past : List Said) → Rests c → status < 256 → 8 + length content < 65536
+header_begins : (base : Base) (t : ℕ) (kind : Kind) (status : ℕ) (content : List ℕ) (c s : Frame) (r : Parser) (past : List Said) → Rests c → status < 256 → 8 + length content < 65536
     → is_plausible ToServer (head_for kind status (8 + length content) 0) ≡ true
     → steps ToServer t (packet_bytes kind status 0 content) (run_at base c s r past)
     ≡ steps ToServer t content (begins (head_spot ToServer c.offset t) (head_for kind status (8 + length content) 0)
@@ -248,7 +248,7 @@ header_begins base t kind status content c s r past rests small few plain =
     ∙ (client_head base t (kind_byte kind) status ((8 + length content) / 256) ((8 + length content) % 256) 0 0 1 0 content c s r past
     ∙ ap (steps ToServer t content) (edge_begins base t kind status (8 + length content) c s r past rests.edge small few plain))
 
-header_goes_on : (base : Base) (t : ℕ) (kind : MessageKind) (status before : ℕ) (content : List ℕ) (c s : Frame) (r : Reading) (past : List Said) → Amid kind c → status < 256 → 8 + length content < 65536
+header_goes_on : (base : Base) (t : ℕ) (kind : MessageKind) (status before : ℕ) (content : List ℕ) (c s : Frame) (r : Parser) (past : List Said) → Amid kind c → status < 256 → 8 + length content < 65536
     → steps ToServer t (packet_bytes (packets_are kind) status before content) (run_at base c s r past)
     ≡ steps ToServer t content (opened (head_spot ToServer c.offset t) parts.Within inside.Skipped (of_request kind status content before)
     (run_at base (headed_frame (packets_are kind) status (8 + length content) before c) s r
@@ -277,7 +277,7 @@ names_of Procedure named = events.Names named ∷ []
 names_of BulkLoad named = []
 names_of Transaction named = events.Names named ∷ []
 
-named_first : (base : Base) (t : ℕ) (last : Bool) (kind : MessageKind) (status named : ℕ) (body : List ℕ) (c s : Frame) (r : Reading) (past : List Said) → Rests c
+named_first : (base : Base) (t : ℕ) (last : Bool) (kind : MessageKind) (status named : ℕ) (body : List ℕ) (c s : Frame) (r : Parser) (past : List Said) → Rests c
     → status < 256 → 8 + length (all_headers named ++ body) < 65536 → (status % 2 == 1) ≡ last → (status / 2 % 2 == 1) ≡ false → named < 2 ^ 64 → inside_of (kind_byte (packets_are kind)) ≡ inside.Prefix new_heading
     → Spoken base t (packet_bytes (packets_are kind) status 0 (all_headers named ++ body)) c s r past
     (events.Packet (8 + length (all_headers named ++ body)) (fills (packets_are kind) status) ∷ events.Request status (bulk_of kind) ∷ events.Names named ∷ []) (After last kind)
@@ -301,7 +301,7 @@ named_first base t last kind status named body c s r past rests small few ends p
       so = after_frame last kind f kind_is inside_is;
     }
 
-bulk_first : (base : Base) (t : ℕ) (last : Bool) (status : ℕ) (content : List ℕ) (c s : Frame) (r : Reading) (past : List Said) → Rests c
+bulk_first : (base : Base) (t : ℕ) (last : Bool) (status : ℕ) (content : List ℕ) (c s : Frame) (r : Parser) (past : List Said) → Rests c
     → status < 256 → 8 + length content < 65536 → (status % 2 == 1) ≡ last → (status / 2 % 2 == 1) ≡ false
     → Spoken base t (packet_bytes (packets_are BulkLoad) status 0 content) c s r past (events.Packet (8 + length content) (fills (packets_are BulkLoad) status) ∷ events.Request status true ∷ []) (After last BulkLoad)
 bulk_first base t last status content c s r past rests small few ends plain =
@@ -321,7 +321,7 @@ bulk_first base t last status content c s r past rests small few ends plain =
       so = after_frame last BulkLoad f kind_is inside_is;
     }
 
-pub request_first : (base : Base) (t : ℕ) (last : Bool) (kind : MessageKind) (status named : ℕ) (body : List ℕ) (c s : Frame) (r : Reading) (past : List Said) → Rests c
+pub request_first : (base : Base) (t : ℕ) (last : Bool) (kind : MessageKind) (status named : ℕ) (body : List ℕ) (c s : Frame) (r : Parser) (past : List Said) → Rests c
     → status < 256 → 8 + length (headers_of kind named ++ body) < 65536 → (status % 2 == 1) ≡ last → (status / 2 % 2 == 1) ≡ false → named < 2 ^ 64
     → Spoken base t (packet_bytes (packets_are kind) status 0 (headers_of kind named ++ body)) c s r past
     (events.Packet (8 + length (headers_of kind named ++ body)) (fills (packets_are kind) status) ∷ events.Request status (bulk_of kind) ∷ names_of kind named) (After last kind)
@@ -330,7 +330,7 @@ request_first base t last Procedure status named body c s r past rests small few
 request_first base t last BulkLoad status named body c s r past rests small few ends plain ranged = bulk_first base t last status body c s r past rests small few ends plain
 request_first base t last Transaction status named body c s r past rests small few ends plain ranged = named_first base t last Transaction status named body c s r past rests small few ends plain ranged refl
 
-pub request_later : (base : Base) (t : ℕ) (last : Bool) (kind : MessageKind) (status before : ℕ) (content : List ℕ) (c s : Frame) (r : Reading) (past : List Said) → Amid kind c
+pub request_later : (base : Base) (t : ℕ) (last : Bool) (kind : MessageKind) (status before : ℕ) (content : List ℕ) (c s : Frame) (r : Parser) (past : List Said) → Amid kind c
     → status < 256 → 8 + length content < 65536 → (status % 2 == 1) ≡ last → (status / 2 % 2 == 1) ≡ false
     → Spoken base t (packet_bytes (packets_are kind) status before content) c s r past (events.Packet (8 + length content) (fills (packets_are kind) status) ∷ events.Later status ∷ []) (After last kind)
 request_later base t last kind status before content c s r past amid small few ends plain =
@@ -346,13 +346,13 @@ request_later base t last kind status before content c s r past amid small few e
       so = after_frame last kind f kind_is inside_is;
     }
 
-over_ignored : (base : Base) (o t : ℕ) (c s : Frame) (r : Reading) (past : List Said)
+over_ignored : (base : Base) (o t : ℕ) (c s : Frame) (r : Parser) (past : List Said)
     → over (client_spot o t) (run_at base (record c { part = parts.Within; status = 3 }) s r past)
     ≡ run_at base (record c { due = due.Head 0 0; part = parts.Between; status = 3 }) s r (says (client_spot o t) events.Ignored past)
 unfolding over further found_in
 over_ignored base o t c s r past = refl
 
-pub request_ignored : (base : Base) (t : ℕ) (kind : MessageKind) (before : ℕ) (c s : Frame) (r : Reading) (past : List Said) → Amid kind c
+pub request_ignored : (base : Base) (t : ℕ) (kind : MessageKind) (before : ℕ) (c s : Frame) (r : Parser) (past : List Said) → Amid kind c
     → Spoken base t (ignore (packets_are kind) before) c s r past (events.Packet 8 false ∷ events.Later 3 ∷ events.Ignored ∷ []) Rests
 unfolding steps
 request_ignored base t kind before c s r past amid =
@@ -371,8 +371,8 @@ request_ignored base t kind before c s r past amid =
       so = record { due = refl; edge = Behind refl; kind = request_kind kind };
     }
 
-pub attention_out : (base : Base) (t : ℕ) (c s : Frame) (r : Reading) (past : List Said) → Rests c
-    → Spoken base t attention c s r past (events.Packet 8 false ∷ events.Attention 8 1 ∷ []) Rests
+pub attention_out : (base : Base) (t : ℕ) (c s : Frame) (r : Parser) (past : List Said) → Rests c
+    → Spoken base t stop_bytes c s r past (events.Packet 8 false ∷ events.Attention 8 1 ∷ []) Rests
 unfolding steps
 attention_out base t c s r past rests =
     let head = head_for kinds.Attention 1 8 0 in

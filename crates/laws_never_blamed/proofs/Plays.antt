@@ -16,7 +16,7 @@ use Rattle.tds_client.specs.Packets.{packet_bytes}
 use Rattle.tds_client.specs.Streams.{full_packets, ended_by, left_behind, packets_are, packets_of}
 use Rattle.tds_wire.specs.declared.told.Token.{Token}
 use Rattle.tds_service.specs.Line as line
-use Rattle.tds_service.specs.Line.{Act, Line, Packet, OfRequest, mark_on, not_begun, turn}
+use Rattle.tds_service.specs.Line.{Act, Line, Packet, OfRequest, mark_on, not_begun, line_turn}
 use Rattle.tds_service.specs.History.{Done, done_by, history, line_after}
 use Rattle.tds_service.specs.Refusing.{packets}
 use Rattle.tds_service.specs.Ties.{begun_of}
@@ -40,11 +40,11 @@ seen_both (x ∷ xs) ys run = seen_both xs ys (piece_seen (piece_by x.done.act x
 
 after_both : (l : Line) (xs ys : List (Act Token)) → line_after l (xs ++ ys) ≡ line_after (line_after l xs) ys
 after_both l [] ys = refl
-after_both l (x ∷ xs) ys = after_both (turn l x).line xs ys
+after_both l (x ∷ xs) ys = after_both (line_turn l x).line xs ys
 
 pub history_both : (l : Line) (xs ys : List (Act Token)) → history l (xs ++ ys) ≡ history l xs ++ history (line_after l xs) ys
 history_both l [] ys = refl
-history_both l (x ∷ xs) ys = ap (λ (ds : List (Done Token)). done_by x (turn l x) ∷ ds) (history_both (turn l x).line xs ys)
+history_both l (x ∷ xs) ys = ap (λ (ds : List (Done Token)). done_by x (line_turn l x) ∷ ds) (history_both (line_turn l x).line xs ys)
 
 -- ---- Acts that are played from one place on the wire to another, with a piece that is handed to a judge
 
@@ -55,11 +55,11 @@ pub record Plays (l : Line) (w : Watch) (wire : Wire) (acts : List (Act Token)) 
   pub spelled : (xs : List Shown) → AreShown v behind xs → AreShown w wire (shown ++ xs)
   pub handed : (run : Run) → seen (pieces shown) run ≡ piece_seen piece run
 
-pub one : (l : Line) (w : Watch) (wire : Wire) (act : Act Token) (t : ℕ) (bytes : List ℕ) (behind : Wire) → IsShown w.named wire (done_by act (turn l act)) bytes act behind
-    → Plays l w wire (act ∷ []) (piece_by act t bytes) (turn l act).line (watch_by (done_by act (turn l act)) w) behind
+pub one : (l : Line) (w : Watch) (wire : Wire) (act : Act Token) (t : ℕ) (bytes : List ℕ) (behind : Wire) → IsShown w.named wire (done_by act (line_turn l act)) bytes act behind
+    → Plays l w wire (act ∷ []) (piece_by act t bytes) (line_turn l act).line (watch_by (done_by act (line_turn l act)) w) behind
 unfolding seen
 one l w wire act t bytes behind is = record {
-  shown = (record { done = done_by act (turn l act); time = t; bytes = bytes }) ∷ [];
+  shown = (record { done = done_by act (line_turn l act); time = t; bytes = bytes }) ∷ [];
   done = refl;
   line_is = refl;
   spelled = λ xs rest. (behind, is, rest);

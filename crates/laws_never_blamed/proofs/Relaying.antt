@@ -9,18 +9,18 @@ use Rattle.tds_front.specs.declared.fault.FrontFault.{FrontFault}
 use Rattle.tds_front.specs.declared.front.Front.{Front}
 use Rattle.tds_front.specs.declared.stage.Stage.{Stage}
 use Rattle.tds_front.specs.declared.stage.Stage.TheVariants as stages
-use Rattle.tds_front.specs.Passing.{Event as Passed}
+use Rattle.tds_front.specs.Passing.{FrontEvent}
 use Rattle.tds_front.specs.Rules as rules
-use Rattle.tds_front.specs.Serving.{Place}
+use Rattle.tds_front.specs.Serving.{ServerIsAt}
 use Rattle.tds_service.specs.Line.{Packet}
 use Rattle.tds_service.specs.Parts.{Part}
 use Rattle.tds_service.specs.Service.{on, steps}
 use Rattle.tds_relay.specs.Behind.{StaysIn, events_along, passes}
 use Rattle.tds_relay.specs.Pool as pool
 use Rattle.tds_relay.specs.Pool.{Pool, Event, Sharing, Way, pool_after, new_pool, turn, whose}
-use Rattle.tds_relay.specs.Giving.{StaysAll, StaysBy, Visit, done_in, machine_in, moves_in}
+use Rattle.tds_relay.specs.Giving.{StaysAll, StaysBy, Visit, done_in, machine_at_visit, moves_in}
 use Rattle.tds_relay.specs.Core as core
-use Rattle.tds_relay.specs.Core.{End, Open, Over, Enters, Core, IsQuiet, Move, closes, done_by, end_at, events_of, goes_on, holder, lets_go, moved, moved_all, new_core, sent_by, told, what_in}
+use Rattle.tds_relay.specs.Core.{End, Open, Over, Enters, Core, IsQuiet, Move, closes, dones_of_part, end_at, events_of, end_goes_on, holder, lets_go, moved, moved_all, new_core, sent_by, end_told, what_in}
 use Rattle.tds_relay.specs.Machine.{Machine, IsHanded, Manner, MayAll, MayStep, Step, Makes, Hands, Takes, Writes, Admits, Removes, Withheld, after, after_all, end_whose, is_said, moves_of, new_machine}
 use Rattle.tds_relay.specs.Pool.{owes_reset}
 use Rattle.tds_relay.proofs.ends.Ending.{end_behind_is, end_by, whose_by}
@@ -41,7 +41,7 @@ use Rattle.laws_never_blamed.proofs.Coming.{Plain, hands_seen, plain_front, plai
 abbrev Keeps : (End → End) → Type 0
 Keeps by = (end : End) (begun : Bool) (past : List Said) → AtEnd (Some end) begun past → AtEnd (Some (by end)) begun past
 
-went_at : (stage : Stage) (asks : Option Reset) (begun : Bool) (past : List Said) → AtStage stage asks begun past → AtStage (rules.went_on stage) asks begun past
+went_at : (stage : Stage) (asks : Option Reset) (begun : Bool) (past : List Said) → AtStage stage asks begun past → AtStage (rules.request_went_on stage) asks begun past
 went_at stages.Quiet asks begun past at = at
 went_at (stages.Receiving kind gone) asks begun past at = at
 went_at (stages.Underway false) asks begun past at = begun_waits asks begun past at.0 at.1
@@ -49,7 +49,7 @@ went_at (stages.Underway true) asks begun past at = at
 went_at stages.Stopping asks begun past at = at
 went_at (stages.Broken fault) asks begun past at = tt
 
-goes_keeps : (packets : List Packet) → Keeps (goes_on packets)
+goes_keeps : (packets : List Packet) → Keeps (end_goes_on packets)
 goes_keeps [] end begun past at = at
 goes_keeps (packet ∷ packets) (Open front withdrawn asks) begun past at = went_at front.stage asks begun past at
 goes_keeps (packet ∷ packets) (Over why) begun past at = tt
@@ -77,7 +77,7 @@ whose_keeps by keeps key (Some other) o begun past at = if_keeps by keeps (other
 quiet_at : (key : ℕ) (h : Core) (move : Move) → IsQuiet move → (o : Option End) (begun : Bool) (past : List Said) → AtEnd o begun past → AtEnd (end_by key h move o) begun past
 quiet_at key h (core.Does event) quiet o begun past at = at
 quiet_at key h (core.Sends k action) quiet o begun past at =
-    if_keeps (goes_on (sent_by h.pool (pool.Does k action))) (goes_keeps (sent_by h.pool (pool.Does k action))) (k == key) o begun past at
+    if_keeps (end_goes_on (sent_by h.pool (pool.Does k action))) (goes_keeps (sent_by h.pool (pool.Does k action))) (k == key) o begun past at
 quiet_at key h (core.LetsGo k parks gives way) quiet o begun past at = if_keeps lets_go lets_keeps (k == key) o begun past at
 quiet_at key h (core.Loses number) quiet o begun past at = whose_keeps closes closes_keeps key (holder h.pool number) o begun past at
 quiet_at key h (core.Replaces number) quiet o begun past at = whose_keeps lets_go lets_keeps key (holder h.pool number) o begun past at
@@ -196,7 +196,7 @@ module _ (s : Side) (sharing : Sharing) (key : ℕ) (alone : Alone) (by : ByHist
   over_step : (why : Option FrontFault) (h : Machine) (step : Step) (x : Sight) → MayStep h step → end_at h.core.ends key ≡ Some (Over why) → Fine x.past → Fine (sees_step s key h step x).past
   over_step why h (Makes move) x may e f = f
   over_step why h (Hands number header content part way manner) x may e f =
-      over_whose why h (what_in (done_by h.core.pool number part)) part manner x (whose h.core.pool number) may.handed_on e f
+      over_whose why h (what_in (dones_of_part h.core.pool number part)) part manner x (whose h.core.pool number) may.handed_on e f
   over_step why h (Takes other bytes) x may e f =
       over_if (other == key) x (record { begun = x.begun; past = sees_bytes s bytes (end_at h.core.ends key) x.past }) f (over_bytes why bytes (end_at h.core.ends key) x.past e f)
   over_step why h (Writes other count) x may e f = f
@@ -223,7 +223,7 @@ module _ (s : Side) (sharing : Sharing) (key : ℕ) (alone : Alone) (by : ByHist
   -- ---- Along steps
 
   -- behind a move
-  next : (events : List Event) (h2 : Machine) (stage : Stage) (p : Place) (es : List Passed) (steps : List Step) (x : Sight) → MayAll h2 steps → StaysAll key steps
+  next : (events : List Event) (h2 : Machine) (stage : Stage) (p : ServerIsAt) (es : List FrontEvent) (steps : List Step) (x : Sight) → MayAll h2 steps → StaysAll key steps
       → NowEnd (end_at h2.core.ends key) x.begun x.past → ((front : Front) (w : Bool) → Stands sharing key events h2.core front w → Fine (sees_steps s key h2 steps x).past)
       → Then sharing key events h2.core stage p es → Fine (sees_steps s key h2 steps x).past
   next events h2 stage p es steps x may stays now rest (Goes front w stands leads) = rest front w stands
@@ -298,7 +298,7 @@ module _ (s : Side) (sharing : Sharing) (key : ℕ) (alone : Alone) (by : ByHist
       let events : List Event = events_along (new_core sharing) before ++ [] in
       let entered : Entered sharing key events (moved (moved_all (new_core sharing) before) (Enters key v.ends)) =
       enters sharing key alone by judges before v.ends (may_moves (new_machine sharing) v.before c.may_before) (subst (λ (x : Core). core.HasEntered key x.ends v.ends) is c.may_come.0) in
-      let came_is : moved (moved_all (new_core sharing) before) (Enters key v.ends) ≡ (machine_in v).core =
+      let came_is : moved (moved_all (new_core sharing) before) (Enters key v.ends) ≡ (machine_at_visit v).core =
       ap (λ (x : Core). moved x (Enters key v.ends)) (sym is) ∙ ap (λ (x : Machine). x.core) (sym c.machine_is) in
-      let done : done_in v ≡ events ++ events_along (machine_in v).core (moves_in v.since) = visited v (machine_in v).core came_is in
-      (start events (machine_in v) v.since (subst (Entered sharing key events) came_is entered) c.may_since v.stays (subst (Plain sharing) done plain)).lawful supposed
+      let done : done_in v ≡ events ++ events_along (machine_at_visit v).core (moves_in v.since) = visited v (machine_at_visit v).core came_is in
+      (start events (machine_at_visit v) v.since (subst (Entered sharing key events) came_is entered) c.may_since v.stays (subst (Plain sharing) done plain)).lawful supposed

@@ -13,16 +13,16 @@ use Rattle.tds_packet.specs.Sent.{end_bit}
 use Rattle.tds_packet.specs.Stream as stream
 use Rattle.tds_client.specs.declared.message.MessageKind.{MessageKind}
 use Rattle.tds_client.specs.declared.message.MessageKind.TheVariants.{Batch, Procedure, BulkLoad, Transaction}
-use Rattle.tds_client.specs.Packets.{attention, packet_bytes}
+use Rattle.tds_client.specs.Packets.{stop_bytes, packet_bytes}
 use Rattle.tds_client.specs.Streams.{has_headers, packets_are}
 use Rattle.tds_wire.specs.declared.told.Token.{Token}
-use Rattle.tds_wire.specs.Reading.{Reading, is_between, restarted}
-use Rattle.tds_listen.specs.Hearing.{Stands, Stop, Tokens, tokens_in}
+use Rattle.tds_wire.specs.Reading.{Parser, is_between, restarted}
+use Rattle.tds_listen.specs.Hearing.{Stands, Stop, TokensHeard, tokens_in}
 use Rattle.tds_service.specs.Parts.{Ends, Cut, Part, is_end}
 use Rattle.tds_service.specs.Packets.{behind_packet, close_from, items_from}
 use Rattle.tds_service.specs.Line as line
 use Rattle.laws_conforming_server.specs.Answering.{IsNoFault}
-use Rattle.tds_service.specs.Line.{Packet, OfRequest, Ignore, Attention, Stage, Idle, Sending, Reading as Awaiting, Cancelling, Broken}
+use Rattle.tds_service.specs.Line.{Packet, OfRequest, Ignore, Attention, LineStage, Idle, Sending, Reading as Awaiting, Cancelling, Broken}
 use Rattle.tds_judge.specs.declared.finding.Direction.TheVariants.{ToServer, ToClient}
 use Rattle.tds_judge.specs.declared.frame.Frame.{Frame}
 use Rattle.tds_judge.specs.declared.frame.Part.TheVariants as parts
@@ -42,7 +42,7 @@ use Rattle.laws_never_blamed.proofs.In.{BehindAnswer, Comes, Quiet, Small, Told,
 
 -- ---- Where both directions are
 
-abbrev pub OutAt : Stage → Pen → Frame → Type 0
+abbrev pub OutAt : LineStage → Pen → Frame → Type 0
 OutAt Idle pen c = Rests c
 OutAt (Sending false) pen c = Rests c
 OutAt (Sending true) pen c = Amid pen.kind c
@@ -51,20 +51,20 @@ OutAt Cancelling pen c = Rests c
 OutAt (Broken fault) pen c = ⊥
 
 -- by whether a message comes that has begun, and whether nothing came yet; the judge's parser, and the client's
-abbrev pub InAt : Bool → Bool → Frame → Reading → Reading → Type 0
+abbrev pub InAt : Bool → Bool → Frame → Parser → Parser → Type 0
 InAt true first s j r = Comes s × (j ≡ r)
 InAt false first s j r = Quiet s × (first ≡ false → s.part ≡ parts.Between) × (restarted j ≡ r)
 
-pub record State (base : Base) (stage : Stage) (begun : Bool) (wire : Wire) (run : Run) (past : List Said) : Type 0 where
+pub record State (base : Base) (stage : LineStage) (begun : Bool) (wire : Wire) (run : Run) (past : List Said) : Type 0 where
   pub client : Frame
   pub server : Frame
-  pub parser : Reading
+  pub parser : Parser
   pub run_is : run ≡ run_at base client server parser past
   pub out : OutAt stage wire.pen client
   pub into : InAt begun wire.is_first server parser wire.reading
 
 -- what is seen by some eye, and where the judge is then
-pub record GoesOn (base : Base) (stage : Stage) (begun : Bool) (wire : Wire) (run : Run) (seen : Eye → List Said) : Type 0 where
+pub record GoesOn (base : Base) (stage : LineStage) (begun : Bool) (wire : Wire) (run : Run) (seen : Eye → List Said) : Type 0 where
   pub eye : Eye
   pub state : State base stage begun wire run (seen eye)
 
@@ -188,7 +188,7 @@ stops_reading base t named begun wire behind bytes run past state out same first
         parser = state.parser;
         run_is =
             ap (λ (xs : List ℕ). steps ToServer t xs run) bytes_are
-            ∙ (ap (steps ToServer t attention) state.run_is
+            ∙ (ap (steps ToServer t stop_bytes) state.run_is
             ∙ (spoken.is ∙ ap (run_at base spoken.frame state.server state.parser) (sym (seen_so spoken.behind 8 false false (events.Packet 8 false ∷ events.Attention 8 1 ∷ []) past spoken.follows))));
         out = spoken.so;
         into = subst (λ (b : Bool). InAt begun b state.server state.parser behind.reading) (sym first) (subst (InAt begun wire.is_first state.server state.parser) (sym same) state.into);
@@ -239,7 +239,7 @@ end_seen : (eye : Eye) (past : List Said) (whole : Bool) → sees eye past (even
 end_seen eye past true = refl
 end_seen eye past false = refl
 
-close_seen : (eye : Eye) (past : List Said) (ends : Bool) (u : Reading) → sees_all eye past (ended_by ends u) ≡ sees_close eye past (close_from ends (Stands u))
+close_seen : (eye : Eye) (past : List Said) (ends : Bool) (u : Parser) → sees_all eye past (ended_by ends u) ≡ sees_close eye past (close_from ends (Stands u))
 close_seen eye past true u = end_seen eye past (is_between u)
 close_seen eye past false u = refl
 
@@ -248,7 +248,7 @@ begins_by true = []
 begins_by false = events.Answer ∷ []
 
 -- what an eye sees of a packet of an answer
-seen_come : (behind : List Said) (size : ℕ) (begun ends : Bool) (tokens : List Token) (u : Reading) (past : List Said) (part : Part Token)
+seen_come : (behind : List Said) (size : ℕ) (begun ends : Bool) (tokens : List Token) (u : Parser) (past : List Said) (part : Part Token)
     → part ≡ record { items = items_from tokens; close = close_from ends (Stands u) }
     → sees_all (eye_at behind size false false) (sees_begin (eye_at behind size false false) begun (sees_packet (eye_at behind size false false) past)) (says_of tokens ++ ended_by ends u)
     ≡ sees_come (eye_at behind size false false) begun past part
@@ -298,13 +298,13 @@ spelled_so h content directed counted =
     ap (λ (k : ℕ). k ∷ bits_of h.status ∷ h.length / 256 ∷ h.length % 256 ∷ h.spid / 256 ∷ h.spid % 256 ∷ h.packet_id ∷ h.window ∷ content) (kind_is h.kind directed)
     ∙ ap (λ (n : ℕ). answer_bytes (bits_of h.status) n h.spid h.packet_id h.window content) counted
 
-told_by : (cuts : Cuts) (base : Base) (t st size spid id window : ℕ) (begun first ends : Bool) (content : List ℕ) (c s : Frame) (j r u : Reading) (past : List Said) (all : Tokens)
+told_by : (cuts : Cuts) (base : Base) (t st size spid id window : ℕ) (begun first ends : Bool) (content : List ℕ) (c s : Frame) (j r u : Parser) (past : List Said) (all : TokensHeard)
     → InAt begun first s j r → (first ≡ true → id < 2) → (c.kind == 18) ≡ false → Small st (8 + length content) spid id window → (st % 2 == 1) ≡ ends
     → tokens_in r content ≡ all → all.stop ≡ Stands u
     → Told base t ends (answer_bytes st (8 + length content) spid id window content) c s j u past
     (events.Packet (8 + length content) false ∷ (begins_by begun ++ (says_of all.tokens ++ ended_by ends u)))
 told_by cuts base t st size spid id window true first ends content c s j r u past all into numbered other small e is stop =
-    answer_goes_on cuts base t st spid id window ends content c s j u past all into.0 small e (ap (λ (x : Reading). tokens_in x content) into.1 ∙ is) stop
+    answer_goes_on cuts base t st spid id window ends content c s j u past all into.0 small e (ap (λ (x : Parser). tokens_in x content) into.1 ∙ is) stop
 told_by cuts base t st size spid id window false true ends content c s j r u past all into numbered other small e is stop =
     answer_begins cuts base t st spid id window ends content c s j r u past all into.0 (λ lost. lt-ltb id 2 (numbered refl)) other small e into.2 is stop
 told_by cuts base t st size spid id window false false ends content c s j r u past all into numbered other small e is stop =
@@ -320,15 +320,15 @@ whole_end : (b : Bool) → is_end (if b then Ends else Cut) ≡ true
 whole_end true = refl
 whole_end false = refl
 
-end_is : (ends : Bool) (u : Reading) → is_end (close_from ends (Stands u)) ≡ ends
+end_is : (ends : Bool) (u : Parser) → is_end (close_from ends (Stands u)) ≡ ends
 end_is false u = refl
 end_is true u = whole_end (is_between u)
 
-into_behind : (ends first : Bool) (s : Frame) (u r : Reading) → BehindAnswer ends s → r ≡ behind_packet ends u → InAt (if ends then false else true) first s u r
+into_behind : (ends first : Bool) (s : Frame) (u r : Parser) → BehindAnswer ends s → r ≡ behind_packet ends u → InAt (if ends then false else true) first s u r
 into_behind true first s u r so is = (so.0, (λ none. so.1), sym is)
 into_behind false first s u r so is = (so, sym is)
 
-pub comes : (cuts : Cuts) (base : Base) (t : ℕ) (begun : Bool) (wire behind : Wire) (bytes : List ℕ) (run : Run) (past : List Said) (stage after : Stage) (part : Part Token) (answer : line.Answer)
+pub comes : (cuts : Cuts) (base : Base) (t : ℕ) (begun : Bool) (wire behind : Wire) (bytes : List ℕ) (run : Run) (past : List Said) (stage after : LineStage) (part : Part Token) (answer : line.Answer)
     (state : State base stage begun wire run past) → Rests state.client → OutAt after behind.pen state.client
     → IsIn wire.reading wire.is_first part answer bytes behind.reading → IsNoFault answer
     → GoesOn base after (if is_end part.close then false else true) behind (steps ToClient t bytes run) (λ eye. sees_come eye begun past part)
@@ -338,7 +338,7 @@ comes cuts base t begun wire behind bytes run past stage after part answer state
     let ends : Bool = has_bit st 1 in
     let size : ℕ = 8 + length i.content in
     let laid = i.packet.laid_out in
-    let all : Tokens = tokens_in wire.reading i.content in
+    let all : TokensHeard = tokens_in wire.reading i.content in
     let bytes_are : bytes ≡ answer_bytes st size h.spid h.packet_id h.window i.content = laid.spelled ∙ spelled_so h i.content laid.directed laid.counted in
     let small : Small st size h.spid h.packet_id h.window = fields_small st size h.spid h.packet_id h.window i.content (subst stream.AreBytes bytes_are i.are_bytes) in
     let bits = status_of_answer st laid.status in

@@ -7,10 +7,10 @@ use Rattle.tds_client.specs.declared.heard.FinalDone.{FinalDone}
 use Rattle.tds_client.specs.declared.heard.FinalDone.TheVariants.{Awaited, Answered, Acknowledged}
 use Rattle.tds_listen.specs.declared.fault.ListenFault.{ListenFault}
 use Rattle.tds_wire.specs.declared.told.Token.{Token}
-use Rattle.tds_wire.specs.Reading.{Reading}
+use Rattle.tds_wire.specs.Reading.{Parser}
 use Rattle.tds_service.specs.Parts.{Part, hear_part, heard_until, is_end}
 use Rattle.tds_service.specs.Line as line
-use Rattle.tds_service.specs.Line.{Act, Answer, Line, Packet, Stage, Idle, Sending, Reading as Awaiting, Cancelling, Broken, turn}
+use Rattle.tds_service.specs.Line.{Act, Answer, Line, Packet, LineStage, Idle, Sending, Reading as Awaiting, Cancelling, Broken, line_turn}
 use Rattle.tds_service.specs.History.{Done, done_by, history}
 use Rattle.laws_conforming_server.specs.Answering.{IsNoFault, NoFault, UnlessLost}
 use Rattle.tds_judge.specs.declared.finding.Direction.TheVariants.{ToServer, ToClient}
@@ -32,9 +32,9 @@ use Rattle.laws_never_blamed.proofs.Shows.{GoesOn, OutAt, State, comes, sends_fi
 -- ---- What shows nothing
 
 same_wire : (wire behind : Wire) → behind.pen ≡ wire.pen → behind.reading ≡ wire.reading → behind.is_first ≡ wire.is_first → wire ≡ behind
-same_wire wire behind pen reading first = sym (ap (λ (p : Pen). record behind { pen = p }) pen ∙ (ap (λ (r : Reading). record wire { reading = r; is_first = behind.is_first }) reading ∙ ap (λ (b : Bool). record wire { is_first = b }) first))
+same_wire wire behind pen reading first = sym (ap (λ (p : Pen). record behind { pen = p }) pen ∙ (ap (λ (r : Parser). record wire { reading = r; is_first = behind.is_first }) reading ∙ ap (λ (b : Bool). record wire { is_first = b }) first))
 
-keeps : (base : Base) (t named : ℕ) (stage after : Stage) (begun : Bool) (wire behind : Wire) (bytes : List ℕ) (run : Run) (past : List Said)
+keeps : (base : Base) (t named : ℕ) (stage after : LineStage) (begun : Bool) (wire behind : Wire) (bytes : List ℕ) (run : Run) (past : List Said)
     → State base stage begun wire run past → ((c : Frame) → OutAt stage wire.pen c → OutAt after wire.pen c)
     → AreOut named wire.pen [] bytes behind.pen → behind.reading ≡ wire.reading → behind.is_first ≡ wire.is_first
     → GoesOn base after begun behind (steps ToServer t bytes run) (λ eye. past)
@@ -59,13 +59,13 @@ abbrev NotLose : Act Token → Type 0
 NotLose line.Lose = ⊥
 NotLose _ = Unit {0}
 
-abbrev Shows : Base → ℕ → Stage → Heard → Watch → Wire → Act Token → ℕ → List ℕ → Wire → Run → List Said → Type 0
+abbrev Shows : Base → ℕ → LineStage → Heard → Watch → Wire → Act Token → ℕ → List ℕ → Wire → Run → List Said → Type 0
 Shows base n stage h w wire act t bytes behind run past =
-    GoesOn base (turn (line_at n stage h) act).line.stage (watch_by (done_by act (turn (line_at n stage h) act)) w).begun behind (piece_seen (piece_by act t bytes) run)
-    (λ eye. sees_done eye w past (done_by act (turn (line_at n stage h) act)))
+    GoesOn base (line_turn (line_at n stage h) act).line.stage (watch_by (done_by act (line_turn (line_at n stage h) act)) w).begun behind (piece_seen (piece_by act t bytes) run)
+    (λ eye. sees_done eye w past (done_by act (line_turn (line_at n stage h) act)))
 
-mark_shows : (base : Base) (n : ℕ) (stage : Stage) (h : Heard) (w : Watch) (wire : Wire) (reset : Reset) (t : ℕ) (bytes : List ℕ) (behind : Wire) (run : Run) (past : List Said)
-    → State base stage w.begun wire run past → IsShown w.named wire (done_by (line.Mark reset) (turn (line_at n stage h) (line.Mark reset))) bytes (line.Mark reset) behind
+mark_shows : (base : Base) (n : ℕ) (stage : LineStage) (h : Heard) (w : Watch) (wire : Wire) (reset : Reset) (t : ℕ) (bytes : List ℕ) (behind : Wire) (run : Run) (past : List Said)
+    → State base stage w.begun wire run past → IsShown w.named wire (done_by (line.Mark reset) (line_turn (line_at n stage h) (line.Mark reset))) bytes (line.Mark reset) behind
     → Shows base n stage h w wire (line.Mark reset) t bytes behind run past
 mark_shows base n Idle h w wire reset t bytes behind run past state shown = keeps base t w.named Idle Idle w.begun wire behind bytes run past state (λ c out. out) shown.0 shown.1 shown.2
 mark_shows base n (Sending begun) h w wire reset t bytes behind run past state shown = keeps base t w.named (Sending begun) (Sending begun) w.begun wire behind bytes run past state (λ c out. out) shown.0 shown.1 shown.2
@@ -73,16 +73,16 @@ mark_shows base n Awaiting h w wire reset t bytes behind run past state shown = 
 mark_shows base n Cancelling h w wire reset t bytes behind run past state shown = keeps base t w.named Cancelling Cancelling w.begun wire behind bytes run past state (λ c out. out) shown.0 shown.1 shown.2
 mark_shows base n (Broken fault) h w wire reset t bytes behind run past state shown = absurd state.out
 
-ask_shows : (base : Base) (n : ℕ) (stage : Stage) (h : Heard) (w : Watch) (wire : Wire) (t : ℕ) (bytes : List ℕ) (behind : Wire) (run : Run) (past : List Said)
-    → State base stage w.begun wire run past → IsShown w.named wire (done_by line.Ask (turn (line_at n stage h) line.Ask)) bytes line.Ask behind → Shows base n stage h w wire line.Ask t bytes behind run past
+ask_shows : (base : Base) (n : ℕ) (stage : LineStage) (h : Heard) (w : Watch) (wire : Wire) (t : ℕ) (bytes : List ℕ) (behind : Wire) (run : Run) (past : List Said)
+    → State base stage w.begun wire run past → IsShown w.named wire (done_by line.Ask (line_turn (line_at n stage h) line.Ask)) bytes line.Ask behind → Shows base n stage h w wire line.Ask t bytes behind run past
 ask_shows base n Idle h w wire t bytes behind run past state shown = keeps base t w.named Idle (Sending false) w.begun wire behind bytes run past state (λ c out. out) shown.0 shown.1 shown.2
 ask_shows base n (Sending begun) h w wire t bytes behind run past state shown = keeps base t w.named (Sending begun) (Sending begun) w.begun wire behind bytes run past state (λ c out. out) shown.0 shown.1 shown.2
 ask_shows base n Awaiting h w wire t bytes behind run past state shown = keeps base t w.named Awaiting Awaiting w.begun wire behind bytes run past state (λ c out. out) shown.0 shown.1 shown.2
 ask_shows base n Cancelling h w wire t bytes behind run past state shown = keeps base t w.named Cancelling Cancelling w.begun wire behind bytes run past state (λ c out. out) shown.0 shown.1 shown.2
 ask_shows base n (Broken fault) h w wire t bytes behind run past state shown = absurd state.out
 
-send_shows : (base : Base) (n : ℕ) (stage : Stage) (h : Heard) (w : Watch) (wire : Wire) (last : Bool) (t : ℕ) (bytes : List ℕ) (behind : Wire) (run : Run) (past : List Said)
-    → State base stage w.begun wire run past → IsShown w.named wire (done_by (line.Send last) (turn (line_at n stage h) (line.Send last))) bytes (line.Send last) behind
+send_shows : (base : Base) (n : ℕ) (stage : LineStage) (h : Heard) (w : Watch) (wire : Wire) (last : Bool) (t : ℕ) (bytes : List ℕ) (behind : Wire) (run : Run) (past : List Said)
+    → State base stage w.begun wire run past → IsShown w.named wire (done_by (line.Send last) (line_turn (line_at n stage h) (line.Send last))) bytes (line.Send last) behind
     → Shows base n stage h w wire (line.Send last) t bytes behind run past
 send_shows base n Idle h w wire last t bytes behind run past state shown = keeps base t w.named Idle Idle w.begun wire behind bytes run past state (λ c out. out) shown.0 shown.1 shown.2
 send_shows base n (Sending false) h w wire last t bytes behind run past state shown = sends_first base t n w.named h.mark last w.begun wire behind bytes run past state shown.0 shown.1 shown.2
@@ -91,8 +91,8 @@ send_shows base n Awaiting h w wire last t bytes behind run past state shown = k
 send_shows base n Cancelling h w wire last t bytes behind run past state shown = keeps base t w.named Cancelling Cancelling w.begun wire behind bytes run past state (λ c out. out) shown.0 shown.1 shown.2
 send_shows base n (Broken fault) h w wire last t bytes behind run past state shown = absurd state.out
 
-cancel_shows : (base : Base) (n : ℕ) (stage : Stage) (h : Heard) (w : Watch) (wire : Wire) (t : ℕ) (bytes : List ℕ) (behind : Wire) (run : Run) (past : List Said)
-    → State base stage w.begun wire run past → IsShown w.named wire (done_by line.Cancel (turn (line_at n stage h) line.Cancel)) bytes line.Cancel behind
+cancel_shows : (base : Base) (n : ℕ) (stage : LineStage) (h : Heard) (w : Watch) (wire : Wire) (t : ℕ) (bytes : List ℕ) (behind : Wire) (run : Run) (past : List Said)
+    → State base stage w.begun wire run past → IsShown w.named wire (done_by line.Cancel (line_turn (line_at n stage h) line.Cancel)) bytes line.Cancel behind
     → Shows base n stage h w wire line.Cancel t bytes behind run past
 cancel_shows base n Idle h w wire t bytes behind run past state shown = keeps base t w.named Idle Idle w.begun wire behind bytes run past state (λ c out. out) shown.0 shown.1 shown.2
 cancel_shows base n (Sending false) h w wire t bytes behind run past state shown = keeps base t w.named (Sending false) Idle w.begun wire behind bytes run past state (λ c out. out) shown.0 shown.1 shown.2
@@ -118,9 +118,9 @@ skips_out l ends until (Err fault) pen c rests well = absurd well
 skips_out l false until (Ok h) pen c rests well = rests
 skips_out l true until (Ok h) pen c rests well = skipped_out l h h.done pen c rests
 
-come_shows : (cuts : Cuts) (base : Base) (n : ℕ) (stage : Stage) (h : Heard) (w : Watch) (wire : Wire) (part : Part Token) (t : ℕ) (bytes : List ℕ) (behind : Wire) (run : Run) (past : List Said)
-    → IsNoFault (turn (line_at n stage h) (line.Come part)).answer → State base stage w.begun wire run past
-    → IsShown w.named wire (done_by (line.Come part) (turn (line_at n stage h) (line.Come part))) bytes (line.Come part) behind → Shows base n stage h w wire (line.Come part) t bytes behind run past
+come_shows : (cuts : Cuts) (base : Base) (n : ℕ) (stage : LineStage) (h : Heard) (w : Watch) (wire : Wire) (part : Part Token) (t : ℕ) (bytes : List ℕ) (behind : Wire) (run : Run) (past : List Said)
+    → IsNoFault (line_turn (line_at n stage h) (line.Come part)).answer → State base stage w.begun wire run past
+    → IsShown w.named wire (done_by (line.Come part) (line_turn (line_at n stage h) (line.Come part))) bytes (line.Come part) behind → Shows base n stage h w wire (line.Come part) t bytes behind run past
 come_shows cuts base n Awaiting h w wire part t bytes behind run past well state shown =
     let l = line_at n Awaiting h in
     let r = hear_part false h part in
@@ -141,8 +141,8 @@ come_shows cuts base n Idle h w wire part t bytes behind run past well state sho
 come_shows cuts base n (Sending begun) h w wire part t bytes behind run past well state shown = absurd well
 come_shows cuts base n (Broken fault) h w wire part t bytes behind run past well state shown = absurd well
 
-shows : (cuts : Cuts) (base : Base) (n : ℕ) (stage : Stage) (h : Heard) (w : Watch) (wire : Wire) (act : Act Token) (t : ℕ) (bytes : List ℕ) (behind : Wire) (run : Run) (past : List Said)
-    → NotLose act → IsNoFault (turn (line_at n stage h) act).answer → State base stage w.begun wire run past → IsShown w.named wire (done_by act (turn (line_at n stage h) act)) bytes act behind
+shows : (cuts : Cuts) (base : Base) (n : ℕ) (stage : LineStage) (h : Heard) (w : Watch) (wire : Wire) (act : Act Token) (t : ℕ) (bytes : List ℕ) (behind : Wire) (run : Run) (past : List Said)
+    → NotLose act → IsNoFault (line_turn (line_at n stage h) act).answer → State base stage w.begun wire run past → IsShown w.named wire (done_by act (line_turn (line_at n stage h) act)) bytes act behind
     → Shows base n stage h w wire act t bytes behind run past
 shows cuts base n stage h w wire (line.Mark reset) t bytes behind run past other well state shown = mark_shows base n stage h w wire reset t bytes behind run past state shown
 shows cuts base n stage h w wire line.Ask t bytes behind run past other well state shown = ask_shows base n stage h w wire t bytes behind run past state shown
@@ -172,7 +172,7 @@ skips_kept l ends until (Err fault) = tt
 skips_kept l false until (Ok h) = tt
 skips_kept l true until (Ok h) = skipped_kept l h h.done
 
-kept : (n : ℕ) (stage : Stage) (h : Heard) (act : Act Token) → NotLose act → NotLost (turn (line_at n stage h) act).answer
+kept : (n : ℕ) (stage : LineStage) (h : Heard) (act : Act Token) → NotLose act → NotLost (line_turn (line_at n stage h) act).answer
 kept n Idle h (line.Mark reset) other = tt
 kept n (Sending begun) h (line.Mark reset) other = tt
 kept n Awaiting h (line.Mark reset) other = tt
@@ -232,7 +232,7 @@ edge_closes : (c : Frame) → Edge c → (is_lost c.part && nat_lt 0 c.offset) �
 edge_closes c (Behind part) = ap (λ (p : FramePart). is_lost p && nat_lt 0 c.offset) part
 edge_closes c (First part offset) = ap (λ (p : FramePart). is_lost p && nat_lt 0 c.offset) part ∙ ap (λ (n : ℕ). nat_lt 0 n) offset
 
-out_closes : (stage : Stage) (pen : Pen) (c : Frame) → OutAt stage pen c → (is_lost c.part && nat_lt 0 c.offset) ≡ false
+out_closes : (stage : LineStage) (pen : Pen) (c : Frame) → OutAt stage pen c → (is_lost c.part && nat_lt 0 c.offset) ≡ false
 out_closes Idle pen c out = edge_closes c out.edge
 out_closes (Sending false) pen c out = edge_closes c out.edge
 out_closes (Sending true) pen c out = ap (λ (p : FramePart). is_lost p && nat_lt 0 c.offset) out.part
@@ -243,12 +243,12 @@ out_closes (Broken fault) pen c out = absurd out
 abbrev place_eye : Spot → Eye
 place_eye spot = record { spot = λ past. spot; length = λ past. 0; fills = λ past. false; headers = λ past. false; bulk = λ past. false }
 
-closes_at : (base : Base) (t : ℕ) (c s : Frame) (j : Reading) (past : List Said) → (is_lost c.part && nat_lt 0 c.offset) ≡ false
+closes_at : (base : Base) (t : ℕ) (c s : Frame) (j : Parser) (past : List Said) → (is_lost c.part && nat_lt 0 c.offset) ≡ false
     → closed t (run_at base c s j past) ≡ stops (record { direction = ToServer; offset = c.offset; time = t }) events.Closed (run_at base c s j past)
 unfolding closed
 closes_at base t c s j past e = rw e refl
 
-ends_at : (base : Base) (t : ℕ) (c s : Frame) (j : Reading) (past : List Said) (ps : List Piece) → (is_lost c.part && nat_lt 0 c.offset) ≡ false
+ends_at : (base : Base) (t : ℕ) (c s : Frame) (j : Parser) (past : List Said) (ps : List Piece) → (is_lost c.part && nat_lt 0 c.offset) ≡ false
     → Ends base (seen ps (closed t (run_at base c s j past))) (sees (place_eye (record { direction = ToServer; offset = c.offset; time = t })) past events.Closed)
 unfolding further found_in
 ends_at base t c s j past ps e =
@@ -261,7 +261,7 @@ ends_at base t c s j past ps e =
       told = ap (λ (r : Run). r.told) is;
     }
 
-lost_answer : (l : Line) (stage : Stage) → (line.loses {T = Token} l stage).answer ≡ line.Lost
+lost_answer : (l : Line) (stage : LineStage) → (line.line_loses {T = Token} l stage).answer ≡ line.Lost
 lost_answer l Idle = refl
 lost_answer l (Sending begun) = refl
 lost_answer l Awaiting = refl
@@ -276,13 +276,13 @@ pub record All (base : Base) (w : Watch) (past : List Said) (ds : List (Done Tok
   pub ends : Ends base run all
 
 goes_on : (base : Base) (l : Line) (w : Watch) (wire behind : Wire) (act : Act Token) (x : Shown) (xs : List Shown) (run : Run) (past : List Said) (ds : List (Done Token))
-    → NotLost (turn l act).answer → x.done ≡ done_by act (turn l act)
-    → (goes : GoesOn base (turn l act).line.stage (watch_by (done_by act (turn l act)) w).begun behind (piece_seen (piece_by act x.time x.bytes) run) (λ eye. sees_done eye w past (done_by act (turn l act))))
-    → All base (watch_by (done_by act (turn l act)) w) (sees_done goes.eye w past (done_by act (turn l act))) ds (seen (pieces xs) (piece_seen (piece_by act x.time x.bytes) run))
-    → All base w past (done_by act (turn l act) ∷ ds) (seen (pieces (x ∷ xs)) run)
+    → NotLost (line_turn l act).answer → x.done ≡ done_by act (line_turn l act)
+    → (goes : GoesOn base (line_turn l act).line.stage (watch_by (done_by act (line_turn l act)) w).begun behind (piece_seen (piece_by act x.time x.bytes) run) (λ eye. sees_done eye w past (done_by act (line_turn l act))))
+    → All base (watch_by (done_by act (line_turn l act)) w) (sees_done goes.eye w past (done_by act (line_turn l act))) ds (seen (pieces xs) (piece_seen (piece_by act x.time x.bytes) run))
+    → All base w past (done_by act (line_turn l act) ∷ ds) (seen (pieces (x ∷ xs)) run)
 unfolding seen
 goes_on base l w wire behind act x xs run past ds other is goes rest =
-    let d = done_by act (turn l act) in
+    let d = done_by act (line_turn l act) in
     record {
       all = rest.all;
       seen = seen_on d.answer w past d (λ v before. AreSeen v before ds rest.all) rest.all other goes.eye rest.seen;
@@ -290,10 +290,10 @@ goes_on base l w wire behind act x xs run past ds other is goes rest =
     }
 
 loses_there : (base : Base) (l : Line) (w : Watch) (wire : Wire) (x : Shown) (xs : List Shown) (run : Run) (past : List Said) (ds : List (Done Token))
-    → x.done ≡ done_by line.Lose (turn l line.Lose) → State base l.stage w.begun wire run past → All base w past (done_by line.Lose (turn l line.Lose) ∷ ds) (seen (pieces (x ∷ xs)) run)
+    → x.done ≡ done_by line.Lose (line_turn l line.Lose) → State base l.stage w.begun wire run past → All base w past (done_by line.Lose (line_turn l line.Lose) ∷ ds) (seen (pieces (x ∷ xs)) run)
 unfolding seen
 loses_there base l w wire x xs run past ds is state =
-    let d : Done Token = done_by line.Lose (turn l line.Lose) in
+    let d : Done Token = done_by line.Lose (line_turn l line.Lose) in
     let spot : Spot = record { direction = ToServer; offset = state.client.offset; time = x.time } in
     let end = ends_at base x.time state.client state.server state.parser past (pieces xs) (out_closes l.stage wire.pen state.client state.out) in
     record {
@@ -309,16 +309,16 @@ Later base l acts xs =
     (w : Watch) (wire : Wire) (run : Run) (past : List Said) → NoFault (history l acts) → AreShown w wire xs → State base l.stage w.begun wire run past → All base w past (history l acts) (seen (pieces xs) run)
 
 speaks_on : (cuts : Cuts) (base : Base) (l : Line) (w : Watch) (wire : Wire) (run : Run) (past : List Said) (act : Act Token) (acts : List (Act Token)) (x : Shown) (xs : List Shown)
-    → NotLose act → x.done ≡ done_by act (turn l act) → NoFault (history l (act ∷ acts)) → AreShown w wire (x ∷ xs) → State base l.stage w.begun wire run past → Later base (turn l act).line acts xs
+    → NotLose act → x.done ≡ done_by act (line_turn l act) → NoFault (history l (act ∷ acts)) → AreShown w wire (x ∷ xs) → State base l.stage w.begun wire run past → Later base (line_turn l act).line acts xs
     → All base w past (history l (act ∷ acts)) (seen (pieces (x ∷ xs)) run)
 speaks_on cuts base l w wire run past act acts x xs other first well all state later =
     let (behind, shown, more) = all in
-    let d = done_by act (turn l act) in
+    let d = done_by act (line_turn l act) in
     let goes = shows cuts base l.asked l.stage l.heard w wire act x.time x.bytes behind run past other well.0 state
     (subst (λ (e : Done Token). IsShown w.named wire e x.bytes e.act behind) first shown) in
-    goes_on base l w wire behind act x xs run past (history (turn l act).line acts) (kept l.asked l.stage l.heard act other) first goes
+    goes_on base l w wire behind act x xs run past (history (line_turn l act).line acts) (kept l.asked l.stage l.heard act other) first goes
     (later (watch_by d w) behind (piece_seen (piece_by act x.time x.bytes) run) (sees_done goes.eye w past d)
-    (well_on d.answer (NoFault (history (turn l act).line acts)) (kept l.asked l.stage l.heard act other) well.1)
+    (well_on d.answer (NoFault (history (line_turn l act).line acts)) (kept l.asked l.stage l.heard act other) well.1)
     (subst (λ (e : Done Token). AreShown (watch_by e w) behind xs) first more) goes.state)
 
 pub speaks : (cuts : Cuts) (base : Base) (l : Line) (w : Watch) (wire : Wire) (run : Run) (past : List Said) (acts : List (Act Token)) (shown : List Shown)
@@ -336,10 +336,10 @@ speaks cuts base l w wire run past [] [] is well shown state = record {
 speaks cuts base l w wire run past [] (x ∷ xs) is well shown state = absurd cc
 speaks cuts base l w wire run past (act ∷ acts) [] is well shown state = absurd cc
 speaks cuts base l w wire run past (line.Lose ∷ acts) (x ∷ xs) is well shown state =
-    let first : x.done ≡ done_by line.Lose (turn l line.Lose) = cc in
-    loses_there base l w wire x xs run past (history (turn {T = Token} l line.Lose).line acts) first state
+    let first : x.done ≡ done_by line.Lose (line_turn l line.Lose) = cc in
+    loses_there base l w wire x xs run past (history (line_turn {T = Token} l line.Lose).line acts) first state
 speaks cuts base l w wire run past (act ∷ acts) (x ∷ xs) is well shown state =
-    let first : x.done ≡ done_by act (turn l act) = cc in
-    let rest : dones xs ≡ history (turn l act).line acts = cc in
+    let first : x.done ≡ done_by act (line_turn l act) = cc in
+    let rest : dones xs ≡ history (line_turn l act).line acts = cc in
     speaks_on cuts base l w wire run past act acts x xs tt first well shown state
-    (λ v wire run past well shown state. speaks cuts base (turn l act).line v wire run past acts xs rest well shown state)
+    (λ v wire run past well shown state. speaks cuts base (line_turn l act).line v wire run past acts xs rest well shown state)

@@ -16,7 +16,7 @@ use Rattle.tds_listen.specs.Signs.{sign_of}
 use Rattle.tds_wire.specs.declared.told.Token.{Token}
 use Rattle.tds_service.specs.Parts.{Item, Close, Goes, Ends, Cut, Fails, Part, close_by, close_part, hear_items, hear_part, is_end}
 use Rattle.tds_service.specs.Line as line
-use Rattle.tds_service.specs.Line.{Act, Answer, Line, Stage, Idle, Sending, Reading, Cancelling, Broken, Turn, reads, skips, turn}
+use Rattle.tds_service.specs.Line.{Act, Answer, Line, LineStage, Idle, Sending, Reading, Cancelling, Broken, Turn, reads, skips, line_turn}
 use Rattle.tds_judge.specs.declared.talk.Event.TheVariants as events
 use Rattle.tds_judge.specs.declared.talk.Reset.{Reset as Asks}
 use Rattle.tds_judge.specs.Breaches.{agreed_last, final_by_token, size_by_token, size_told}
@@ -64,7 +64,7 @@ pub record Rests (h : Heard) (past : List Said) : Type 0 where
   pub done : h.done ≡ Awaited
 
 -- by the stage, and by whether a message comes that has begun
-abbrev pub At : Stage → Bool → ℕ → Heard → List Said → Type 0
+abbrev pub At : LineStage → Bool → ℕ → Heard → List Said → Type 0
 At Idle begun named h past = (begun ≡ false) × Rests h past
 At (Sending false) begun named h past = (begun ≡ false) × (named ≡ header_descriptor h.mark h.descriptor) × Rests h past
 At (Sending true) begun named h past = (begun ≡ false) × Asked h past

@@ -196,17 +196,17 @@ module _ (s : Side) (past : List Said) (head : Head) (asks : Option Reset) (begu
   abbrev Led : Stage → Move → Type 0
   Led stage move = Now stage asks begun past → LedBy s stage past head move.stage asks begun move.does
 
-  breaks : (stage : Stage) (fault : FrontFault) → Led stage (rules.breaks fault)
+  breaks : (stage : Stage) (fault : FrontFault) → Led stage (rules.breaks_end fault)
   breaks stage fault now = now.fine
 
-  drops_by : (b : Bool) → Led stages.Quiet (if b then rules.moves stages.Quiet (actions.Forget false) else rules.breaks faults.IgnoredPart)
+  drops_by : (b : Bool) → Led stages.Quiet (if b then rules.moves_to stages.Quiet (actions.Forget false) else rules.breaks_end faults.IgnoredPart)
   drops_by true now = record {
     fine = fine_ignored s.eye (sees_first s past head) (first_fine s past head now.fine);
     at = (now.at.0, ignored_place s.eye (sees_first s past head) (talking.reset_of status) (first_place s past head));
   }
   drops_by false now = now.fine
 
-  forgets_by : (kind : Kind) (gone b : Bool) → Led (stages.Receiving kind gone) (if b then rules.moves stages.Quiet (actions.Forget gone) else rules.breaks faults.IgnoredPart)
+  forgets_by : (kind : Kind) (gone b : Bool) → Led (stages.Receiving kind gone) (if b then rules.moves_to stages.Quiet (actions.Forget gone) else rules.breaks_end faults.IgnoredPart)
   forgets_by kind gone true now = record {
     fine = fine_ignored s.eye (sees_more s past head) (more_fine s past head now.fine);
     at = (now.at.0, ignored_place s.eye (sees_more s past head) (as_reset asks) (more_place s past head ∙ now.at.1));
@@ -214,10 +214,10 @@ module _ (s : Side) (past : List Said) (head : Head) (asks : Option Reset) (begu
   forgets_by kind gone false now = now.fine
 
   begins_by : (both ignore empty : Bool) → has_both_resets status ≡ both
-      → Led stages.Quiet (if both then rules.breaks faults.BothResets
+      → Led stages.Quiet (if both then rules.breaks_end faults.BothResets
       else if ignore then rules.forgets false status
-      else if empty then rules.breaks faults.EmptyPart
-      else rules.moves (rules.behind head.kind false status) (actions.Begin head.kind (reset_of status)))
+      else if empty then rules.breaks_end faults.EmptyPart
+      else rules.moves_to (rules.stage_behind_packet head.kind false status) (actions.Begin head.kind (reset_of status)))
   begins_by true ignore empty e now = now.fine
   begins_by false true empty e now = drops_by (has_bit status 1) now
   begins_by false false true e now = now.fine
@@ -228,8 +228,8 @@ module _ (s : Side) (past : List Said) (head : Head) (asks : Option Reset) (begu
 
   goes_by : (kind : Kind) (gone same ignore : Bool)
       → Led (stages.Receiving kind gone) (if same
-      then (if ignore then rules.forgets gone status else rules.moves (rules.behind kind gone status) actions.Go)
-      else rules.breaks faults.TypeChanged)
+      then (if ignore then rules.forgets gone status else rules.moves_to (rules.stage_behind_packet kind gone status) actions.Go)
+      else rules.breaks_end faults.TypeChanged)
   goes_by kind gone true true now = forgets_by kind gone (has_bit status 1) now
   goes_by kind gone true false now = record {
     fine = more_fine s past head now.fine;
@@ -251,7 +251,7 @@ module _ (s : Side) (past : List Said) (head : Head) (asks : Option Reset) (begu
   refuses stages.Stopping fault now = now.fine
   refuses (stages.Broken first) fault now = now.fine
 
-  attends : (stage : Stage) (b : Bool) → Led stage (if b then rules.attention stage else rules.refuses stage faults.WrongAttention)
+  attends : (stage : Stage) (b : Bool) → Led stage (if b then rules.takes_attention stage else rules.refuses stage faults.WrongAttention)
   attends stage false now = refuses stage faults.WrongAttention now
   attends stages.Quiet true now = (attention_fine s past now.fine, stopped_quiet s past now.at.1, now.at.0, refl)
   attends (stages.Receiving kind false) true now = (attention_fine s past now.fine, stopped_asking s past (as_reset asks) now.at.1, now.at.0, refl)

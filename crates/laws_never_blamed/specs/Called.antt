@@ -13,10 +13,10 @@ use Rattle.tds_client.specs.Sending.{Effect, Does, cancelled, room, sent, starte
 use Rattle.tds_client.specs.Session.{ClientSession, lost, marked, new_session, unless_idle}
 use Rattle.tds_client.specs.Streams.{finished, opened, put}
 use Rattle.tds_wire.specs.declared.told.Token.{Token}
-use Rattle.tds_wire.specs.Reading.{Reading, restarted}
+use Rattle.tds_wire.specs.Reading.{Parser, restarted}
 use Rattle.tds_service.specs.Parts.{Part}
 use Rattle.tds_service.specs.Line as line
-use Rattle.tds_service.specs.Line.{Act, Line, turn}
+use Rattle.tds_service.specs.Line.{Act, Line, line_turn}
 use Rattle.tds_service.specs.Refusing.{packets}
 use Rattle.tds_service.specs.Ties.{full_in, line_of}
 use Rattle.tds_judge.specs.declared.finding.Direction.TheVariants as ways
@@ -39,10 +39,10 @@ pub data Call : Type 0 where
 pub record End : Type 0 where
   pub asked : ℕ
   pub client : ClientSession
-  pub reading : Reading
+  pub reading : Parser
   pub is_first : Bool
 
-abbrev pub new_end : ℕ → Reading → End
+abbrev pub new_end : ℕ → Parser → End
 new_end size r = record { asked = 0; client = new_session size; reading = restarted r; is_first = true }
 
 abbrev pub line_at : End → Line
@@ -57,7 +57,7 @@ Appends wanted answer e bytes behind =
 
 -- The client hears of a packet what tds_service's machine does, and keeps its packet size.
 pub record Hears (e : End) (part : Part Token) (behind : End) : Type 0 where
-  pub line_is : line_at behind ≡ (turn (line_at e) (line.Come part)).line
+  pub line_is : line_at behind ≡ (line_turn (line_at e) (line.Come part)).line
   pub size : behind.client.size ≡ e.client.size
   pub later : behind.is_first ≡ false
 
@@ -72,7 +72,7 @@ IsDone e (Put part) bytes behind = Appends (put e.client part) tt e bytes behind
 IsDone e Finish bytes behind = Appends (finished e.client) tt e bytes behind
 IsDone e Cancel bytes behind = (answer : Cancelled) × Appends (cancelled e.client) answer e bytes behind
 IsDone e Lose bytes behind = (bytes ≡ []) × (behind ≡ record e { client = lost e.client })
-IsDone e (Come part) bytes behind = IsIn e.reading e.is_first part (turn (line_at e) (line.Come part)).answer bytes behind.reading × Hears e part behind
+IsDone e (Come part) bytes behind = IsIn e.reading e.is_first part (line_turn (line_at e) (line.Come part)).answer bytes behind.reading × Hears e part behind
 
 -- ---- All of them, one behind the other
 

@@ -19,7 +19,7 @@ use Rattle.tds_front.specs.Passing.{judged}
 use Rattle.tds_front.specs.Rules.{taken}
 use Rattle.tds_relay.specs.Pool.{Event, Sharing, whose}
 use Rattle.tds_relay.specs.Fronting.{done_on}
-use Rattle.tds_relay.specs.Giving.{Given, Visit, machine_in}
+use Rattle.tds_relay.specs.Giving.{Given, Visit, machine_at_visit}
 use Rattle.tds_relay.specs.Core.{End, Open, end_at}
 use Rattle.tds_relay.specs.Machine.{Machine, Step, Takes, Hands, Manner, Whole, Without, Withheld, after, owed}
 use Rattle.tds_judge.specs.declared.talk.Event as talk
@@ -147,7 +147,7 @@ sees_steps s key h (step ∷ steps) x = sees_steps s key (after h step) steps (s
 
 -- From where an application has come: nothing was seen.
 abbrev pub relayed : {sharing : Sharing} {key : ℕ} → Side → Visit sharing key → List Said
-relayed {sharing} {key} s v = (sees_steps s key (machine_in v) v.since (record { begun = false; past = [] })).past
+relayed {sharing} {key} s v = (sees_steps s key (machine_at_visit v) v.since (record { begun = false; past = [] })).past
 
 -- ---- What is supposed
 

@@ -9,10 +9,10 @@ use Rattle.tds_packet.specs.Stream as stream
 use Rattle.tds_request.specs.Layout.{all_headers}
 use Rattle.tds_client.specs.declared.message.MessageKind.{MessageKind}
 use Rattle.tds_client.specs.declared.message.MessageKind.TheVariants.{Batch}
-use Rattle.tds_client.specs.Packets.{attention, ignore, packet_bytes}
+use Rattle.tds_client.specs.Packets.{stop_bytes, ignore, packet_bytes}
 use Rattle.tds_client.specs.Streams.{has_headers, packets_are}
 use Rattle.tds_wire.specs.declared.told.Token.{Token}
-use Rattle.tds_wire.specs.Reading.{Reading, restarted}
+use Rattle.tds_wire.specs.Reading.{Parser, restarted}
 use Rattle.tds_listen.specs.Hearing.{tokens_in}
 use Rattle.tds_service.specs.Parts.{Part}
 use Rattle.tds_service.specs.Packets.{ReadsTo, packet_part}
@@ -50,7 +50,7 @@ IsOfRequest named pen false status bytes behind =
 abbrev pub IsOut : ℕ → Pen → Packet → List ℕ → Pen → Type 0
 IsOut named pen (OfRequest request first reset last) bytes behind = IsOfRequest named pen first (end_bit last + reset_bit reset) bytes behind
 IsOut named pen (Ignore request) bytes behind = (bytes ≡ ignore (packets_are pen.kind) pen.packets) × (behind ≡ pen)
-IsOut named pen Attention bytes behind = (bytes ≡ attention) × (behind ≡ pen)
+IsOut named pen Attention bytes behind = (bytes ≡ stop_bytes) × (behind ≡ pen)
 
 abbrev pub AreOut : ℕ → Pen → List Packet → List ℕ → Pen → Type 0
 AreOut named pen [] bytes behind = (bytes ≡ []) × (behind ≡ pen)
@@ -61,7 +61,7 @@ AreOut named pen (packet ∷ packets) bytes behind =
 
 -- The part that is heard is a packet's, by a parser that goes on from packet to packet where nothing of it is a fault. A connection's
 -- first packet has the number 0 or 1: at another one a judge takes it for the middle of a message.
-pub record IsIn (r : Reading) (is_first : Bool) (part : Part Token) (answer : Answer) (bytes : List ℕ) (behind : Reading) : Type 0 where
+pub record IsIn (r : Parser) (is_first : Bool) (part : Part Token) (answer : Answer) (bytes : List ℕ) (behind : Parser) : Type 0 where
   pub header : Header
   pub content : List ℕ
   pub size : ℕ
@@ -95,7 +95,7 @@ pieces (x ∷ xs) = piece_by x.done.act x.time x.bytes ∷ pieces xs
 -- where both directions are between two of them: the pen, the parser over what comes, and whether nothing came yet
 pub record Wire : Type 0 where
   pub pen : Pen
-  pub reading : Reading
+  pub reading : Parser
   pub is_first : Bool
 
 abbrev pub IsShown : ℕ → Wire → Done Token → List ℕ → Act Token → Wire → Type 0
@@ -126,10 +126,10 @@ abbrev pub new_watch : Watch
 new_watch = record { named = 0; begun = false }
 
 -- nothing went out, and nothing came; the parser is before an answer
-abbrev pub new_wire : Reading → Wire
+abbrev pub new_wire : Parser → Wire
 new_wire r = record { pen = record { kind = Batch; packets = 0 }; reading = restarted r; is_first = true }
 
 -- This was done on a new connection, and these bytes are handed to a judge that reads answers by this parser too.
-pub record IsHanded (r : Reading) (ds : List (Done Token)) (shown : List Shown) : Type 0 where
+pub record IsHanded (r : Parser) (ds : List (Done Token)) (shown : List Shown) : Type 0 where
   pub done : dones shown ≡ ds
   pub spelled : AreShown new_watch (new_wire r) shown

@@ -2,7 +2,7 @@
 
 ghost use Rattle.std.specs.Prelude.{◌≡◌, ◌∷◌, ◌++◌, ℕ, List, [], Some, false};
 ghost use Rattle.tds_packet.specs.Size.{IsPacketSize};
-ghost use Rattle.tds_wire.specs.Reading.{Reading};
+ghost use Rattle.tds_wire.specs.Reading.{Parser};
 ghost use Rattle.tds_wire.specs.declared.told.Token.{Token};
 ghost use Rattle.tds_service.specs.Line.{Act, new_line};
 ghost use Rattle.tds_service.specs.History.{history};
@@ -63,7 +63,7 @@ pub fn never_blamed_before_a_lawful_server<V>()
 /// there: whatever is done, whatever comes and however requests are cut into packets, until something
 /// that comes is a fault. So its bytes spell these events and no others.
 pub fn bytes_spell_what_is_done()
-    ensures { (limits : Limits) (judge : Judge) (reading : Reading) (acts : List (Act Token))
+    ensures { (limits : Limits) (judge : Judge) (reading : Parser) (acts : List (Act Token))
         (shown : List Shown)
         → IsNew limits judge → judge.parser ≡ Some reading
         → IsHanded reading (history new_line acts) shown → NoFault (history new_line acts)
@@ -78,7 +78,7 @@ pub fn bytes_spell_what_is_done()
 /// crosses an answer.
 pub fn our_bytes_are_never_blamed<V>()
     ensures { (engine : Engine V Token) (moves : List (Move Token)) (limits : Limits)
-        (judge : Judge) (reading : Reading) (acts : List (Act Token)) (shown : List Shown)
+        (judge : Judge) (reading : Parser) (acts : List (Act Token)) (shown : List Shown)
         → IsLawful engine → IsRun engine moves (history new_line acts) → AllBehindLogin acts
         → IsNew limits judge → judge.parser ≡ Some reading
         → IsHanded reading (history new_line acts) shown
@@ -93,7 +93,7 @@ pub fn our_bytes_are_never_blamed<V>()
 /// found in the bytes. It begins with an idle client behind a login, for packets of any size.
 pub fn our_calls_are_never_blamed<V>()
     ensures { (engine : Engine V Token) (moves : List (Move Token)) (limits : Limits)
-        (judge : Judge) (reading : Reading) (size : ℕ) (calls : List Called)
+        (judge : Judge) (reading : Parser) (size : ℕ) (calls : List Called)
         → IsPacketSize size → AreCalled (new_end size reading) calls
         → IsLawful engine
         → IsRun engine moves (history new_line (acts_of (new_end size reading) calls))

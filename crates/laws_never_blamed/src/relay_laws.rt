@@ -1,7 +1,7 @@
 //! What the judge finds of a relay's two sides (`tds_relay`). Each contract is the law.
 
 ghost use Rattle.std.specs.Prelude.{◌≡◌, ℕ, List, [], Some, false};
-ghost use Rattle.tds_wire.specs.Reading.{Reading};
+ghost use Rattle.tds_wire.specs.Reading.{Parser};
 ghost use Rattle.tds_wire.specs.declared.told.Token.{Token};
 ghost use Rattle.tds_service.specs.History.{acts_of};
 ghost use Rattle.tds_relay.specs.Pool.{Event, Sharing};
@@ -43,7 +43,7 @@ pub fn relay_to_servers<V>()
         → is_broken [] (conversation eye (done_on sharing number events)) ≡ false }
     /// and none is found in the connection's bytes, where those that go out are what was done there.
     ensures bytes { (engine : Engine V Token) (moves : List (Move Token)) (limits : Limits)
-        (judge : Judge) (reading : Reading) (sharing : Sharing) (number : ℕ) (events : List Event)
+        (judge : Judge) (reading : Parser) (sharing : Sharing) (number : ℕ) (events : List Event)
         (shown : List Shown)
         → IsLawful engine → IsRun engine moves (done_on sharing number events)
         → AllBehindLogin (acts_of (done_on sharing number events))

@@ -29,15 +29,15 @@ heads x y xs ys e = (cc, cc)
 same_item : (i j : Item Token) → A i ≡ A j → i ≡ j
 same_item i j e = cc
 
-pub record Next (items : List (Item Token)) (close : Close) (down : List (lawful.Step Kept Token)) (rest : List (Thing Token)) : Type 0 where
+pub record Next (items : List (Item Token)) (close : Close) (down : List (lawful.ServerStep Kept Token)) (rest : List (Thing Token)) : Type 0 where
   pub next : IsNext items close down
   pub left : things_said (without items close down) ≡ rest
 
-next_more : (item said : Item Token) (items : List (Item Token)) (close : Close) (after : lawful.Session Kept) (down : List (lawful.Step Kept Token)) (rest : List (Thing Token)) → said ≡ item
+next_more : (item said : Item Token) (items : List (Item Token)) (close : Close) (after : lawful.Session Kept) (down : List (lawful.ServerStep Kept Token)) (rest : List (Thing Token)) → said ≡ item
     → Next items close down rest → Next (item ∷ items) close (lawful.Says said after ∷ down) rest
 next_more item said items close after down rest e n = record { next = (sym e, n.next); left = n.left }
 
-comes_next : (items : List (Item Token)) (last : Bool) (down : List (lawful.Step Kept Token)) (rest : List (Thing Token)) → things_said down ≡ then_items items (then_close (close_if last) rest)
+comes_next : (items : List (Item Token)) (last : Bool) (down : List (lawful.ServerStep Kept Token)) (rest : List (Thing Token)) → things_said down ≡ then_items items (then_close (close_if last) rest)
     → Next items (close_if last) down rest
 comes_next [] false down rest e = record { next = tt; left = e }
 comes_next [] true [] rest e = let b : ⊥ = cc in absurd b
@@ -57,11 +57,11 @@ IsSome [] false = ⊥
 IsSome [] true = Unit {0}
 IsSome (item ∷ items) last = Unit {0}
 
-not_empty : (x : Thing Token) (xs : List (Thing Token)) (down due : List (lawful.Step Kept Token)) → things_said down ≡ x ∷ xs → HasSome (down ++ due)
+not_empty : (x : Thing Token) (xs : List (Thing Token)) (down due : List (lawful.ServerStep Kept Token)) → things_said down ≡ x ∷ xs → HasSome (down ++ due)
 not_empty x xs [] due e = let b : ⊥ = cc in absurd b
 not_empty x xs (step ∷ down) due e = tt
 
-some_there : (items : List (Item Token)) (last : Bool) (down due : List (lawful.Step Kept Token)) (rest : List (Thing Token)) → IsSome items last
+some_there : (items : List (Item Token)) (last : Bool) (down due : List (lawful.ServerStep Kept Token)) (rest : List (Thing Token)) → IsSome items last
     → things_said down ≡ then_items items (then_close (close_if last) rest) → HasSome (down ++ due)
 some_there [] false down due rest s e = absurd s
 some_there [] true down due rest s e = not_empty MessageEnd rest down due e

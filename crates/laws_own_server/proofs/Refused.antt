@@ -96,8 +96,8 @@ taken_mute : {V T : Type 0} (engine : Engine V T) (link : Link V T) (us : List l
 taken_mute engine link [] a e d m = m
 taken_mute engine link (u ∷ us) a e d m = record { up = a.1; due = takes_mute engine link.server u.asking u.packet a.0 e; down = d }
 
-none_said : {V T : Type 0} (steps : List (lawful.Step V T)) → steps ≡ [] → HasSome steps → ⊥
-none_said {V} {T} steps e h = subst (λ (xs : List (lawful.Step V T)). HasSome xs) e h
+none_said : {V T : Type 0} (steps : List (lawful.ServerStep V T)) → steps ≡ [] → HasSome steps → ⊥
+none_said {V} {T} steps e h = subst (λ (xs : List (lawful.ServerStep V T)). HasSome xs) e h
 
 none_end : {V T : Type 0} (close : Close) → links.without_end {V = V} {T = T} close [] ≡ []
 none_end parts.Goes = refl
@@ -109,7 +109,7 @@ none_left : {V T : Type 0} (items : List (Item T)) (close : Close) → links.wit
 none_left [] close = none_end close
 none_left (item ∷ items) close = refl
 
-down_mute : {V T : Type 0} (a : line.Act T) (down : List (lawful.Step V T)) → down ≡ [] → links.behind_act a down ≡ []
+down_mute : {V T : Type 0} (a : line.Act T) (down : List (lawful.ServerStep V T)) → down ≡ [] → links.behind_act a down ≡ []
 down_mute (line.Mark reset) down e = e
 down_mute line.Ask down e = e
 down_mute (line.Send last) down e = e
@@ -148,7 +148,7 @@ no_run answers arrived m i =
     let n : Mute (link_after engine (new_link engine) i.moves) =
     mute engine (new_link engine) i.moves (new_mute engine)
     (subst (λ ps. AllMute ps) (sym i.to.sent) (subst (λ (es : List Up). AllMute (packets_of first_place es)) (sym (append-nil arrived)) m)) i.to.runs in
-    let e : [] ≡ things_of (said_done ∷ []) = sym (ap (λ (d : List (lawful.Step Kept Token)). things_said d) n.down) ∙ i.to.stands.down in
+    let e : [] ≡ things_of (said_done ∷ []) = sym (ap (λ (d : List (lawful.ServerStep Kept Token)). things_said d) n.down) ∙ i.to.stands.down in
     let b : ⊥ = cc in b
 
 -- it answers before it is asked

@@ -30,7 +30,7 @@ use Rattle.tds_world.specs.Begins.{CountFrom, HandsOut, HandsOutNext}
 use Rattle.tds_world.specs.Bounds.{begun_by}
 use Rattle.tds_world.specs.Dones.{DonesBy, HasDones, HaveDones}
 use Rattle.tds_world.specs.Lawful.{Lawful, TakesNoReset, TellsChanges}
-use Rattle.laws_conforming_server.specs.Lawful.{Session, Step, Says, Ends, IsAnswer, IsLawful, IsStop, Leads, final_by, reset_by, reset_left}
+use Rattle.laws_conforming_server.specs.Lawful.{Session, ServerStep, Says, Ends, IsAnswer, IsLawful, IsStop, Leads, final_by, reset_by, reset_left}
 use Rattle.laws_conforming_server.specs.Alone.{ResetsFirst}
 use Rattle.laws_own_server.specs.Bench.{Kept, Log, bench, ends_if, item_of, kept_anew, moved, moved_by, said, said_step, said_stop, said_tokens, state_of}
 
@@ -141,10 +141,10 @@ finals final [] = final
 finals final (t ∷ ts) = finals (final_by final (sign_of t)) ts
 
 -- Such tokens, and then what is an answer from the transaction behind them on.
-abbrev pub AnswersOn : ℕ → Bool → List (Step Kept Token) → Type 0
+abbrev pub AnswersOn : ℕ → Bool → List (ServerStep Kept Token) → Type 0
 AnswersOn d final steps = (x : Session Kept) → x.transaction ≡ d → IsAnswer kept_anew None x final steps
 
-tokens_answer : (d last : ℕ) (final : Bool) (kept : Kept) (ts : List Token) (others : List (Step Kept Token)) → AllByRecursion TokenBegins ts → AllByRecursion AcknowledgesNone ts
+tokens_answer : (d last : ℕ) (final : Bool) (kept : Kept) (ts : List Token) (others : List (ServerStep Kept Token)) → AllByRecursion TokenBegins ts → AllByRecursion AcknowledgesNone ts
     → applied (reset_effect None) d (changes_of ts) ≡ Some last → AnswersOn last (finals final ts) others
     → AnswersOn d final (said_tokens None d kept ts others)
 tokens_answer d last final kept [] others b k a o x e = o x (e ∙ some_is d last a)
@@ -215,7 +215,7 @@ counts_up n m (d ∷ ds) p c = counts_up (n + 1) m ds (omega arith) c.1
 
 -- ---- Steps
 
-step_ends : (d last : ℕ) (final : Bool) (kept : Kept) (ts : List Token) (ends : Bool) (others : List (Step Kept Token)) → AllByRecursion TokenBegins ts → DonesBy 0 0 ends ts
+step_ends : (d last : ℕ) (final : Bool) (kept : Kept) (ts : List Token) (ends : Bool) (others : List (ServerStep Kept Token)) → AllByRecursion TokenBegins ts → DonesBy 0 0 ends ts
     → applied (reset_effect None) d (changes_of ts) ≡ Some last → (ends ≡ true → others ≡ []) → (ends ≡ false → (f : Bool) → AnswersOn last f others)
     → AnswersOn d final (said_tokens None d kept ts (ends_if ends others))
 step_ends d last final kept ts true others b k a o p =
@@ -223,7 +223,7 @@ step_ends d last final kept ts true others b k a o p =
 step_ends d last final kept ts false others b k a o p =
     tokens_answer d last final kept ts others b (dones_plain false ts k) a (p refl (finals final ts))
 
-step_answers : (d : ℕ) (final : Bool) (t : answer.Step) (others : List (Step Kept Token)) → t.reset ≡ None → AllByRecursion TokenBegins t.tokens → HasDones t
+step_answers : (d : ℕ) (final : Bool) (t : answer.Step) (others : List (ServerStep Kept Token)) → t.reset ≡ None → AllByRecursion TokenBegins t.tokens → HasDones t
     → applied (reset_effect t.reset) d (changes_of t.tokens) ≡ Some t.after.descriptor
     → (t.last ≡ true → others ≡ []) → (t.last ≡ false → (f : Bool) → AnswersOn t.after.descriptor f others)
     → AnswersOn d final (said_step d t others)
@@ -249,10 +249,10 @@ said_answers s (t ∷ next ∷ ss) final e c r k h p =
 
 -- ---- The engine
 
-abbrev pub sets : Reset → Session Kept → Step Kept Token
+abbrev pub sets : Reset → Session Kept → ServerStep Kept Token
 sets reset s = Says (item_of (token.Env change.ResetDone)) (reset_by kept_anew reset s)
 
-abbrev pub answers_in : Answers → Log → ℕ → Session Kept → Option Reset → ℕ → List (Step Kept Token)
+abbrev pub answers_in : Answers → Log → ℕ → Session Kept → Option Reset → ℕ → List (ServerStep Kept Token)
 answers_in answers log request s reset named = said s.transaction (answers (state_of (log request).begun s) named reset (log request).request)
 
 -- a reset stands first
@@ -275,7 +275,7 @@ answers_lawful : (answers : Answers) (lawful : Lawful answers) (dones : HaveDone
     → IsAnswer kept_anew reset s false (answers_in answers log request s reset named)
 answers_lawful answers lawful dones hands log request s None named = plain_lawful answers lawful dones hands log request s named
 answers_lawful answers lawful dones hands log request s (Some reset) named =
-    subst (λ (steps : List (Step Kept Token)). IsAnswer kept_anew (Some reset) s false steps) (sym (resets_first answers lawful log request s reset named))
+    subst (λ (steps : List (ServerStep Kept Token)). IsAnswer kept_anew (Some reset) s false steps) (sym (resets_first answers lawful log request s reset named))
     (refl, refl, plain_lawful answers lawful dones hands log request (reset_by kept_anew reset s) named)
 
 same_ends : (d : ℕ) → pick ((d == 0) || (d == d)) (Some 0) None ≡ Some 0

@@ -2,7 +2,7 @@
 use Rattle.std.proofs.Common.{◌≡◌, ◌∙◌, List, [], ◌∷◌, ◌++◌, refl, sym, ap, subst}
 use Rattle.std.proofs.lemmas.List.{append-nil, append_assoc}
 use Rattle.tds_service.specs.History.{Done}
-use Rattle.laws_conforming_server.specs.Lawful.{Session, Step, Engine}
+use Rattle.laws_conforming_server.specs.Lawful.{Session, ServerStep, Engine}
 use Rattle.laws_conforming_server.specs.Link.{HasSome, Link, Move, Here, Takes, Speaks, Runs, goes, here, link_after, session_behind, spoken}
 
 pub runs_both : {V T : Type 0} (engine : Engine V T) (link : Link V T) (moves more : List (Move T))
@@ -23,15 +23,15 @@ here_both (Speaks ∷ moves) more = here_both moves more
 
 -- ---- Many things are said
 
-abbrev pub speaks : {V T : Type 0} → List (Step V T) → List (Move T)
+abbrev pub speaks : {V T : Type 0} → List (ServerStep V T) → List (Move T)
 speaks [] = []
 speaks (step ∷ steps) = Speaks ∷ speaks steps
 
-abbrev pub behind_all : {V T : Type 0} → Session V → List (Step V T) → Session V
+abbrev pub behind_all : {V T : Type 0} → Session V → List (ServerStep V T) → Session V
 behind_all s [] = s
 behind_all s (step ∷ steps) = behind_all (session_behind s step) steps
 
-abbrev pub all_spoken : {V T : Type 0} → Link V T → List (Step V T) → List (Step V T) → Link V T
+abbrev pub all_spoken : {V T : Type 0} → Link V T → List (ServerStep V T) → List (ServerStep V T) → Link V T
 all_spoken link steps rest = record {
   up = link.up;
   server = record { session = behind_all link.server.session steps; reset = link.server.reset; due = rest };
@@ -39,40 +39,40 @@ all_spoken link steps rest = record {
   asking = link.asking;
 }
 
-pub speaks_here : {V T : Type 0} (steps : List (Step V T)) → here (speaks steps) ≡ []
+pub speaks_here : {V T : Type 0} (steps : List (ServerStep V T)) → here (speaks steps) ≡ []
 speaks_here [] = refl
 speaks_here (step ∷ steps) = speaks_here steps
 
-same_link : {V T : Type 0} (link : Link V T) (rest : List (Step V T)) → link.server.due ≡ rest → link ≡ all_spoken link [] rest
+same_link : {V T : Type 0} (link : Link V T) (rest : List (ServerStep V T)) → link.server.due ≡ rest → link ≡ all_spoken link [] rest
 same_link {V} {T} link rest e =
-    ap (λ (due : List (Step V T)). record {
+    ap (λ (due : List (ServerStep V T)). record {
       up = link.up;
       server = record { session = link.server.session; reset = link.server.reset; due = due };
       down = link.down;
       asking = link.asking;
     }) e
-    ∙ ap (λ (down : List (Step V T)). record {
+    ∙ ap (λ (down : List (ServerStep V T)). record {
       up = link.up;
       server = record { session = link.server.session; reset = link.server.reset; due = rest };
       down = down;
       asking = link.asking;
     }) (sym (append-nil link.down))
 
-step_more : {V T : Type 0} (down : List (Step V T)) (step : Step V T) (steps : List (Step V T)) → (down ++ step ∷ []) ++ steps ≡ down ++ step ∷ steps
+step_more : {V T : Type 0} (down : List (ServerStep V T)) (step : ServerStep V T) (steps : List (ServerStep V T)) → (down ++ step ∷ []) ++ steps ≡ down ++ step ∷ steps
 step_more down step steps = append_assoc down (step ∷ []) steps
 
-pub says_all : {V T : Type 0} (engine : Engine V T) (link : Link V T) (steps rest : List (Step V T)) → link.server.due ≡ steps ++ rest
+pub says_all : {V T : Type 0} (engine : Engine V T) (link : Link V T) (steps rest : List (ServerStep V T)) → link.server.due ≡ steps ++ rest
     → Runs engine link (speaks steps) × (link_after engine link (speaks steps) ≡ all_spoken link steps rest)
 says_all {V} {T} engine link [] rest e = (tt, same_link link rest e)
 says_all {V} {T} engine link (step ∷ steps) rest e =
     let next : Link V T = spoken link (step ∷ (steps ++ rest)) in
     let ih = says_all engine next steps rest refl in (
       (
-        subst (λ (due : List (Step V T)). HasSome due) (sym e) tt,
-        subst (λ (due : List (Step V T)). Runs engine (spoken link due) (speaks steps)) (sym e) ih.0,
+        subst (λ (due : List (ServerStep V T)). HasSome due) (sym e) tt,
+        subst (λ (due : List (ServerStep V T)). Runs engine (spoken link due) (speaks steps)) (sym e) ih.0,
       ),
-      ap (λ (due : List (Step V T)). link_after engine (spoken link due) (speaks steps)) e ∙ ih.1
-          ∙ ap (λ (down : List (Step V T)). record {
+      ap (λ (due : List (ServerStep V T)). link_after engine (spoken link due) (speaks steps)) e ∙ ih.1
+          ∙ ap (λ (down : List (ServerStep V T)). record {
             up = link.up;
             server = record { session = behind_all (session_behind link.server.session step) steps; reset = link.server.reset; due = rest };
             down = down;

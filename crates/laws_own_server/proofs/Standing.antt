@@ -79,7 +79,7 @@ things_both (Acknowledgement r place changes ∷ es) fs =
     ap (λ (zs : List (Thing Token)). then_items (items_of (acknowledging changes)) (MessageEnd ∷ zs)) (things_both es fs)
     ∙ items_then (items_of (acknowledging changes)) (MessageEnd ∷ things_of es) (things_of fs)
 
-pub said_both : {V T : Type 0} (xs ys : List (lawful.Step V T)) → things_said (xs ++ ys) ≡ things_said xs ++ things_said ys
+pub said_both : {V T : Type 0} (xs ys : List (lawful.ServerStep V T)) → things_said (xs ++ ys) ≡ things_said xs ++ things_said ys
 said_both [] ys = refl
 said_both {V} {T} (lawful.Says item after ∷ xs) ys = ap (λ (zs : List (Thing T)). A item ∷ zs) (said_both xs ys)
 said_both {V} {T} (lawful.Ends ∷ xs) ys = ap (λ (zs : List (Thing T)). MessageEnd ∷ zs) (said_both xs ys)

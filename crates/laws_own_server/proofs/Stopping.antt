@@ -9,7 +9,7 @@ use Rattle.tds_service.specs.Line as line
 use Rattle.tds_world.specs.Arrivals.{acknowledged_at, is_midway, stops}
 use Rattle.tds_world.specs.Connection.{Connection}
 use Rattle.tds_world.specs.Entries.{Up, Attention, Acknowledgement}
-use Rattle.laws_conforming_server.specs.Lawful.{Engine, Session, Step, Ends}
+use Rattle.laws_conforming_server.specs.Lawful.{Engine, Session, ServerStep, Ends}
 use Rattle.laws_conforming_server.specs.Link as links
 use Rattle.laws_conforming_server.specs.Link.{Link, Move, Takes, Runs, goes, here, link_after}
 use Rattle.laws_own_server.specs.Bench.{Kept, Log, bench, said_stop}
@@ -20,13 +20,13 @@ use Rattle.laws_own_server.proofs.Standing.{Holds, Leads, leads_on, link_of, pla
 use Rattle.laws_own_server.proofs.Told.{behind_stop, same_stop, session, stop_settings, tokens_things}
 
 -- what is said then
-abbrev pub stop_said : Connection → List (Step Kept Token)
+abbrev pub stop_said : Connection → List (ServerStep Kept Token)
 stop_said c = said_stop c.session.descriptor (stops c)
 
 stop_things : (d : ℕ) (stop : Stop) → things_said (said_stop d stop) ≡ then_items (items_of (acknowledging stop.changes)) (MessageEnd ∷ [])
 stop_things d stop = tokens_things None d (record { settings = stop.after.settings; midway = false }) (acknowledging stop.changes) (Ends ∷ [])
 
-stop_down : (c : Connection) (r : ℕ) (down : List (Step Kept Token)) → things_said down ≡ things_of c.to_client.waiting
+stop_down : (c : Connection) (r : ℕ) (down : List (ServerStep Kept Token)) → things_said down ≡ things_of c.to_client.waiting
     → things_said (down ++ stop_said c) ≡ things_of (c.to_client.waiting ++ Acknowledgement r (acknowledged_at c.due c.taken) (stops c).changes ∷ [])
 stop_down c r down h =
     said_both down (stop_said c)

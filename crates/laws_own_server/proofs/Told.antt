@@ -18,7 +18,7 @@ use Rattle.tds_session.specs.Answer.{EndsOnce}
 use Rattle.tds_session.specs.Attention.{acknowledging, rolls_back, stop_by, stopped}
 use Rattle.tds_session.specs.Session.{SessionState, is_in_transaction}
 use Rattle.tds_world.specs.Arrivals.{is_midway}
-use Rattle.laws_conforming_server.specs.Lawful.{Session, Step, Says, Ends}
+use Rattle.laws_conforming_server.specs.Lawful.{Session, ServerStep, Says, Ends}
 use Rattle.laws_own_server.specs.Bench.{Kept, ends_if, item_of, moved, moved_by, said_step, said_stop, said_tokens, state_of}
 use Rattle.laws_own_server.specs.Runs.{Thing, A, close_if, items_of, then_close, then_items, things_said}
 use Rattle.laws_own_server.proofs.Saying.{begun_is, ended_is, none_is, some_is}
@@ -26,22 +26,22 @@ use Rattle.laws_own_server.proofs.Speaking.{behind_all}
 
 -- ---- In two pieces
 
-tokens_then : (reset : Option Reset) (d : ℕ) (kept : Kept) (ts : List Token) (xs ys : List (Step Kept Token)) → said_tokens reset d kept ts (xs ++ ys) ≡ said_tokens reset d kept ts xs ++ ys
+tokens_then : (reset : Option Reset) (d : ℕ) (kept : Kept) (ts : List Token) (xs ys : List (ServerStep Kept Token)) → said_tokens reset d kept ts (xs ++ ys) ≡ said_tokens reset d kept ts xs ++ ys
 tokens_then reset d kept [] xs ys = refl
-tokens_then reset d kept (t ∷ ts) xs ys = ap (λ (zs : List (Step Kept Token)). Says (item_of t) (record { transaction = moved reset d t; settings = kept }) ∷ zs) (tokens_then reset (moved reset d t) kept ts xs ys)
+tokens_then reset d kept (t ∷ ts) xs ys = ap (λ (zs : List (ServerStep Kept Token)). Says (item_of t) (record { transaction = moved reset d t; settings = kept }) ∷ zs) (tokens_then reset (moved reset d t) kept ts xs ys)
 
-ends_then : (last : Bool) (ys : List (Step Kept Token)) → ends_if last ys ≡ ends_if last [] ++ ys
+ends_then : (last : Bool) (ys : List (ServerStep Kept Token)) → ends_if last ys ≡ ends_if last [] ++ ys
 ends_then true ys = refl
 ends_then false ys = refl
 
-pub step_then : (d : ℕ) (s : answer.Step) (ys : List (Step Kept Token)) → said_step d s ys ≡ said_step d s [] ++ ys
+pub step_then : (d : ℕ) (s : answer.Step) (ys : List (ServerStep Kept Token)) → said_step d s ys ≡ said_step d s [] ++ ys
 step_then d s ys =
     let kept : Kept = record { settings = s.after.settings; midway = not s.last } in
-    ap (λ (zs : List (Step Kept Token)). said_tokens s.reset d kept s.tokens zs) (ends_then s.last ys) ∙ tokens_then s.reset d kept s.tokens (ends_if s.last []) ys
+    ap (λ (zs : List (ServerStep Kept Token)). said_tokens s.reset d kept s.tokens zs) (ends_then s.last ys) ∙ tokens_then s.reset d kept s.tokens (ends_if s.last []) ys
 
 -- ---- What comes of it
 
-pub tokens_things : (reset : Option Reset) (d : ℕ) (kept : Kept) (ts : List Token) (others : List (Step Kept Token)) → things_said (said_tokens reset d kept ts others) ≡ then_items (items_of ts) (things_said others)
+pub tokens_things : (reset : Option Reset) (d : ℕ) (kept : Kept) (ts : List Token) (others : List (ServerStep Kept Token)) → things_said (said_tokens reset d kept ts others) ≡ then_items (items_of ts) (things_said others)
 tokens_things reset d kept [] others = refl
 tokens_things reset d kept (t ∷ ts) others = ap (λ (zs : List (Thing Token)). A (item_of t) ∷ zs) (tokens_things reset (moved reset d t) kept ts others)
 
@@ -120,7 +120,7 @@ last_midway s (t ∷ ss) n e = ap not e.0 ∙ some_taken n
 
 -- ---- What is said to an attention
 
-abbrev pub stop_at : Bool → ℕ → List (Option ℤ) → List (Step Kept Token)
+abbrev pub stop_at : Bool → ℕ → List (Option ℤ) → List (ServerStep Kept Token)
 stop_at true d settings = said_tokens None d (record { settings = settings; midway = false }) (acknowledging (change.Rollback d ∷ [])) (Ends ∷ [])
 stop_at false d settings = said_tokens None d (record { settings = settings; midway = false }) (acknowledging []) (Ends ∷ [])
 

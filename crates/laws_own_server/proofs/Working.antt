@@ -13,7 +13,7 @@ use Rattle.tds_session.specs.Session.{is_in_transaction}
 use Rattle.tds_world.specs.Arrivals.{works_on}
 use Rattle.tds_world.specs.Connection.{Connection}
 use Rattle.tds_world.specs.Entries as entries
-use Rattle.laws_conforming_server.specs.Lawful.{Engine, Session, Step}
+use Rattle.laws_conforming_server.specs.Lawful.{Engine, Session, ServerStep}
 use Rattle.laws_conforming_server.specs.Link.{Link, Move, link_after}
 use Rattle.laws_own_server.specs.Bench.{Kept, Log, bench, said, said_step}
 use Rattle.laws_own_server.specs.Runs.{Thing, first_place, packets_in, packets_of, things_in, things_of, things_said}
@@ -21,13 +21,13 @@ use Rattle.laws_own_server.proofs.Speaking.{says_all, speaks, speaks_here}
 use Rattle.laws_own_server.proofs.Standing.{Holds, Leads, leads_on, link_of, said_both, things_both}
 use Rattle.laws_own_server.proofs.Told.{behind_step, last_midway, session, step_then, step_things}
 
-abbrev pub now_said : Connection → answer.Step → List (Step Kept Token)
+abbrev pub now_said : Connection → answer.Step → List (ServerStep Kept Token)
 now_said c s = said_step c.session.descriptor s []
 
 abbrev pub behind_it : answer.Step → Session Kept
 behind_it s = session s.after.descriptor (record { settings = s.after.settings; midway = not s.last })
 
-work_down : (c : Connection) (s : answer.Step) (down : List (Step Kept Token)) → things_said down ≡ things_of c.to_client.waiting
+work_down : (c : Connection) (s : answer.Step) (down : List (ServerStep Kept Token)) → things_said down ≡ things_of c.to_client.waiting
     → things_said (down ++ now_said c s) ≡ things_of (c.to_client.waiting ++ entries.Step c.answering (c.taken + 1) s ∷ [])
 work_down c s down h =
     said_both down (now_said c s)
@@ -44,8 +44,8 @@ work_leads attention answers log moves c s ss e some tells once l =
     let link : Link Kept Token = link_of attention answers log moves in
     let h : Holds c c.to_server.waiting c.to_client.waiting link = l.holds in
     let d : Connection = works_on c (s ∷ ss) in
-    let steps : List (Step Kept Token) = now_said c s in
-    let rest : List (Step Kept Token) = said s.after.descriptor ss in
+    let steps : List (ServerStep Kept Token) = now_said c s in
+    let rest : List (ServerStep Kept Token) = said s.after.descriptor ss in
     let due : link.server.due ≡ steps ++ rest =
     h.due ∙ ap (λ (xs : List answer.Step). said c.session.descriptor xs) e ∙ step_then c.session.descriptor s rest in
     let r = says_all engine link steps rest due in

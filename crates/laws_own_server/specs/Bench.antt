@@ -14,7 +14,7 @@ use Rattle.tds_session.specs.Attention.{Stop, acknowledging, stopped}
 use Rattle.tds_session.specs.Session.{SessionState, no_settings}
 use Rattle.tds_client.specs.Signs.{sign_of}
 use Rattle.tds_service.specs.Parts.{Item}
-use Rattle.laws_conforming_server.specs.Lawful.{Session, Step, Says, Ends, Engine}
+use Rattle.laws_conforming_server.specs.Lawful.{Session, ServerStep, Says, Ends, Engine}
 
 -- What a reset sets anew: the settings of the keys. And whether an answer is in its middle: behind its first step, and before its last.
 -- Behind a login and behind a full reset that says nothing, since there is no transaction to be rolled back.
@@ -42,27 +42,27 @@ moved reset descriptor (token.Env change) = moved_by reset descriptor change
 moved reset descriptor _ = descriptor
 
 -- Tokens, one after the other, and then the rest.
-abbrev pub said_tokens : Option Reset → ℕ → Kept → List Token → List (Step Kept Token) → List (Step Kept Token)
+abbrev pub said_tokens : Option Reset → ℕ → Kept → List Token → List (ServerStep Kept Token) → List (ServerStep Kept Token)
 said_tokens reset descriptor kept [] others = others
 said_tokens reset descriptor kept (t ∷ ts) others =
     Says (item_of t) (record { transaction = moved reset descriptor t; settings = kept })
     ∷ said_tokens reset (moved reset descriptor t) kept ts others
 
-abbrev pub ends_if : Bool → List (Step Kept Token) → List (Step Kept Token)
+abbrev pub ends_if : Bool → List (ServerStep Kept Token) → List (ServerStep Kept Token)
 ends_if true others = Ends ∷ others
 ends_if false others = others
 
 -- A step of an answer: its tokens, of which each has the settings behind the step, and the message's end behind the last one.
-abbrev pub said_step : ℕ → answer.Step → List (Step Kept Token) → List (Step Kept Token)
+abbrev pub said_step : ℕ → answer.Step → List (ServerStep Kept Token) → List (ServerStep Kept Token)
 said_step descriptor s others =
     said_tokens s.reset descriptor (record { settings = s.after.settings; midway = not s.last }) s.tokens (ends_if s.last others)
 
-abbrev pub said : ℕ → List answer.Step → List (Step Kept Token)
+abbrev pub said : ℕ → List answer.Step → List (ServerStep Kept Token)
 said descriptor [] = []
 said descriptor (s ∷ ss) = said_step descriptor s (said s.after.descriptor ss)
 
 -- What acknowledges an attention: the changes that it tells, and a DONE with bit 0020, which end a message.
-abbrev pub said_stop : ℕ → Stop → List (Step Kept Token)
+abbrev pub said_stop : ℕ → Stop → List (ServerStep Kept Token)
 said_stop descriptor stop =
     said_tokens None descriptor (record { settings = stop.after.settings; midway = false }) (acknowledging stop.changes) (Ends ∷ [])
 

@@ -98,7 +98,7 @@ things_of (Step r place s ∷ es) = then_items (items_of s.tokens) (then_close (
 things_of (Acknowledgement r place changes ∷ es) = then_items (items_of (acknowledging changes)) (MessageEnd ∷ things_of es)
 
 -- Of what a lawful server said.
-abbrev pub things_said : {V T : Type 0} → List (lawful.Step V T) → List (Thing T)
+abbrev pub things_said : {V T : Type 0} → List (lawful.ServerStep V T) → List (Thing T)
 things_said [] = []
 things_said (lawful.Says item after ∷ steps) = A item ∷ things_said steps
 things_said (lawful.Ends ∷ steps) = MessageEnd ∷ things_said steps

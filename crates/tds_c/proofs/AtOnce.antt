@@ -12,9 +12,9 @@ use Rattle.tds_wire.specs.declared.told.ChangeValue.TheVariants as changes
 use Rattle.tds_wire.specs.declared.told.Told.{Told}
 use Rattle.tds_wire.specs.declared.told.Told.TheVariants as told
 use Rattle.tds_wire.specs.declared.told.Token.{Token}
-use Rattle.tds_wire.specs.Bytes.{Over, onward, step, to_end}
+use Rattle.tds_wire.specs.Bytes.{Over, onward, walk_step, to_end}
 use Rattle.tds_wire.specs.Layout.{is_done}
-use Rattle.tds_wire.specs.Reading.{IsReady, Reading, Sees, behind, found_by, found_on, front_of, next_token, token_with}
+use Rattle.tds_wire.specs.Reading.{IsReady, Parser, Sees, behind, found_by, found_on, front_of, next_token, token_with}
 use Rattle.tds_wire.specs.Told.{added, change_value, long_at, short_at, told_of, wide_at}
 use Rattle.tds_wire.specs.Walking.{Walk, begun, ended, pass, with_due, with_kind, with_number, with_run}
 use Rattle.tds_wire.specs.Whole.{IsNext, IsWhole, behind_whole}
@@ -27,7 +27,7 @@ between w [] = refl
 between w (b ∷ bytes) = refl
 
 run_over : (n : ℕ) (w : Walk) (bytes : List ℕ) → suc n ≤ length bytes → to_end (with_run w (suc n) Ended) bytes ≡ Over (ended w) (drop (suc n) bytes)
-unfolding to_end step
+unfolding to_end walk_step
 run_over n w [] h = absurd (omega (arith, h))
 run_over zero w (b ∷ bytes) h = between w bytes
 run_over (suc n) w (b ∷ bytes) h =
@@ -36,7 +36,7 @@ run_over (suc n) w (b ∷ bytes) h =
     rw t (rw m (run_over n w bytes (omega (arith, h))))
 
 begins : (w : Walk) (b : ℕ) (bytes : List ℕ) → w.at.due ≡ IsDue → onward w (b ∷ bytes) ≡ to_end (begun (with_kind w b) b) bytes
-unfolding onward step
+unfolding onward walk_step
 begins w b bytes d = rw d refl
 
 kept_due : (w : Walk) (b : ℕ) (rest : List ℕ) → w.at.due ≡ IsDue → Over (ended (with_kind w b)) rest ≡ Over (with_kind w b) rest
@@ -62,7 +62,7 @@ change_begun w = refl
 
 change_over : (w : Walk) (a b c : ℕ) (bytes : List ℕ) → (spelled a b % 65536 == 0) ≡ false → (c == 15) ≡ false → spelled a b % 65536 - 1 ≡ 2 → 2 ≤ length bytes
     → to_end (with_number w (field.Token in_token.ChangeLength)) (a ∷ b ∷ c ∷ bytes) ≡ Over (ended w) (drop 2 bytes)
-unfolding to_end step pass
+unfolding to_end walk_step pass
 change_over w a b c bytes z t k h = rw z (rw t (rw k (run_over 1 (with_due w (Number (field.Token (in_token.Change 2)) 1 0)) bytes h)))
 
 pub reset_whole : (rest : List ℕ) → IsWhole 6 (0xE3 ∷ 3 ∷ 0 ∷ 18 ∷ 0 ∷ 0 ∷ rest)
@@ -90,7 +90,7 @@ reset_told start rest = refl
 
 -- ---- The next token
 
-module _ (r : Reading) (piece : List ℕ) (n : ℕ) (few : n ≤ length piece) where
+module _ (r : Parser) (piece : List ℕ) (n : ℕ) (few : n ≤ length piece) where
   front_is : front_of piece (drop n piece) ≡ take n piece
   front_is =
       let e : length piece - length (drop n piece) ≡ n = omega (arith, length-drop n piece, few) in
@@ -107,7 +107,7 @@ module _ (r : Reading) (piece : List ℕ) (n : ℕ) (few : n ≤ length piece) w
 abbrev pub token_of : ℕ → ℕ → List ℕ → Token
 token_of start n piece = record { kind = get_or piece 0 0; start = start; length = n; told = told_of (get_or piece 0 0) start n (take 24 (take n piece)) }
 
-same : (t u : Token) (r s : Reading) (rest : List ℕ) → t ≡ u → r ≡ s → Sees t r rest ≡ Sees u s rest
+same : (t u : Token) (r s : Parser) (rest : List ℕ) → t ≡ u → r ≡ s → Sees t r rest ≡ Sees u s rest
 same t u r s rest e f = cc
 
 token_is : (kind start from passed n : ℕ) (head last : List ℕ) → start ≡ from → passed ≡ 0 → head ≡ [] → n ≡ added 0 (length last)
@@ -123,7 +123,7 @@ is_next start n piece few small whole = λ r ready s.
     let e : min 18446744073709551615 (r.start + min 18446744073709551615 (r.passed + length (take n piece))) ≡ min 18446744073709551615 (r.start + n) = omega (arith, l, ready.passed, small) in
     sym (seen r piece n few w ready.whole (whole r.walk ready.walk.due)
     ∙ same _ _ _ _ (drop n piece) (token_is w.at.kind r.start start r.passed n r.head (take n piece) s ready.passed ready.head long)
-    (ap (λ (k : ℕ). let x : Reading = record { walk = w; head = []; start = k; passed = 0; refused = None } in x) e))
+    (ap (λ (k : ℕ). let x : Parser = record { walk = w; head = []; start = k; passed = 0; refused = None } in x) e))
 
 -- ---- Each of them
 

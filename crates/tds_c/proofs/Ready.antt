@@ -22,7 +22,7 @@ use Rattle.tds_wire.specs.declared.memory.Memory.{Memory}
 use Rattle.tds_wire.specs.declared.told.Token.{Token}
 use Rattle.tds_wire.specs.Lent.{head_of, reading_of}
 use Rattle.tds_wire.specs.Memory.{shape_of, shapes_of}
-use Rattle.tds_wire.specs.Reading.{IsReady, Reading, Sees, is_between, next_token, restarted}
+use Rattle.tds_wire.specs.Reading.{IsReady, Parser, Sees, is_between, next_token, restarted}
 use Rattle.tds_wire.specs.Told.{added}
 use Rattle.tds_wire.specs.Whole.{IsNext, behind_whole}
 use Rattle.tds_walk.specs.declared.walk.TdsWire.{TdsWire}
@@ -38,7 +38,7 @@ in_some (Some x) is = (x, refl)
 in_some None is = absurd cc
 
 -- the parser that it is
-abbrev pub reading_in : TdsWire → Memory → Inside → Reading
+abbrev pub reading_in : TdsWire → Memory → Inside → Parser
 reading_in w m inside = record {
   walk = record {
     at = record { due = IsDue; kind = w.kind; inside = inside; shape = shape_of w.shape; ciphered = truth w.ciphered; left = w.entries; parts = w.parts };
@@ -53,7 +53,7 @@ reading_in w m inside = record {
   refused = None;
 }
 
-abbrev pub at_ready : (w : TdsWire) → Memory → Ready w → Reading
+abbrev pub at_ready : (w : TdsWire) → Memory → Ready w → Parser
 at_ready w m ready = reading_in w m (in_some (inside_from w.inside) ready.inside).0
 
 is_in : (w : TdsWire) (m : Memory) (inside : Inside) → Ready w → inside_from w.inside ≡ Some inside → reading_from w m ≡ Some (reading_in w m inside)
@@ -79,32 +79,32 @@ module _ (w : TdsWire) (m : Memory) (ready : Ready w) (columns : length (shapes_
       ≡ Ok (record { told = told_if (tells s.stage) token; session = next; reading = at_ready (record w { kind = get_or bytes 0 0; start = added w.start n }) m (moved w (get_or bytes 0 0) (added w.start n) ready); rest = drop n bytes })
   whole_heard next heard = ap (moved_by s) sees ∙ rw heard refl
 
-same : (a b : Reading) → (let r : Option Reading = Some a in r) ≡ Some b → a ≡ b
+same : (a b : Parser) → (let r : Option Parser = Some a in r) ≡ Some b → a ≡ b
 same a b e = cc
 
-pub is_the : (w : TdsWire) (m : Memory) (ready : Ready w) (r : Reading) → reading_from w m ≡ Some r → r ≡ at_ready w m ready
+pub is_the : (w : TdsWire) (m : Memory) (ready : Ready w) (r : Parser) → reading_from w m ≡ Some r → r ≡ at_ready w m ready
 is_the w m ready r e = same r (at_ready w m ready) (sym e ∙ is_at_ready w m ready)
 
 pub is_read : (w : TdsWire) (m : Memory) (lent : LentWalk) → walk_from w ≡ Some lent → reading_from w m ≡ Some (reading_of lent m)
 is_read w m lent e = rw e refl
 
-pub read_as : (w : TdsWire) (m : Memory) (lent : LentWalk) (r : Reading) → walk_from w ≡ Some lent → reading_from w m ≡ Some r → r ≡ reading_of lent m
+pub read_as : (w : TdsWire) (m : Memory) (lent : LentWalk) (r : Parser) → walk_from w ≡ Some lent → reading_from w m ≡ Some r → r ≡ reading_of lent m
 read_as w m lent r e at = same r (reading_of lent m) (sym at ∙ is_read w m lent e)
 
-abbrev pub so_far : Place → ClientSession → Reading → List ℕ → List TdsWireToken → List TdsWireToken → ℕ → Type 0
+abbrev pub so_far : Place → ClientSession → Parser → List ℕ → List TdsWireToken → List TdsWireToken → ℕ → Type 0
 so_far first s r rest before after count =
     HasHeard first (record { session = s; reading = r; rest = rest }) (record { before = before; after = after; count = count })
 
 -- one more token was heard that stands whole
 pub whole_on : (w : TdsWire) (m : Memory) (ready : Ready w) → length (shapes_of m) ≤ 4096 → length m.nulls ≡ 512
-    → (s next : ClientSession) (token : Token) (n done : ℕ) (bytes piece : List ℕ) (first : Place) (r : Reading) (before after new : List TdsWireToken) (i j kind start : ℕ)
+    → (s next : ClientSession) (token : Token) (n done : ℕ) (bytes piece : List ℕ) (first : Place) (r : Parser) (before after new : List TdsWireToken) (i j kind start : ℕ)
     → piece ≡ drop done bytes → IsNext w.start n (Some token) piece → signed Any s (sign_of token) ≡ Ok next → kind ≡ get_or piece 0 0 → start ≡ added w.start n
     → length after ≡ length before → Puts (told_if (tells s.stage) token) (record { before = after; after = new; count = j }) i
     → reading_from w m ≡ Some r → so_far first s r (drop done bytes) before after i
-    → (x : Reading) × (reading_from (record w { kind = kind; start = start }) m ≡ Some x) × so_far first next x (drop (done + n) bytes) before new j
+    → (x : Parser) × (reading_from (record w { kind = kind; start = start }) m ≡ Some x) × so_far first next x (drop (done + n) bytes) before new j
 whole_on w m ready columns nulls s next token n done bytes piece first r before after new i j kind start is_piece is heard is_kind is_start long put at so =
     let here : so_far first s (at_ready w m ready) piece before after i =
-    rw is_piece (subst (λ (x : Reading). so_far first s x (drop done bytes) before after i) (is_the w m ready r at) so) in
+    rw is_piece (subst (λ (x : Parser). so_far first s x (drop done bytes) before after i) (is_the w m ready r at) so) in
     let there = at_ready (record w { kind = get_or piece 0 0; start = added w.start n }) m (moved w (get_or piece 0 0) (added w.start n) ready) in
     let behind : so_far first next there (drop n piece) before new j =
     heard_on first _ _ before after new i j long (whole_heard w m ready columns nulls s token n piece is next heard) put here in
@@ -138,13 +138,13 @@ tells_reading (Broken fault) e = absurd (let u : ⊥ = cc in u)
 
 -- ---- The end of a message
 
-pub stands_between : (w : TdsWire) (m : Memory) (ready : Ready w) (r : Reading) → reading_from w m ≡ Some r → is_between r ≡ true
+pub stands_between : (w : TdsWire) (m : Memory) (ready : Ready w) (r : Parser) → reading_from w m ≡ Some r → is_between r ≡ true
 stands_between w m ready r at = rw (is_the w m ready r at) refl
 
 forgotten : (m : Memory) → shapes_of (record m { count = 0 }) ≡ []
 unfolding shapes_of
 forgotten m = refl
 
-pub anew : (w : TdsWire) (m : Memory) (ready : Ready w) (r : Reading) → reading_from w m ≡ Some r → reading_from (record w { start = 0 }) (record m { count = 0 }) ≡ Some (restarted r)
+pub anew : (w : TdsWire) (m : Memory) (ready : Ready w) (r : Parser) → reading_from w m ≡ Some r → reading_from (record w { start = 0 }) (record m { count = 0 }) ≡ Some (restarted r)
 anew w m ready r at =
     is_at_ready (record w { start = 0 }) (record m { count = 0 }) (moved w w.kind 0 ready) ∙ rw (is_the w m ready r at, forgotten m) refl

@@ -14,7 +14,7 @@ use Rattle.tds_listen.specs.Signs.{sign_of}
 use Rattle.tds_wire.specs.declared.memory.Memory.{Memory}
 use Rattle.tds_wire.specs.declared.told.Token.{Token}
 use Rattle.tds_wire.specs.Faults as wire
-use Rattle.tds_wire.specs.Reading.{Reading, restarted}
+use Rattle.tds_wire.specs.Reading.{Parser, restarted}
 use Rattle.tds_wire.specs.Told.{added}
 use Rattle.tds_wire.specs.Whole.{IsNext}
 use Rattle.tds_c.specs.declared.client.TdsClient.{TdsClient}
@@ -53,7 +53,7 @@ came_number (came.BrokenAtEnd fault) = fault_number fault
 -- the client and the parser, before bytes that are left
 pub record Place : Type 0 where
   pub session : ClientSession
-  pub reading : Reading
+  pub reading : Parser
   pub rest : List ℕ
 
 abbrev pub behind : Move → Place
@@ -91,7 +91,7 @@ pub record State : Type 0 where
   pub memory : Memory
 
 -- Behind bytes that were refused it says which one.
-abbrev pub TellsFault : ListenFault → Reading → Type 0
+abbrev pub TellsFault : ListenFault → Parser → Type 0
 TellsFault (faults.Client fault) r = Unit {0}
 TellsFault (faults.Wire refusal) r = r.refused ≡ Some refusal
 TellsFault faults.Cut r = Unit {0}
@@ -140,7 +140,7 @@ HearsFrom first h is =
     (now : Both) × (h.after.client ≡ value_of now.session 0) × (reading_from h.after.walk h.after.memory ≡ Some now.reading)
     × (h.taken ≤ length h.bytes) × StopsBehind first (drop h.taken h.bytes) now (truth h.ends) h.room is
 
-abbrev pub HearsBy : Option ClientSession → Option Reading → Hearing → Came → Type 0
+abbrev pub HearsBy : Option ClientSession → Option Parser → Hearing → Came → Type 0
 HearsBy None r h is = NothingDone h is
 HearsBy (Some s) None h is = NothingDone h is
 HearsBy (Some s) (Some r) h is = HearsFrom (record { session = s; reading = r; rest = h.bytes }) h is

@@ -2,7 +2,7 @@
 //! by their bytes.
 
 ghost use Rattle.std.specs.Prelude.{◌≡◌, ◌<◌, ◌^◌, ◌++◌, [], Ok, Some, IfErr, IfOk};
-ghost use Rattle.tds_client.specs.Packets.{attention, ignore};
+ghost use Rattle.tds_client.specs.Packets.{stop_bytes, ignore};
 ghost use Rattle.tds_client.specs.Parts.{AreParts, session_from};
 ghost use Rattle.tds_client.specs.Sending.{cancelled, refusal_of};
 ghost use Rattle.tds_c.specs.Calls.{written_bytes};
@@ -56,7 +56,7 @@ impl Ending {
 /// An attention (MS-TDS 2.2.1.7).
 #[inline(always)]
 fn attention_packet() -> [u8; 8]
-    ensures { result ≡ attention }
+    ensures { result ≡ stop_bytes }
 {
     [6, 1, 0, 8, 0, 0, 1, 0]
 }
@@ -66,7 +66,7 @@ fn attention_packet() -> [u8; 8]
 #[inline(always)]
 fn both_packets(kind: Kind, before: usize) -> [u8; 16]
     requires { before < 2 ^ 63 }
-    ensures { result ≡ ignore kind before ++ attention }
+    ensures { result ≡ ignore kind before ++ stop_bytes }
 {
     let id = ((before + 1) % 256) as u8;
     [kind.byte(), 3, 0, 8, 0, 0, id, 0, 6, 1, 0, 8, 0, 0, 1, 0]

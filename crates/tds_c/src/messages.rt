@@ -1,7 +1,7 @@
 //! The messages of requests, written to the caller's buffer.
 
 ghost use Rattle.std.specs.Prelude.{◌≡◌, ◌+◌, ◌*◌, ◌≤◌, ◌++◌, ℕ, List, length};
-ghost use Rattle.tds_request.specs.Layout.{body_of, spelling, text_bytes};
+ghost use Rattle.tds_request.specs.Layout.{body_of, request_spelling, text_bytes};
 ghost use Rattle.tds_request.specs.declared.request.Request.TheVariants.{Batch};
 ghost use Rattle.tds_c.specs.declared.messages.Asked.{Asked};
 ghost use Rattle.tds_c.specs.Calls.{body_bytes, request_of, with_front};
@@ -13,7 +13,7 @@ use tds_request::headers;
 #[inline(always)]
 pub(crate) fn put_batch(descriptor: u64, text: &[u16], out: &mut [u8])
     requires room { 22 + 2 * length text.now ≤ length out.old }
-    ensures { out.new ≡ with_front (spelling descriptor (Batch text.now)) out.old }
+    ensures { out.new ≡ with_front (request_spelling descriptor (Batch text.now)) out.old }
 {
     put_at(out, 0, &headers(descriptor));
     put_units(out, 22, text);
@@ -83,7 +83,7 @@ impl Body {
 pub(crate) fn put_asked(descriptor: u64, body: &Body, out: &mut [u8])
     requires room { 22 + length (body_bytes body.now) ≤ length out.old }
     ensures { (asked : Asked) → body_bytes body.now ≡ body_of (request_of asked)
-        → out.new ≡ with_front (spelling descriptor (request_of asked)) out.old }
+        → out.new ≡ with_front (request_spelling descriptor (request_of asked)) out.old }
 {
     put_at(out, 0, &headers(descriptor));
     put_at(out, 22, body.as_slice());

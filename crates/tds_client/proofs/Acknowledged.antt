@@ -16,7 +16,7 @@ use Rattle.tds_client.specs.declared.sign.Sign.TheVariants as signs
 use Rattle.tds_client.specs.declared.state.Taken.{Taken}
 use Rattle.tds_client.specs.declared.state.Taken.TheVariants as takes
 use Rattle.tds_client.specs.Acts.{Act, MarkReset, Start, Send, Cancel, Lose, Stream, Hear, heard_turn, act, behind, message_behind, message_of, is_acknowledgement, has_acknowledgement}
-use Rattle.tds_client.specs.Hearing.{◌>>=◌, hear_sign, strict_sign, strict_before, any_sign, hear_change, hear_done, place_change, place_done, changed, with_done, done_behind, may_end}
+use Rattle.tds_client.specs.Hearing.{◌>>=◌, hear_sign, strict_sign, strict_before, any_sign, hear_change, hear_done, place_change, place_done, descriptor_changed, with_done, done_behind, may_end}
 use Rattle.tds_client.specs.Machine.{ItemMove, Token, MessageEnd, signed_in, ended_in, message_ended, with_heard, going_on, end_read, end_skipped}
 use Rattle.tds_client.specs.Session.{ClientSession, Stage, Idle, Sending, Reading, Cancelling, Broken, new_session, with_stage, lost_stage, marked, unless_idle}
 use Rattle.tds_client.proofs.Leaving.{Leaves, is_broken, mark_leaves, start_leaves, send_leaves, stream_leaves, cancel_leaves}
@@ -50,7 +50,7 @@ or_true true = refl
 or_true false = refl
 
 module _ (heard next : Heard) where
-  by_change : (change : EnvChange) (o : Option ℕ) → changed heard change o ≡ Ok next → Tells heard (signs.Change change) next
+  by_change : (change : EnvChange) (o : Option ℕ) → descriptor_changed heard change o ≡ Ok next → Tells heard (signs.Change change) next
   by_change change None e = absurd cc
   by_change change (Some d) e = sym (ap (λ (h : Heard). is_acknowledging h.done) (heard_is _ next e)) ∙ or_none (is_acknowledging heard.done)
 

@@ -17,7 +17,7 @@ use Rattle.tds_client.specs.declared.sign.Rules.TheVariants.{Strict, Any}
 use Rattle.tds_client.specs.declared.sign.Sign.{Sign}
 use Rattle.tds_client.specs.declared.sign.Sign.TheVariants as signs
 use Rattle.tds_client.specs.Acts.{IsPlaced}
-use Rattle.tds_client.specs.Hearing.{◌>>=◌, hear_sign, strict_sign, strict_before, any_sign, hear_change, hear_done, place_change, place_done, reset_told, is_full, changed, with_done, done_behind}
+use Rattle.tds_client.specs.Hearing.{◌>>=◌, hear_sign, strict_sign, strict_before, any_sign, hear_change, hear_done, place_change, place_done, reset_told, is_full, descriptor_changed, with_done, done_behind}
 use Rattle.tds_client.specs.Machine.{signed, signed_in, with_heard}
 use Rattle.tds_client.specs.Session.{ClientSession, Stage, Idle, Sending, Reading, Cancelling, Broken}
 use Rattle.tds_client.proofs.Placed.{different}
@@ -28,13 +28,13 @@ Answer = Result Heard ClientFault
 -- ---- Changes
 
 begin_alike : (heard next : Heard) (d : ℕ) (none full known : Bool) → none ≡ false → full ≡ false
-    → changed heard (Begin d) (cond known (Some d) None) ≡ Ok next → changed heard (Begin d) (cond (none || full) None (cond (known || (heard.descriptor == d)) (Some d) None)) ≡ Ok next
+    → descriptor_changed heard (Begin d) (cond known (Some d) None) ≡ Ok next → descriptor_changed heard (Begin d) (cond (none || full) None (cond (known || (heard.descriptor == d)) (Some d) None)) ≡ Ok next
 begin_alike heard next d false false true a b e = e
 begin_alike heard next d none full false a b e = absurd cc
 begin_alike heard next d true full true a b e = absurd cc
 begin_alike heard next d false true true a b e = absurd cc
 
-end_alike : (heard next : Heard) (change : EnvChange) (none known : Bool) → changed heard change (cond known (Some 0) None) ≡ Ok next → changed heard change (cond (none || known) (Some 0) None) ≡ Ok next
+end_alike : (heard next : Heard) (change : EnvChange) (none known : Bool) → descriptor_changed heard change (cond known (Some 0) None) ≡ Ok next → descriptor_changed heard change (cond (none || known) (Some 0) None) ≡ Ok next
 end_alike heard next change true true e = e
 end_alike heard next change false true e = e
 end_alike heard next change none false e = absurd cc
@@ -44,8 +44,8 @@ not_full None n = refl
 not_full (Some Full) n = absurd (n refl)
 not_full (Some KeepTransaction) n = refl
 
-reset_alike : (heard next : Heard) (mark : Option Reset) → changed heard ResetDone (reset_effect mark heard.descriptor) ≡ Ok next
-    → changed heard ResetDone (Some (reset_told mark heard.descriptor)) ≡ Ok next
+reset_alike : (heard next : Heard) (mark : Option Reset) → descriptor_changed heard ResetDone (reset_effect mark heard.descriptor) ≡ Ok next
+    → descriptor_changed heard ResetDone (Some (reset_told mark heard.descriptor)) ≡ Ok next
 reset_alike heard next None e = absurd cc
 reset_alike heard next (Some Full) e = e
 reset_alike heard next (Some KeepTransaction) e = e

@@ -27,11 +27,11 @@ use Rattle.tds_client.specs.declared.state.Cancelled.TheVariants as cancels
 use Rattle.tds_client.specs.Calls.{Call, MarkReset, Start, Send, Cancel, Take, Lose, Stream, Turn, streamed, silent, unless_refused, effect_of, took_of, turn, after, appended, turns}
 use Rattle.tds_client.specs.Hearing.{◌>>=◌, hear_packet}
 use Rattle.tds_packet.specs.Sent.{sent_header}
-use Rattle.tds_client.specs.Packets.{attention, ignore}
+use Rattle.tds_client.specs.Packets.{stop_bytes, ignore}
 use Rattle.tds_client.specs.Promises.{Packet, IsPart, ArePackets, one_if, is_attention, attentions, acknowledgements, AtMostAttentions, AsksOnce, LeavesBy, ends_message}
 use Rattle.tds_client.specs.Sending.{Effect, room, started, sent, sent_in, cancelled, cancelled_in, cancelled_sending}
 use Rattle.tds_client.specs.Session.{ClientSession, Stage, Idle, Sending, Reading, Cancelling, Broken, new_session, with_stage, lost_stage, marked, unless_idle}
-use Rattle.tds_client.specs.Taking.{ClientMove, taken, taken_in, taken_reading, taken_cancelling, read, skipped, skipped_to_end, goes_on, ended, broken_by}
+use Rattle.tds_client.specs.Taking.{ClientMove, taken, taken_in, taken_reading, taken_cancelling, read, skipped, skipped_to_end, goes_on, behind_message, broken_by}
 use Rattle.tds_client.specs.Streams.{Step, Open, Put, Finish, full_packets, left_behind, opened, put_in, finished_in}
 use Rattle.tds_client.proofs.Spelled.{KindIn, Many, one_packet, joined, counted_both, one_of, both, many, stream_none}
 use Rattle.tds_client.proofs.Streaming.{left_at_most, out_at_most, stream_directed}
@@ -177,7 +177,7 @@ streams size s Finish h = finishes_in size s s.stage h refl
 abbrev attention_packet : Packet
 attention_packet = record { header = sent_header kinds.Attention 1 1 []; content = [] }
 
-attention_is : (size : ℕ) → IsPacketSize size → IsLaidOut ToServer size attention attention_packet.header []
+attention_is : (size : ℕ) → IsPacketSize size → IsLaidOut ToServer size stop_bytes attention_packet.header []
 unfolding is_status
 attention_is size lawful = record { spelled = refl; counted = refl; fits = omega arith; directed = refl; status = refl; ends = λ e. refl }
 
@@ -194,14 +194,14 @@ record Asks (size : ℕ) (bytes : List ℕ) : Type 0 where
   spelled : ArePackets size bytes (others ++ attention_packet ∷ [])
   none : attentions others ≡ 0
 
-asks_alone : (size : ℕ) → IsPacketSize size → Asks size attention
-asks_alone size lawful = record { others = []; spelled = one_packet size attention attention_packet (attention_is size lawful); none = refl }
+asks_alone : (size : ℕ) → IsPacketSize size → Asks size stop_bytes
+asks_alone size lawful = record { others = []; spelled = one_packet size stop_bytes attention_packet (attention_is size lawful); none = refl }
 
-asks_behind : (size : ℕ) (kind : Kind) (before : ℕ) → IsPacketSize size → KindIn (Sending kind [] before) → Asks size (ignore kind before ++ attention)
+asks_behind : (size : ℕ) (kind : Kind) (before : ℕ) → IsPacketSize size → KindIn (Sending kind [] before) → Asks size (ignore kind before ++ stop_bytes)
 asks_behind size kind before lawful kind_is = record {
   others = ignore_packet kind before ∷ [];
-  spelled = joined size (ignore kind before) attention (ignore_packet kind before ∷ []) (attention_packet ∷ [])
-      (one_packet size (ignore kind before) (ignore_packet kind before) (ignore_is size kind before lawful kind_is.0)) (one_packet size attention attention_packet (attention_is size lawful));
+  spelled = joined size (ignore kind before) stop_bytes (ignore_packet kind before ∷ []) (attention_packet ∷ [])
+      (one_packet size (ignore kind before) (ignore_packet kind before) (ignore_is size kind before lawful kind_is.0)) (one_packet size stop_bytes attention_packet (attention_is size lawful));
   none = omega (arith, ap one_if kind_is.1);
 }
 
@@ -223,9 +223,9 @@ asked size s bytes h a = record {
 }
 
 cancels_sending : (size : ℕ) (s : ClientSession) (kind : Kind) (before : ℕ) (b : Bool) → IsCalled size s → KindIn (Sending kind [] before)
-    → Cancels size 0 (cond b (record { answer = cancels.Unsent; session = with_stage s Idle; bytes = [] }) (record { answer = cancels.Asked; session = with_stage s Cancelling; bytes = ignore kind before ++ attention }))
+    → Cancels size 0 (cond b (record { answer = cancels.Unsent; session = with_stage s Idle; bytes = [] }) (record { answer = cancels.Asked; session = with_stage s Cancelling; bytes = ignore kind before ++ stop_bytes }))
 cancels_sending size s kind before true h kind_is = record { keeps = quiet size 0 (with_stage s Idle) h.size_is tt (omega arith); asks = refl }
-cancels_sending size s kind before false h kind_is = asked size s (ignore kind before ++ attention) h (asks_behind size kind before h.lawful kind_is)
+cancels_sending size s kind before false h kind_is = asked size s (ignore kind before ++ stop_bytes) h (asks_behind size kind before h.lawful kind_is)
 
 -- A cancel is refused, or does this.
 abbrev CancelsBy : ℕ → ClientSession → ℕ → Result (Effect Cancelled) ClientRefusal → Type 0
@@ -236,7 +236,7 @@ cancels_in : (size : ℕ) (s : ClientSession) (stage : Stage) → IsCalled size 
 unfolding cancelled_sending
 cancels_in size s Idle h e = record { keeps = quiet size 0 s h.size_is h.kind (omega arith); asks = refl }
 cancels_in size s (Sending kind left before) h e = cancels_sending size s kind before (before == 0) h (subst KindIn e h.kind)
-cancels_in size s Reading h e = asked size s attention h (asks_alone size h.lawful)
+cancels_in size s Reading h e = asked size s stop_bytes h (asks_alone size h.lawful)
 cancels_in size s Cancelling h e = record { keeps = quiet size 1 s h.size_is h.kind (omega (arith, ap out e)); asks = refl }
 cancels_in size s (Broken fault) h e = quiet size 1 s h.size_is h.kind (omega (arith, ap out e))
 
@@ -254,11 +254,11 @@ breaks size s fault stage h = quiet size (out stage) (broken_by s fault) h.size_
 
 reads : (size : ℕ) (s : ClientSession) (ends : Bool) (heard : Heard) (contents : Contents) → IsCalled size s → s.stage ≡ Reading → Keeps size 0 (took_of s (Ok (read s ends heard contents)))
 reads size s false heard contents h e = quiet size 0 (goes_on s heard contents.columns) h.size_is h.kind (omega arith)
-reads size s true heard contents h e = quiet size 0 (ended s Idle heard) h.size_is tt (omega arith)
+reads size s true heard contents h e = quiet size 0 (behind_message s Idle heard) h.size_is tt (omega arith)
 
 skips_to_end : (size : ℕ) (s : ClientSession) (heard : Heard) (done : FinalDone) → IsCalled size s → Keeps size 1 (took_of s (Ok (skipped_to_end s heard done)))
-skips_to_end size s heard Awaited h = quiet size 1 (ended s Cancelling heard) h.size_is tt (omega arith)
-skips_to_end size s heard Answered h = quiet size 1 (ended s Cancelling heard) h.size_is tt (omega arith)
+skips_to_end size s heard Awaited h = quiet size 1 (behind_message s Cancelling heard) h.size_is tt (omega arith)
+skips_to_end size s heard Answered h = quiet size 1 (behind_message s Cancelling heard) h.size_is tt (omega arith)
 skips_to_end size s heard Acknowledged h = record { size_is = h.size_is; kind = tt; packets = []; spelled = refl; counted = omega arith }
 
 skips : (size : ℕ) (s : ClientSession) (ends : Bool) (heard : Heard) (contents : Contents) → IsCalled size s → s.stage ≡ Cancelling → Keeps size 1 (took_of s (Ok (skipped s ends heard contents)))

@@ -11,7 +11,7 @@ use Rattle.tds_client.specs.declared.fault.ClientFault.TheVariants as faults
 use Rattle.tds_client.specs.declared.heard.Heard.{Heard}
 use Rattle.tds_client.specs.declared.heard.FinalDone.{FinalDone}
 use Rattle.tds_client.specs.declared.heard.FinalDone.TheVariants.{Awaited, Answered, Acknowledged}
-use Rattle.tds_client.specs.Hearing.{◌>>=◌, with_done, changed, hear_change, hear_done, strict_sign, strict_before, hear, hear_all, mark_after}
+use Rattle.tds_client.specs.Hearing.{◌>>=◌, with_done, descriptor_changed, hear_change, hear_done, strict_sign, strict_before, hear, hear_all, mark_after}
 use Rattle.tds_packet.specs.Layout.{has_bit}
 use Rattle.tds_packet.specs.Resets.{reset_effect}
 use Rattle.tds_client.specs.Marks.{mark_behind}
@@ -55,7 +55,7 @@ change_allowed effect mark d x (Rollback old) allows e = e
 change_allowed effect mark d x ResetDone allows e = allows d x e
 
 change_moves : (effect : ResetEffect) (heard next : Heard) (change : EnvChange) (o : Option ℕ) → Allows effect heard.mark → change_applied (reset_effect heard.mark) heard.descriptor change ≡ o
-    → changed heard change o ≡ Ok next → Moves effect heard (tokens.Env change) next
+    → descriptor_changed heard change o ≡ Ok next → Moves effect heard (tokens.Env change) next
 change_moves effect heard next change None allows is e = absurd cc
 change_moves effect heard next change (Some d) allows is e =
     let after : Heard = record { descriptor = d; mark = mark_after change heard.mark; done = heard.done } in

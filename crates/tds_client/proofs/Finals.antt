@@ -11,7 +11,7 @@ use Rattle.tds_client.specs.declared.fault.ClientFault.TheVariants as faults
 use Rattle.tds_client.specs.declared.heard.Heard.{Heard}
 use Rattle.tds_client.specs.declared.heard.FinalDone.{FinalDone}
 use Rattle.tds_client.specs.declared.heard.FinalDone.TheVariants.{Awaited, Answered, Acknowledged}
-use Rattle.tds_client.specs.Hearing.{◌>>=◌, with_done, changed, hear_change, hear_done, strict_sign, strict_before, hear, hear_all, hear_packet, at_end_of_data, at_end_of_message}
+use Rattle.tds_client.specs.Hearing.{◌>>=◌, with_done, descriptor_changed, hear_change, hear_done, strict_sign, strict_before, hear, hear_all, hear_packet, at_end_of_data, at_end_of_message}
 use Rattle.tds_packet.specs.Layout.{has_bit}
 use Rattle.tds_client.specs.Signs.{sign_of}
 use Rattle.tds_client.specs.Promises.{final_done, status_acknowledges}
@@ -45,7 +45,7 @@ module _ (cancelling : Bool) (heard next : Heard) (ts : List Token) (others : (m
   hears_on : (middle : Heard) → middle.done ≡ Awaited → rest middle ≡ Ok next → next.done ≡ done_of (final_done ts)
   hears_on middle awaited e = others middle e ∙ ap (λ (d : FinalDone). done_behind d ts) awaited
 
-  by_change : (change : EnvChange) (o : Option ℕ) → heard.done ≡ Awaited → (changed heard change o >>= rest) ≡ Ok next → next.done ≡ done_of (final_done ts)
+  by_change : (change : EnvChange) (o : Option ℕ) → heard.done ≡ Awaited → (descriptor_changed heard change o >>= rest) ≡ Ok next → next.done ≡ done_of (final_done ts)
   by_change change None awaited e = absurd cc
   by_change change (Some d) awaited e = hears_on _ awaited e
 

@@ -17,7 +17,7 @@ use Rattle.tds_client.specs.Promises.{Packet, ArePackets, one_if, attentions, ac
 use Rattle.tds_client.specs.Session.{ClientSession, Stage, Idle, Sending, Reading, Cancelling, Broken, marked, unless_idle, lost_stage}
 use Rattle.tds_client.specs.Sending.{started, sent_in, cancelled_in}
 use Rattle.tds_client.specs.Streams.{Open, Put, Finish, opened, put_in, finished_in}
-use Rattle.tds_client.specs.Taking.{ended}
+use Rattle.tds_client.specs.Taking.{behind_message}
 use Rattle.tds_client.proofs.Attentions.{IsCalled, Keeps, Leaves, keeps, quiet, breaks, out, at_most_one, way_out}
 use Rattle.tds_client.proofs.Spelled.{joined, counted_both}
 
@@ -40,8 +40,8 @@ signs_keep size s rules sign Cancelling h e = sign_keeps size s Cancelling h e (
 signs_keep size s rules sign (Broken fault) h e = breaks size s fault (Broken fault) h
 
 skipped_keeps : (size : ℕ) (s : ClientSession) (done : FinalDone) → IsCalled size s → Keeps size 1 (heard_turn s (Ok (end_skipped s done)))
-skipped_keeps size s Awaited h = quiet size 1 (ended s Cancelling s.heard) h.size_is tt (omega arith)
-skipped_keeps size s Answered h = quiet size 1 (ended s Cancelling s.heard) h.size_is tt (omega arith)
+skipped_keeps size s Awaited h = quiet size 1 (behind_message s Cancelling s.heard) h.size_is tt (omega arith)
+skipped_keeps size s Answered h = quiet size 1 (behind_message s Cancelling s.heard) h.size_is tt (omega arith)
 skipped_keeps size s Acknowledged h = record { size_is = h.size_is; kind = tt; packets = []; spelled = refl; counted = omega arith }
 
 end_keeps : (size : ℕ) (s : ClientSession) (stage : Stage) (move : ItemMove) (b : Bool) → IsCalled size s → Keeps size (out stage) (heard_turn s (Ok move))
@@ -53,7 +53,7 @@ ends_keep : (size : ℕ) (s : ClientSession) (rules : Rules) (stage : Stage) →
 ends_keep size s rules Idle h e = breaks size s _ Idle h
 ends_keep size s rules (Sending kind left before) h e = breaks size s _ (Sending kind left before) h
 ends_keep size s rules Reading h e =
-    end_keeps size s Reading (end_read s) (may_end rules false s.heard.done) h (quiet size 0 (ended s Idle s.heard) h.size_is tt (omega arith))
+    end_keeps size s Reading (end_read s) (may_end rules false s.heard.done) h (quiet size 0 (behind_message s Idle s.heard) h.size_is tt (omega arith))
 ends_keep size s rules Cancelling h e =
     end_keeps size s Cancelling (end_skipped s s.heard.done) (may_end rules true s.heard.done) h (skipped_keeps size s s.heard.done h)
 ends_keep size s rules (Broken fault) h e = breaks size s fault (Broken fault) h

@@ -19,7 +19,7 @@ use Rattle.tds_client.specs.declared.sign.Rules.TheVariants.{Strict, Any}
 use Rattle.tds_client.specs.declared.sign.Sign.{Sign}
 use Rattle.tds_client.specs.declared.sign.Sign.TheVariants as signs
 use Rattle.tds_client.specs.Acts.{changes_in, server_says, has_reset, begins_first}
-use Rattle.tds_client.specs.Hearing.{◌>>=◌, hear_sign, strict_sign, strict_before, any_sign, hear_change, hear_done, place_change, place_done, change_placed, reset_told, is_full, changed, with_done, done_behind, acknowledges_by, mark_after}
+use Rattle.tds_client.specs.Hearing.{◌>>=◌, hear_sign, strict_sign, strict_before, any_sign, hear_change, hear_done, place_change, place_done, change_placed, reset_told, is_full, descriptor_changed, with_done, done_behind, acknowledges_by, mark_after}
 use Rattle.tds_client.specs.Machine.{signed_in, signed, with_heard, all_signed, Listens}
 use Rattle.tds_client.specs.Marks.{mark_behind}
 use Rattle.tds_client.specs.Session.{ClientSession, Stage, Idle, Sending, Reading, Cancelling, Broken}
@@ -97,7 +97,7 @@ module _ (heard next : Heard) where
     mark = sym (ap (λ (cs : List EnvChange). mark_behind cs heard.mark) none);
   })
 
-  by_change : (change : EnvChange) (o : Option ℕ) → ((y : ℕ) → o ≡ Some y → y ≡ said heard.mark heard.descriptor change) → changed heard change o ≡ Ok next → Leaves heard (signs.Change change) next
+  by_change : (change : EnvChange) (o : Option ℕ) → ((y : ℕ) → o ≡ Some y → y ≡ said heard.mark heard.descriptor change) → descriptor_changed heard change o ≡ Ok next → Leaves heard (signs.Change change) next
   by_change change None h e = absurd cc
   by_change change (Some d) h e = subst (Leaves heard (signs.Change change)) (heard_is _ next e) (record {
     descriptor = h d refl ∙ sym (one_says heard.mark heard.descriptor change);
@@ -238,7 +238,7 @@ full_begin : (heard next : Heard) (d : ℕ) → heard.mark ≡ Some Full → pla
 unfolding place_change
 full_begin heard next d full e = by_full heard.mark (d == 0) full e
   where
-    by_full : (mark : Option Reset) (b : Bool) → mark ≡ Some Full → changed heard (Begin d) (cond (b || is_full mark) None (cond ((heard.descriptor == 0) || (heard.descriptor == d)) (Some d) None)) ≡ Ok next → ⊥
+    by_full : (mark : Option Reset) (b : Bool) → mark ≡ Some Full → descriptor_changed heard (Begin d) (cond (b || is_full mark) None (cond ((heard.descriptor == 0) || (heard.descriptor == d)) (Some d) None)) ≡ Ok next → ⊥
     by_full None b f e = cc
     by_full (Some Full) true f e = cc
     by_full (Some Full) false f e = cc
@@ -252,7 +252,7 @@ or_false : (a b : Bool) → a ≡ false → b ≡ false → (a || b) ≡ false
 or_false true b x y = absurd cc
 or_false false b x y = y
 
-end_keeps : (heard next : Heard) (change : EnvChange) (o : Option ℕ) → mark_after change heard.mark ≡ heard.mark → changed heard change o ≡ Ok next → next.mark ≡ heard.mark
+end_keeps : (heard next : Heard) (change : EnvChange) (o : Option ℕ) → mark_after change heard.mark ≡ heard.mark → descriptor_changed heard change o ≡ Ok next → next.mark ≡ heard.mark
 end_keeps heard next change None same e = absurd cc
 end_keeps heard next change (Some d) same e = sym (ap (λ (h : Heard). h.mark) (heard_is _ next e)) ∙ same
 
@@ -344,32 +344,32 @@ different x y h = by_test (x == y) refl
 begin_refused : (heard : Heard) (d : ℕ) → heard.descriptor ≢ 0 → heard.descriptor ≢ d → place_change heard (Begin d) ≡ Err faults.WrongEnvChange
 unfolding place_change
 begin_refused heard d none other =
-    ap (λ (b : Bool). changed heard (Begin d) (cond ((d == 0) || is_full heard.mark) None (cond b (Some d) None))) (or_false (heard.descriptor == 0) (heard.descriptor == d) (different _ _ none) (different _ _ other))
+    ap (λ (b : Bool). descriptor_changed heard (Begin d) (cond ((d == 0) || is_full heard.mark) None (cond b (Some d) None))) (or_false (heard.descriptor == 0) (heard.descriptor == d) (different _ _ none) (different _ _ other))
     ∙ either ((d == 0) || is_full heard.mark)
   where
-    either : (b : Bool) → changed heard (Begin d) (cond b None None) ≡ Err faults.WrongEnvChange
+    either : (b : Bool) → descriptor_changed heard (Begin d) (cond b None None) ≡ Err faults.WrongEnvChange
     either true = refl
     either false = refl
 
 full_refused : (heard : Heard) (d : ℕ) → heard.mark ≡ Some Full → place_change heard (Begin d) ≡ Err faults.WrongEnvChange
 unfolding place_change
 full_refused heard d full =
-    ap (λ (m : Option Reset). changed heard (Begin d) (cond ((d == 0) || is_full m) None (cond ((heard.descriptor == 0) || (heard.descriptor == d)) (Some d) None))) full
+    ap (λ (m : Option Reset). descriptor_changed heard (Begin d) (cond ((d == 0) || is_full m) None (cond ((heard.descriptor == 0) || (heard.descriptor == d)) (Some d) None))) full
     ∙ either (d == 0)
   where
-    either : (b : Bool) → changed heard (Begin d) (cond (b || true) None (cond ((heard.descriptor == 0) || (heard.descriptor == d)) (Some d) None)) ≡ Err faults.WrongEnvChange
+    either : (b : Bool) → descriptor_changed heard (Begin d) (cond (b || true) None (cond ((heard.descriptor == 0) || (heard.descriptor == d)) (Some d) None)) ≡ Err faults.WrongEnvChange
     either true = refl
     either false = refl
 
 commit_refused : (heard : Heard) (d : ℕ) → heard.descriptor ≢ 0 → heard.descriptor ≢ d → place_change heard (Commit d) ≡ Err faults.WrongEnvChange
 unfolding place_change
 commit_refused heard d none other =
-    ap (λ (b : Bool). changed heard (Commit d) (cond b (Some 0) None)) (or_false (heard.descriptor == 0) (heard.descriptor == d) (different _ _ none) (different _ _ other))
+    ap (λ (b : Bool). descriptor_changed heard (Commit d) (cond b (Some 0) None)) (or_false (heard.descriptor == 0) (heard.descriptor == d) (different _ _ none) (different _ _ other))
 
 rollback_refused : (heard : Heard) (d : ℕ) → heard.descriptor ≢ 0 → heard.descriptor ≢ d → place_change heard (Rollback d) ≡ Err faults.WrongEnvChange
 unfolding place_change
 rollback_refused heard d none other =
-    ap (λ (b : Bool). changed heard (Rollback d) (cond b (Some 0) None)) (or_false (heard.descriptor == 0) (heard.descriptor == d) (different _ _ none) (different _ _ other))
+    ap (λ (b : Bool). descriptor_changed heard (Rollback d) (cond b (Some 0) None)) (or_false (heard.descriptor == 0) (heard.descriptor == d) (different _ _ none) (different _ _ other))
 
 refused_in : (s : ClientSession) (change : EnvChange) (stage : Stage) → Listens stage → place_change s.heard change ≡ Err faults.WrongEnvChange → signed_in Any stage s (signs.Change change) ≡ Err faults.WrongEnvChange
 refused_in s change Idle l e = absurd l

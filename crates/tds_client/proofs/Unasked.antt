@@ -12,7 +12,7 @@ use Rattle.tds_client.specs.declared.heard.FinalDone.TheVariants.{Awaited, Answe
 use Rattle.tds_client.specs.declared.sign.Rules.TheVariants.{Strict, Any}
 use Rattle.tds_client.specs.declared.sign.Sign.TheVariants as signs
 use Rattle.tds_client.specs.Acts.{in_none}
-use Rattle.tds_client.specs.Hearing.{◌>>=◌, strict_before, hear_change, place_change, reset_told, changed}
+use Rattle.tds_client.specs.Hearing.{◌>>=◌, strict_before, hear_change, place_change, reset_told, descriptor_changed}
 use Rattle.tds_client.specs.Machine.{signed_in, signed, with_heard, Listens}
 use Rattle.tds_client.specs.Session.{ClientSession, Stage, Idle, Sending, Reading, Cancelling, Broken}
 
@@ -30,7 +30,7 @@ unasked_placed heard none =
 
 unasked_refused : (heard : Heard) → heard.mark ≡ None → hear_change heard ResetDone ≡ Err faults.UnaskedReset
 unfolding hear_change
-unasked_refused heard none = ap (λ (m : Option Reset). changed heard ResetDone (reset_effect m heard.descriptor)) none
+unasked_refused heard none = ap (λ (m : Option Reset). descriptor_changed heard ResetDone (reset_effect m heard.descriptor)) none
 
 unasked_before : (heard : Heard) (cancelling : Bool) (done : FinalDone) → done ≡ Awaited → heard.mark ≡ None → strict_before done cancelling heard (signs.Change ResetDone) ≡ Err faults.UnaskedReset
 unasked_before heard cancelling Awaited before none = unasked_refused heard none

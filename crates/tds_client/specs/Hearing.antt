@@ -51,12 +51,12 @@ change_fault (Commit d) = faults.WrongEnvChange
 change_fault (Rollback d) = faults.WrongEnvChange
 change_fault ResetDone = faults.UnaskedReset
 
-abbrev pub changed : Heard → EnvChange → Option ℕ → Result Heard ClientFault
-changed heard change None = Err (change_fault change)
-changed heard change (Some descriptor) = Ok (record { descriptor = descriptor; mark = mark_after change heard.mark; done = heard.done })
+abbrev pub descriptor_changed : Heard → EnvChange → Option ℕ → Result Heard ClientFault
+descriptor_changed heard change None = Err (change_fault change)
+descriptor_changed heard change (Some descriptor) = Ok (record { descriptor = descriptor; mark = mark_after change heard.mark; done = heard.done })
 
 unfoldable pub hear_change : Heard → EnvChange → Result Heard ClientFault
-hear_change heard change = changed heard change (change_applied (reset_effect heard.mark) heard.descriptor change)
+hear_change heard change = descriptor_changed heard change (change_applied (reset_effect heard.mark) heard.descriptor change)
 
 -- A full reset ends the transaction before its request runs. So a begin that is told before the end of that reset can't be placed:
 -- the end would take its descriptor away.
@@ -90,7 +90,7 @@ change_placed mark descriptor (Rollback d) = ended_at descriptor d
 change_placed mark descriptor ResetDone = Some (reset_told mark descriptor)
 
 unfoldable pub place_change : Heard → EnvChange → Result Heard ClientFault
-place_change heard change = changed heard change (change_placed heard.mark heard.descriptor change)
+place_change heard change = descriptor_changed heard change (change_placed heard.mark heard.descriptor change)
 
 -- ---- DONE (MS-TDS 2.2.7.6)
 

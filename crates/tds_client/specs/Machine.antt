@@ -15,7 +15,7 @@ use Rattle.tds_client.specs.declared.state.Taken.TheVariants as takes
 use Rattle.tds_client.specs.Hearing.{◌>>=◌, hear_sign, may_end, at_end_of_data}
 use Rattle.tds_client.specs.Session.{ClientSession, Stage, Idle, Sending, Reading, Cancelling, Broken}
 use Rattle.tds_client.specs.Signs.{signs_of}
-use Rattle.tds_client.specs.Taking.{ClientMove, ended}
+use Rattle.tds_client.specs.Taking.{ClientMove, behind_message}
 
 -- What is heard: the sign of a token, or that a message has ended.
 pub data Item : Type 0 where
@@ -46,12 +46,12 @@ signed rules s sign = signed_in rules s.stage s sign
 
 -- In cancelling, the attention is acknowledged by the end of a message whose DONE says so, and by nothing else.
 abbrev pub end_skipped : ClientSession → FinalDone → ItemMove
-end_skipped s Awaited = record { answer = takes.More; session = ended s Cancelling s.heard }
-end_skipped s Answered = record { answer = takes.More; session = ended s Cancelling s.heard }
-end_skipped s Acknowledged = record { answer = takes.Acknowledged; session = ended s Idle s.heard }
+end_skipped s Awaited = record { answer = takes.More; session = behind_message s Cancelling s.heard }
+end_skipped s Answered = record { answer = takes.More; session = behind_message s Cancelling s.heard }
+end_skipped s Acknowledged = record { answer = takes.Acknowledged; session = behind_message s Idle s.heard }
 
 abbrev pub end_read : ClientSession → ItemMove
-end_read s = record { answer = takes.Finished; session = ended s Idle s.heard }
+end_read s = record { answer = takes.Finished; session = behind_message s Idle s.heard }
 
 abbrev pub ended_in : Rules → Stage → ClientSession → Result ItemMove ClientFault
 ended_in rules Idle s = Err faults.AnswerInIdle

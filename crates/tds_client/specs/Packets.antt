@@ -9,8 +9,8 @@ abbrev pub packet_bytes : Kind → ℕ → ℕ → List ℕ → List ℕ
 packet_bytes kind status before content = sent_bytes kind status ((before + 1) % 256) content
 
 -- An attention: one packet without data that ends its message (MS-TDS 2.2.1.7).
-abbrev pub attention : List ℕ
-attention = packet_bytes kinds.Attention 1 0 []
+abbrev pub stop_bytes : List ℕ
+stop_bytes = packet_bytes kinds.Attention 1 0 []
 
 -- A packet without data that ends a request's message, and tells the server to ignore it (MS-TDS 2.2.3.1.2).
 abbrev pub ignore : Kind → ℕ → List ℕ

@@ -2,7 +2,7 @@
 use Rattle.std.specs.Prelude.{◌≡◌, ℕ, ◌+◌, ◌-◌, ◌==◌, nat_le, true, false, List, [], ◌++◌, length, take, drop, Option, Some, None, Result, Ok, Err, if◌then◌else◌}
 use Rattle.tds_packet.specs.declared.kind.Kind.{Kind}
 use Rattle.tds_request.specs.declared.request.Request.{Request}
-use Rattle.tds_request.specs.Layout.{kind_of_request, spelling, packet_kind}
+use Rattle.tds_request.specs.Layout.{kind_of_request, request_spelling, packet_kind}
 use Rattle.tds_client.specs.declared.fault.ClientRefusal.{ClientRefusal}
 use Rattle.tds_client.specs.declared.fault.ClientRefusal.TheVariants as refusals
 use Rattle.tds_client.specs.declared.heard.Heard.{Heard}
@@ -10,7 +10,7 @@ use Rattle.tds_client.specs.declared.state.Sent.{Sent}
 use Rattle.tds_client.specs.declared.state.Sent.TheVariants as sents
 use Rattle.tds_client.specs.declared.state.Cancelled.{Cancelled}
 use Rattle.tds_client.specs.declared.state.Cancelled.TheVariants as cancels
-use Rattle.tds_client.specs.Packets.{packet_bytes, attention, ignore}
+use Rattle.tds_client.specs.Packets.{packet_bytes, stop_bytes, ignore}
 use Rattle.tds_packet.specs.Resets.{header_descriptor, mark_bit}
 use Rattle.tds_packet.specs.Sent.{end_bit}
 use Rattle.tds_client.specs.Session.{ClientSession, Stage, Idle, Sending, Reading, Cancelling, Broken, with_stage}
@@ -19,7 +19,7 @@ use Rattle.tds_client.specs.Session.{ClientSession, Stage, Idle, Sending, Readin
 
 -- The message of a request.
 abbrev pub message_of : Heard → Request → List ℕ
-message_of heard request = spelling (header_descriptor heard.mark heard.descriptor) request
+message_of heard request = request_spelling (header_descriptor heard.mark heard.descriptor) request
 
 abbrev pub started : ClientSession → Request → ClientSession
 started s request = with_stage s (Sending (packet_kind (kind_of_request request)) (message_of s.heard request) 0)
@@ -70,12 +70,12 @@ unfoldable pub cancelled_sending : ClientSession → Kind → ℕ → Effect Can
 cancelled_sending s kind packets =
     if packets == 0
     then record { answer = cancels.Unsent; session = with_stage s Idle; bytes = [] }
-    else record { answer = cancels.Asked; session = with_stage s Cancelling; bytes = ignore kind packets ++ attention }
+    else record { answer = cancels.Asked; session = with_stage s Cancelling; bytes = ignore kind packets ++ stop_bytes }
 
 abbrev pub cancelled_in : ClientSession → Stage → Result (Effect Cancelled) ClientRefusal
 cancelled_in s Idle = Ok (record { answer = cancels.Nothing; session = s; bytes = [] })
 cancelled_in s (Sending kind left packets) = Ok (cancelled_sending s kind packets)
-cancelled_in s Reading = Ok (record { answer = cancels.Asked; session = with_stage s Cancelling; bytes = attention })
+cancelled_in s Reading = Ok (record { answer = cancels.Asked; session = with_stage s Cancelling; bytes = stop_bytes })
 cancelled_in s Cancelling = Ok (record { answer = cancels.Already; session = s; bytes = [] })
 cancelled_in s (Broken fault) = Err refusals.Broken
 

@@ -26,20 +26,20 @@ abbrev pub goes_on : ClientSession → Heard → Option ℕ → ClientSession
 goes_on s heard columns = record s { heard = heard; columns = columns }
 
 -- The message has ended: of the next one nothing is known.
-abbrev pub ended : ClientSession → Stage → Heard → ClientSession
-ended s stage heard = record { size = s.size; stage = stage; heard = with_done heard Awaited; columns = None }
+abbrev pub behind_message : ClientSession → Stage → Heard → ClientSession
+behind_message s stage heard = record { size = s.size; stage = stage; heard = with_done heard Awaited; columns = None }
 
 -- In reading, the tokens are told.
 abbrev pub read : ClientSession → Bool → Heard → Contents → ClientMove
 read s false heard contents = record { answer = takes.More; session = goes_on s heard contents.columns; tokens = told contents.tokens }
-read s true heard contents = record { answer = takes.Finished; session = ended s Idle heard; tokens = told contents.tokens }
+read s true heard contents = record { answer = takes.Finished; session = behind_message s Idle heard; tokens = told contents.tokens }
 
 -- In cancelling, none is. The attention is acknowledged by the end of a message whose final DONE says so, and by
 -- nothing else: the answer that was underway may end before.
 abbrev pub skipped_to_end : ClientSession → Heard → FinalDone → ClientMove
-skipped_to_end s heard Awaited = record { answer = takes.More; session = ended s Cancelling heard; tokens = [] }
-skipped_to_end s heard Answered = record { answer = takes.More; session = ended s Cancelling heard; tokens = [] }
-skipped_to_end s heard Acknowledged = record { answer = takes.Acknowledged; session = ended s Idle heard; tokens = [] }
+skipped_to_end s heard Awaited = record { answer = takes.More; session = behind_message s Cancelling heard; tokens = [] }
+skipped_to_end s heard Answered = record { answer = takes.More; session = behind_message s Cancelling heard; tokens = [] }
+skipped_to_end s heard Acknowledged = record { answer = takes.Acknowledged; session = behind_message s Idle heard; tokens = [] }
 
 abbrev pub skipped : ClientSession → Bool → Heard → Contents → ClientMove
 skipped s false heard contents = record { answer = takes.More; session = goes_on s heard contents.columns; tokens = [] }

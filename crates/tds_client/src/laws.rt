@@ -6,7 +6,7 @@ ghost use Rattle.std.specs.Prelude.{if◌then◌else◌, is_some, true};
 ghost use Rattle.tds_packet.specs.declared.reader.PacketRef.{PacketRef};
 ghost use Rattle.tds_packet.specs.Size.{IsPacketSize};
 ghost use Rattle.tds_request.specs.declared.request.Request.{Request};
-ghost use Rattle.tds_request.specs.Layout.{kind_of_request, spelling, packet_kind};
+ghost use Rattle.tds_request.specs.Layout.{kind_of_request, request_spelling, packet_kind};
 ghost use Rattle.tds_token.specs.declared.token.Token.{Token};
 ghost use Rattle.tds_token.specs.Contents.{contents_of};
 ghost use Rattle.tds_token.specs.Told.{applied, changes_of, told};
@@ -62,7 +62,7 @@ pub fn request_is_spelled()
     ensures packets { (s behind : ClientSession) (request : Request) (packets : List (List ℕ))
         → IsPacketSize s.size → Sends (started s request) packets behind
         → AreParts s.size (packet_kind (kind_of_request request)) s.heard.mark 0 packets
-        (spelling (header_descriptor s.heard.mark s.heard.descriptor) request) }
+        (request_spelling (header_descriptor s.heard.mark s.heard.descriptor) request) }
     ensures reads { (s behind : ClientSession) (request : Request) (packets : List (List ℕ))
         → IsPacketSize s.size → Sends (started s request) packets behind → behind.stage ≡ Reading }
     ensures ends { (s : ClientSession) (request : Request) → IsPacketSize s.size

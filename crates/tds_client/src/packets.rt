@@ -2,7 +2,7 @@ ghost use Rattle.std.specs.Prelude.{◌≡◌, ◌+◌, ◌*◌, ◌≤◌, ◌<
 ghost use Rattle.tds_packet.specs.Layout.{bits_of};
 ghost use Rattle.tds_packet.specs.Resets.{mark_bit};
 ghost use Rattle.tds_packet.specs.Sent.{end_bit};
-ghost use Rattle.tds_client.specs.Packets.{packet_bytes, attention, ignore};
+ghost use Rattle.tds_client.specs.Packets.{packet_bytes, stop_bytes, ignore};
 ghost use Rattle.tds_client.specs.Streams.{ended_by, full_packets, packets_of};
 
 use crate::NoMemory;
@@ -83,7 +83,7 @@ fn mark_bits(before: usize, mark: Option<Reset>) -> u8
 
 /// Appends an attention.
 pub(crate) fn put_attention(out: &mut Vec<u8>) -> Result<(), NoMemory>
-    ensures ok { OnOk result (out.new.items ≡ out.old.items ++ attention) }
+    ensures ok { OnOk result (out.new.items ≡ out.old.items ++ stop_bytes) }
     ensures err { OnErr result (out.new.items ≡ out.old.items) }
 {
     put(out, Kind::Attention, Status::of_answer(true), 0, &[])
@@ -97,7 +97,7 @@ pub(crate) fn put_ignore_and_attention(
     before: usize,
 ) -> Result<(), NoMemory>
     requires { before < 2 ^ 63 }
-    ensures ok { OnOk result (out.new.items ≡ out.old.items ++ (ignore kind before ++ attention)) }
+    ensures ok { OnOk result (out.new.items ≡ out.old.items ++ (ignore kind before ++ stop_bytes)) }
     ensures err { OnErr result (out.new.items ≡ out.old.items) }
 {
     let length = out.len();

@@ -7,7 +7,7 @@ use Rattle.tds_client.specs.Session as client
 use Rattle.tds_client.specs.Session.{ClientSession, unless_idle}
 use Rattle.tds_packet.specs.declared.status.Reset.{Reset}
 use Rattle.tds_request.specs.declared.request.Request.{Request}
-use Rattle.tds_request.specs.Layout.{kind_of_request, spelling, packet_kind}
+use Rattle.tds_request.specs.Layout.{kind_of_request, request_spelling, packet_kind}
 use Rattle.tds_world.specs.Caller.{asks}
 use Rattle.tds_world.specs.Connection.{Connection, is_idle}
 use Rattle.tds_world.specs.Events.{asks_by}
@@ -26,7 +26,7 @@ idle_alike s c m =
 asked_matches : (s : ClientSession) (c : Connection) (number lease n : ℕ) (q : Request) → MatchesClient s c → MatchesClient (started s q) (asks number lease n q c)
 asked_matches s c number lease n q m = record {
   stage =
-      ap (λ (d : ℕ). client.Sending (packet_kind (kind_of_request q)) (spelling d q) 0)
+      ap (λ (d : ℕ). client.Sending (packet_kind (kind_of_request q)) (request_spelling d q) 0)
       (ap (λ (d : ℕ). header_descriptor s.heard.mark d) m.descriptor
       ∙ ap (λ (mark : Option Reset). header_descriptor mark c.heard) m.mark);
   descriptor = m.descriptor;

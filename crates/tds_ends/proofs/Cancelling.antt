@@ -4,7 +4,7 @@ use Rattle.std.proofs.lemmas.Bool.Decides.{nat_tests}
 use Rattle.std.specs.Prelude.{Ok}
 use Rattle.tds_client.specs.declared.state.Cancelled.{Cancelled}
 use Rattle.tds_client.specs.declared.state.Cancelled.TheVariants as answered
-use Rattle.tds_client.specs.Packets.{attention, ignore}
+use Rattle.tds_client.specs.Packets.{stop_bytes, ignore}
 use Rattle.tds_client.specs.Sending.{Effect, cancelled_sending, cancelled_in}
 use Rattle.tds_client.specs.Session as client
 use Rattle.tds_client.specs.Session.{ClientSession, with_stage}
@@ -45,7 +45,7 @@ none_out : (s : ClientSession) (q : Record) → q.out ≡ NotBegun → cancelled
 unfolding cancelled_sending
 none_out s q e = pick_true _ _ (ap (λ (o : Out). eqb (packets_of o) 0) e) refl
 
-some_out : (s : ClientSession) (q : Record) → 1 ≤ packets_of q.out → cancelled_sending s (kind_asked q.asking) (packets_of q.out) ≡ record { answer = answered.Asked; session = with_stage s client.Cancelling; bytes = ignore (kind_asked q.asking) (packets_of q.out) ++ attention }
+some_out : (s : ClientSession) (q : Record) → 1 ≤ packets_of q.out → cancelled_sending s (kind_asked q.asking) (packets_of q.out) ≡ record { answer = answered.Asked; session = with_stage s client.Cancelling; bytes = ignore (kind_asked q.asking) (packets_of q.out) ++ stop_bytes }
 unfolding cancelled_sending
 some_out s q some = let later : eqb (packets_of q.out) 0 ≡ false = grind (arith, nat_tests, some) in pick_false _ _ later refl
 
@@ -76,21 +76,21 @@ by_phase Asked s c q e m b =
     )
 by_phase Sending s c q e m b =
     let d : Connection = cancels_by Sending q c in (
-      record { answer = answered.Asked; session = with_stage s client.Cancelling; bytes = ignore (kind_asked q.asking) (packets_of q.out) ++ attention },
+      record { answer = answered.Asked; session = with_stage s client.Cancelling; bytes = ignore (kind_asked q.asking) (packets_of q.out) ++ stop_bytes },
       ap (λ (x : Effect Cancelled). Ok x) (some_out s q b),
       refl,
       client_at s c d q Cancelling client.Cancelling m refl refl refl (from_sending q.fate q.out e) refl tt,
       sends_two
           (appended up_bytes (ignore (kind_asked q.asking) (packets_of q.out)) (Drop q.number (drop_packet q)) c.to_server refl)
-          (appended up_bytes attention (Attention q.number) (append (Drop q.number (drop_packet q)) c.to_server) refl),
+          (appended up_bytes stop_bytes (Attention q.number) (append (Drop q.number (drop_packet q)) c.to_server) refl),
     )
 by_phase Reading s c q e m b =
     let d : Connection = cancels_by Reading q c in (
-      record { answer = answered.Asked; session = with_stage s client.Cancelling; bytes = attention },
+      record { answer = answered.Asked; session = with_stage s client.Cancelling; bytes = stop_bytes },
       refl,
       refl,
       client_at s c d q Cancelling client.Cancelling m refl refl refl (from_reading q.fate q.out e) refl tt,
-      appended up_bytes attention (Attention q.number) c.to_server refl,
+      appended up_bytes stop_bytes (Attention q.number) c.to_server refl,
     )
 
 by_current : PhasesTell → (current : Option Record) (s : ClientSession) (c : Connection) → MatchesClient s c → BeginsIn current c.mark → DoesCancel c (cancelled_in s (stage_in current)) (model.cancel_outcome (phase_in current)) (cancels_in current c)

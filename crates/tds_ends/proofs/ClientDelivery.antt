@@ -12,7 +12,7 @@ use Rattle.tds_world.specs.Arrivals.{client_acts, reach_client}
 use Rattle.tds_world.specs.Connection.{Connection}
 use Rattle.tds_world.specs.Entries.{Down, down_bytes}
 use Rattle.tds_world.specs.Lane.{Lane, passed, with_waiting}
-use Rattle.tds_world.specs.Phase.{status_of}
+use Rattle.tds_world.specs.Phase.{request_status}
 use Rattle.tds_world.specs.Record.{Record}
 use Rattle.tds_ends.specs.Deliveries.{down_coming, heard_of, AllHeard, RefinesListens, TellsMore, status_under}
 use Rattle.tds_ends.specs.Feeding.{IsComing, IsBegun, Listened, listened, on_taken, settled_by, bytes_of}
@@ -63,7 +63,7 @@ tells_both c m d q after t settled told then is now first later p other =
         end.2.2 ∙ ap (λ (ts : List Token). ts ++ more) (first.given ∙ ap (λ (x : Record). x.given ++ t.tokens) same) ∙ append_assoc p.given t.tokens more,
       ),
       λ before e. end.3 before
-          (first.status ∙ ap (λ (x : RequestStatus). status_after t.answer x) (ap (λ (x : Record). status_of false x) same ∙ e) ∙ settles t.answer settled before),
+          (first.status ∙ ap (λ (x : RequestStatus). status_after t.answer x) (ap (λ (x : Record). request_status false x) same ∙ e) ∙ settles t.answer settled before),
     )
 
 -- The first entry is whole: it is heard, and then those behind it.

@@ -6,7 +6,7 @@ use Rattle.std.specs.Prelude.{Ok, bit_and, map}
 use Rattle.tds_client.specs.declared.heard.Heard.{Heard}
 use Rattle.tds_client.specs.declared.heard.FinalDone.{FinalDone}
 use Rattle.tds_client.specs.declared.heard.FinalDone.TheVariants.{Awaited, Answered, Acknowledged}
-use Rattle.tds_client.specs.Hearing.{◌>>=◌, at_end_of_data, hear, hear_all, hear_change, changed, hear_done, hear_packet, at_end_of_message, with_done}
+use Rattle.tds_client.specs.Hearing.{◌>>=◌, at_end_of_data, hear, hear_all, hear_change, descriptor_changed, hear_done, hear_packet, at_end_of_message, with_done}
 use Rattle.tds_packet.specs.declared.status.Reset.{Reset}
 use Rattle.tds_packet.specs.declared.status.Reset.TheVariants.{Full, KeepTransaction}
 use Rattle.tds_session.specs.Attention.{acknowledging}
@@ -39,9 +39,9 @@ found (Some x) next d e = (x, refl, e)
 -- A change that is no end of a reset takes any client to the same descriptor.
 change_heard : (cancelling : Bool) (x y : ℕ) (mark : Option Reset) (change : EnvChange) → change_applied no_reset x change ≡ Some y → hear_change (at x mark) change ≡ Ok (at y mark)
 unfolding hear_change
-change_heard cancelling x y mark (Begin d) e = ap (changed (at x mark) (Begin d)) e
-change_heard cancelling x y mark (Commit d) e = ap (changed (at x mark) (Commit d)) e
-change_heard cancelling x y mark (Rollback d) e = ap (changed (at x mark) (Rollback d)) e
+change_heard cancelling x y mark (Begin d) e = ap (descriptor_changed (at x mark) (Begin d)) e
+change_heard cancelling x y mark (Commit d) e = ap (descriptor_changed (at x mark) (Commit d)) e
+change_heard cancelling x y mark (Rollback d) e = ap (descriptor_changed (at x mark) (Rollback d)) e
 change_heard cancelling x y mark ResetDone e = absurd (cc)
 
 done_heard : (cancelling : Bool) (x : ℕ) (mark : Option Reset) (status : ℕ) → bit_and status 1 ≡ 1 → bit_and status 32 ≡ 0 → hear_done cancelling (at x mark) status ≡ Ok (at x mark)

@@ -28,7 +28,7 @@ use Rattle.tds_packet.specs.Resets.{reset_effect}
 use Rattle.tds_world.specs.Connection.{Connection}
 use Rattle.tds_world.specs.Entries.{Down, Step, Acknowledgement, down_packet}
 use Rattle.tds_world.specs.Heard.{Meets, IsHeardOn}
-use Rattle.tds_world.specs.Phase.{Phase, Settled, Reading, Cancelling, phase_by, phase_of, status_by, status_of}
+use Rattle.tds_world.specs.Phase.{Phase, Settled, Reading, Cancelling, phase_by, phase_of, status_by, request_status}
 use Rattle.tds_world.specs.Record as world
 use Rattle.tds_world.specs.Record.{Record, Out, NotBegun, Begun, Whole, gives, acknowledges, when, if_numbered}
 use Rattle.tds_world.specs.Sessions.{HasSpelling, FitsAcknowledgement}
@@ -181,7 +181,7 @@ reads_alike true s c q r place step ends m is same stage phase k =
           given =
               ap (λ (b : Bool). cond b q.given (q.given ++ told step.tokens)) one.uncancelled
               ∙ ap (λ (ts : List Token). q.given ++ told ts) (sym k.tokens);
-          status = one.status ∙ ap (λ (b : Bool). cond b shown.Finished (status_of false q)) ends;
+          status = one.status ∙ ap (λ (b : Bool). cond b shown.Finished (request_status false q)) ends;
         },
       );
     }
@@ -199,7 +199,7 @@ reads_alike false s c q r place step ends m is same stage phase k =
           given =
               ap (λ (b : Bool). cond b q.given (q.given ++ told step.tokens)) one.uncancelled
               ∙ ap (λ (ts : List Token). q.given ++ told ts) (sym k.tokens);
-          status = one.status ∙ ap (λ (b : Bool). cond b shown.Finished (status_of false q)) ends;
+          status = one.status ∙ ap (λ (b : Bool). cond b shown.Finished (request_status false q)) ends;
         },
       );
     }

@@ -15,7 +15,7 @@ use Rattle.tds_world.specs.Arrivals.{server_acts, client_acts}
 use Rattle.tds_world.specs.Connection.{Connection}
 use Rattle.tds_world.specs.Entries.{Up, up_packet, up_bytes, Down, down_packet, down_bytes}
 use Rattle.tds_world.specs.Lane.{passed}
-use Rattle.tds_world.specs.Phase.{status_of}
+use Rattle.tds_world.specs.Phase.{request_status}
 use Rattle.tds_world.specs.Record.{Record}
 use Rattle.tds_ends.specs.Refines.{RefinesArrive}
 use Rattle.tds_ends.specs.Feeding.{Coming, Comes, IsComing, Served, served, Listened, listened}
@@ -86,8 +86,8 @@ TellsMore c d settled told then =
     (q : Record) → c.current ≡ Some q
     → (after : Record) × (d.current ≡ Some after)
     × ((more : List Token) × (then.told ≡ told ++ more) × (after.given ≡ q.given ++ more))
-    × ((before : RequestStatus) → status_of false q ≡ status_under settled before
-    → status_of false after ≡ status_under then.settled before)
+    × ((before : RequestStatus) → request_status false q ≡ status_under settled before
+    → request_status false after ≡ status_under then.settled before)
 
 -- Bytes that come to a client, and the connection then: they are packets and the beginning of one; the
 -- client takes them all, stands for the connection then, and told the newest request's caller what the

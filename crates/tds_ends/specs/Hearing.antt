@@ -15,7 +15,7 @@ use Rattle.tds_world.specs.Connection.{Connection}
 use Rattle.tds_world.specs.Dones.{DonesBy}
 use Rattle.tds_world.specs.Entries.{Down, Step, Acknowledgement}
 use Rattle.tds_world.specs.Heard.{IsHeardOn}
-use Rattle.tds_world.specs.Phase.{Reading, Cancelling, phase_of, status_of}
+use Rattle.tds_world.specs.Phase.{Reading, Cancelling, phase_of, request_status}
 use Rattle.tds_world.specs.Record.{Record}
 use Rattle.tds_world.specs.Sessions.{HasSpelling, FitsAcknowledgement}
 use Rattle.tds_ends.specs.Stands.{MatchesClient}
@@ -50,7 +50,7 @@ status_after taken.NoMemory before = before
 -- answered.
 pub record IsTold (before after : Record) (took : ClientMove) : Type 0 where
   pub given : after.given ≡ before.given ++ took.tokens
-  pub status : status_of false after ≡ status_after took.answer (status_of false before)
+  pub status : request_status false after ≡ status_after took.answer (request_status false before)
 
 -- A client that takes the packet of an entry and the connection where it arrives: there is no fault,
 -- the caller is told the same, and the client matches the connection then.

@@ -6,8 +6,8 @@ use Rattle.tds_packet.specs.declared.kind.Kind.TheVariants as kinds
 use Rattle.tds_packet.specs.Layout.{status_of}
 use Rattle.tds_front.specs.declared.stage.Head.{Head}
 use Rattle.tds_front.specs.declared.stage.Stage.TheVariants.{Quiet}
-use Rattle.tds_front.specs.Serving.{More, Whole, Ignored, Attention, Tokens, Ends, Acknowledges, Happening, Comes, Goes, Closes, Place, Ready, Broken, IsLawful}
-use Rattle.tds_front.specs.Passing.{Event, Packet, GoesOn, Says, behind, towards}
+use Rattle.tds_front.specs.Serving.{More, Whole, Ignored, Attention, Tokens, Ends, Acknowledges, Happening, Comes, Goes, Closes, ServerIsAt, Ready, Broken, IsLawful}
+use Rattle.tds_front.specs.Passing.{FrontEvent, Packet, GoesOn, Says, happenings_of, towards}
 
 abbrev Yes : List Happening → Type 0
 Yes happenings = IsLawful Ready happenings
@@ -15,7 +15,7 @@ Yes happenings = IsLawful Ready happenings
 abbrev No : List Happening → Type 0
 No happenings = IsLawful Ready happenings → ⊥
 
-abbrev IsReady : Place → Type 0
+abbrev IsReady : ServerIsAt → Type 0
 IsReady Ready = Unit {0}
 IsReady place = ⊥
 
@@ -94,30 +94,30 @@ closes_for_nothing l = not_broken l.1.0
 abbrev head : Kind → ℕ → ℕ → Head
 head kind status count = record { kind = kind; status = status_of status; count = count }
 
-abbrev part : Event
+abbrev part : FrontEvent
 part = Packet (head kinds.Batch 0 100)
 
-abbrev whole : Event
+abbrev whole : FrontEvent
 whole = Packet (head kinds.Batch 1 100)
 
-abbrev part_ignored : Event
+abbrev part_ignored : FrontEvent
 part_ignored = Packet (head kinds.Batch 3 0)
 
-abbrev cancel : Event
+abbrev cancel : FrontEvent
 cancel = Packet (head kinds.Attention 1 0)
 
 -- its request waits: the attention is acknowledged here, and nothing goes on
 here_front : towards None Quiet (whole ∷ cancel ∷ []) ≡ Comes Whole ∷ Comes Attention ∷ Goes Acknowledges ∷ []
 here_front = refl
 
-here_behind : behind Quiet (whole ∷ cancel ∷ []) ≡ []
+here_behind : happenings_of Quiet (whole ∷ cancel ∷ []) ≡ []
 here_behind = refl
 
 -- a part has gone on: whoever has it acknowledges
 there_front : towards None Quiet (part ∷ GoesOn false ∷ cancel ∷ Says Acknowledges ∷ []) ≡ Comes More ∷ Comes Attention ∷ Goes Acknowledges ∷ []
 there_front = refl
 
-there_behind : behind Quiet (part ∷ GoesOn false ∷ cancel ∷ Says Acknowledges ∷ []) ≡ Comes More ∷ Comes Attention ∷ Goes Acknowledges ∷ []
+there_behind : happenings_of Quiet (part ∷ GoesOn false ∷ cancel ∷ Says Acknowledges ∷ []) ≡ Comes More ∷ Comes Attention ∷ Goes Acknowledges ∷ []
 there_behind = refl
 
 -- the attention crosses the answer's end
@@ -128,14 +128,14 @@ crosses_front = refl
 behind_end_front : towards None Quiet (whole ∷ GoesOn true ∷ Says Ends ∷ cancel ∷ []) ≡ Comes Whole ∷ Goes Ends ∷ Comes Attention ∷ Goes Acknowledges ∷ []
 behind_end_front = refl
 
-behind_end : behind Quiet (whole ∷ GoesOn true ∷ Says Ends ∷ cancel ∷ []) ≡ Comes Whole ∷ Goes Ends ∷ []
+behind_end : happenings_of Quiet (whole ∷ GoesOn true ∷ Says Ends ∷ cancel ∷ []) ≡ Comes Whole ∷ Goes Ends ∷ []
 behind_end = refl
 
 -- taken back in the middle
 ignored_front : towards None Quiet (part ∷ GoesOn false ∷ part_ignored ∷ whole ∷ []) ≡ Comes More ∷ Comes Ignored ∷ Comes Whole ∷ []
 ignored_front = refl
 
-ignored_behind : behind Quiet (part ∷ GoesOn false ∷ part_ignored ∷ whole ∷ []) ≡ Comes More ∷ Comes Ignored ∷ []
+ignored_behind : happenings_of Quiet (part ∷ GoesOn false ∷ part_ignored ∷ whole ∷ []) ≡ Comes More ∷ Comes Ignored ∷ []
 ignored_behind = refl
 
 -- a second attention: what comes then goes nowhere

@@ -1,11 +1,11 @@
 -- What is lawful is exchanges, one behind the other.
 use Rattle.std.proofs.Common.{◌≡◌, ◌∙◌, ℕ, zero, suc, Bool, true, false, List, [], ◌∷◌, ◌++◌, refl, sym, ap, subst}
-use Rattle.tds_front.specs.Serving.{Brought, More, Whole, Ignored, Attention, Wrong, Reply, Tokens, Ends, Acknowledges, Happening, Comes, Goes, Closes, Place, Ready, Executing, Stopping, Broken, IsLawful, MayGo, behind_brought, behind_reply}
+use Rattle.tds_front.specs.Serving.{Brought, More, Whole, Ignored, Attention, Wrong, ServerReply, Tokens, Ends, Acknowledges, Happening, Comes, Goes, Closes, ServerIsAt, Ready, Executing, Stopping, Broken, IsLawful, MayGo, behind_brought, behind_reply}
 use Rattle.tds_front.specs.Exchanges.{Stop, Cut, Crossed, Answer, Ended, Stopped, Exchange, Asked, Forgotten, Alone, times, acknowledged, stopped, answered, exchanged, all_of, IsFront, place_after, IsSilent}
 
 -- ---- Exchanges are lawful
 
-fronts : (place : Place) (happenings rest : List Happening) → IsLawful place (happenings ++ rest) → IsLawful place happenings
+fronts : (place : ServerIsAt) (happenings rest : List Happening) → IsLawful place (happenings ++ rest) → IsLawful place happenings
 fronts place [] rest l = tt
 fronts place (Comes brought ∷ later) rest l = fronts (behind_brought place brought) later rest l
 fronts place (Goes reply ∷ later) rest l = (l.0, fronts (behind_reply place reply) later rest l.1)
@@ -15,7 +15,7 @@ begun_lawful : (packets : ℕ) (later : List Happening) → IsLawful Ready later
 begun_lawful zero later l = l
 begun_lawful (suc n) later l = begun_lawful n later l
 
-told_lawful : (place : Place) → MayGo place Tokens → (tokens : ℕ) (later : List Happening) → IsLawful place later → IsLawful place (times tokens (Goes Tokens) later)
+told_lawful : (place : ServerIsAt) → MayGo place Tokens → (tokens : ℕ) (later : List Happening) → IsLawful place later → IsLawful place (times tokens (Goes Tokens) later)
 told_lawful place may zero later l = l
 told_lawful place may (suc n) later l = (may, told_lawful place may n later l)
 
@@ -54,15 +54,15 @@ stays (Goes Ends ∷ later) = stays later
 stays (Goes Acknowledges ∷ later) = stays later
 stays (Closes ∷ later) = stays later
 
-abbrev IsReady : Place → Type 0
+abbrev IsReady : ServerIsAt → Type 0
 IsReady Ready = Unit {0}
 IsReady place = ⊥
 
-not_ready : (place : Place) → place ≡ Ready → place ≡ Broken → ⊥
+not_ready : (place : ServerIsAt) → place ≡ Ready → place ≡ Broken → ⊥
 not_ready place r b = subst IsReady (sym r ∙ b) tt
 
-broken_on : (place : Place) (happenings rest : List Happening) → place_after place happenings ≡ Broken → place_after place (happenings ++ rest) ≡ Broken
-broken_on place [] rest b = subst (λ (p : Place). place_after p rest ≡ Broken) (sym b) (stays rest)
+broken_on : (place : ServerIsAt) (happenings rest : List Happening) → place_after place happenings ≡ Broken → place_after place (happenings ++ rest) ≡ Broken
+broken_on place [] rest b = subst (λ (p : ServerIsAt). place_after p rest ≡ Broken) (sym b) (stays rest)
 broken_on place (Comes brought ∷ later) rest b = broken_on (behind_brought place brought) later rest b
 broken_on place (Goes reply ∷ later) rest b = broken_on (behind_reply place reply) later rest b
 broken_on place (Closes ∷ later) rest b = broken_on place later rest b
@@ -71,7 +71,7 @@ begun_ready : (packets : ℕ) (later : List Happening) → place_after Ready lat
 begun_ready zero later e = e
 begun_ready (suc n) later e = begun_ready n later e
 
-told_ready : (place : Place) (tokens : ℕ) (later : List Happening) → place_after place later ≡ Ready → place_after place (times tokens (Goes Tokens) later) ≡ Ready
+told_ready : (place : ServerIsAt) (tokens : ℕ) (later : List Happening) → place_after place later ≡ Ready → place_after place (times tokens (Goes Tokens) later) ≡ Ready
 told_ready place zero later e = e
 told_ready place (suc n) later e = told_ready place n later e
 
@@ -125,7 +125,7 @@ record AtAttention (happenings : List Happening) : Type 0 where
   rest : List Happening
   all : happenings ++ rest ≡ acknowledged tokens (all_of exchanges)
 
-abbrev Completes : Place → List Happening → Type 0
+abbrev Completes : ServerIsAt → List Happening → Type 0
 Completes Ready happenings = AtReady happenings
 Completes Executing happenings = AtExecuting happenings
 Completes (Stopping true) happenings = AtStop happenings
@@ -133,9 +133,9 @@ Completes (Stopping false) happenings = AtAttention happenings
 Completes Broken happenings = Unit {0}
 
 abbrev With : List Happening → Type 0
-With later = (place : Place) → IsLawful place later → (place_after place later ≡ Broken → ⊥) → Completes place later
+With later = (place : ServerIsAt) → IsLawful place later → (place_after place later ≡ Broken → ⊥) → Completes place later
 
-ends_now : (place : Place) → Completes place []
+ends_now : (place : ServerIsAt) → Completes place []
 ends_now Ready = record { exchange = Forgotten 0; exchanges = []; rest = Comes Ignored ∷ []; all = refl }
 ends_now Executing = record { answer = Ended 0; exchanges = []; rest = Goes Ends ∷ []; all = refl }
 ends_now (Stopping true) = record { stop = Cut 0; exchanges = []; rest = Goes Acknowledges ∷ []; all = refl }
@@ -166,7 +166,7 @@ one_stopped later rest (Cut tokens) exchanges e =
 one_stopped later rest (Crossed tokens behind) exchanges e =
     record { stop = Crossed (suc tokens) behind; exchanges = exchanges; rest = rest; all = ap (λ (xs : List Happening). Goes Tokens ∷ xs) e }
 
-comes : (later : List Happening) → With later → (place : Place) (brought : Brought) → IsLawful (behind_brought place brought) later
+comes : (later : List Happening) → With later → (place : ServerIsAt) (brought : Brought) → IsLawful (behind_brought place brought) later
     → (place_after (behind_brought place brought) later ≡ Broken → ⊥) → Completes place (Comes brought ∷ later)
 comes later with_it Ready More l k = let c : AtReady later = with_it Ready l k in one_packet later c.rest c.exchange c.exchanges c.all
 comes later with_it Ready Whole l k =
@@ -190,7 +190,7 @@ comes later with_it (Stopping true) brought l k = absurd (k (stays later))
 comes later with_it (Stopping false) brought l k = absurd (k (stays later))
 comes later with_it Broken brought l k = tt
 
-goes : (later : List Happening) → With later → (place : Place) (reply : Reply) → MayGo place reply → IsLawful (behind_reply place reply) later
+goes : (later : List Happening) → With later → (place : ServerIsAt) (reply : ServerReply) → MayGo place reply → IsLawful (behind_reply place reply) later
     → (place_after (behind_reply place reply) later ≡ Broken → ⊥) → Completes place (Goes reply ∷ later)
 goes later with_it Ready Tokens may l k = absurd may
 goes later with_it Ready Ends may l k = absurd may
@@ -220,7 +220,7 @@ completes : (happenings : List Happening) → With happenings
 completes [] place l k = ends_now place
 completes (Comes brought ∷ later) place l k = comes later (completes later) place brought l k
 completes (Goes reply ∷ later) place l k = goes later (completes later) place reply l.0 l.1 k
-completes (Closes ∷ later) place l k = absurd (k (subst (λ (p : Place). place_after p later ≡ Broken) (sym l.0) (stays later)))
+completes (Closes ∷ later) place l k = absurd (k (subst (λ (p : ServerIsAt). place_after p later ≡ Broken) (sym l.0) (stays later)))
 
 pub only : (happenings : List Happening) → IsLawful Ready happenings → (place_after Ready happenings ≡ Broken → ⊥) → IsFront happenings
 only happenings l k =

@@ -18,25 +18,25 @@ use Rattle.tds_front.specs.declared.stage.Action.TheVariants as actions
 use Rattle.tds_front.specs.declared.stage.Head.{Head}
 use Rattle.tds_front.specs.declared.stage.Stage.{Stage}
 use Rattle.tds_front.specs.declared.stage.Stage.TheVariants.{Quiet, Receiving, Underway, Stopping, Broken}
-use Rattle.tds_front.specs.Bytes.{Step, body_of, action_done, due_for, ended_in, fails, fed, fed_by, fed_unless, kind_from, packet_done, part_behind, run_of, says, told, with_due, with_kind, with_part}
-use Rattle.tds_front.specs.Rules.{attention, begins, breaks, goes_on, of_request, refuses, taken, taken_as}
+use Rattle.tds_front.specs.Bytes.{FrontStep, body_count, action_done, due_for, ended_in, fails, fed, fed_by, fed_unless, kind_from, packet_done, length_part_behind, run_of, says, told_body, front_with_due, front_with_kind, with_part}
+use Rattle.tds_front.specs.Rules.{takes_attention, begins, breaks_end, goes_on, of_request, refuses, taken, taken_as}
 use Rattle.tds_front.specs.Passing.{EndsOf, EndsWhere, IsData, IsSaid, SaysOf, judged, stage_fed}
 
 -- a step leads from there to there, and says no more than of data
-abbrev pub Leads : Stage → Step → Type 0
+abbrev pub Leads : Stage → FrontStep → Type 0
 Leads stage step = (step.front.stage ≡ stage_fed stage None step.brings) × SaysOf stage None step.brings × EndsWhere step.front.stage step.brings
 
 abbrev pub front : ℕ → Stage → Due → Part → Front
 front most stage due part = record { most = most; stage = stage; due = due; part = part }
 
-told_data : (body : ℕ) → IsData (told body)
+told_data : (body : ℕ) → IsData (told_body body)
 told_data body = search rules
 
 told_no_end : (stage : Stage) (body : ℕ) (none : Bool) → EndsOf (if none then said.Nothing else said.Body body) stage
 told_no_end stage body true = tt
 told_no_end stage body false = tt
 
-told_end : (stage : Stage) (body : ℕ) → EndsOf (told body) stage
+told_end : (stage : Stage) (body : ℕ) → EndsOf (told_body body) stage
 told_end stage body = told_no_end stage body (body == 0)
 
 ended_leads : (most : ℕ) (gone : Bool) (due : Due) (count body : ℕ) (part other : Part) → Leads (Underway gone) (ended_in (front most (Underway gone) due other) count body part)
@@ -66,12 +66,12 @@ fails_leads most (Broken first) due part fault u = absurd u
 -- ---- Bytes that end no header
 
 kind_leads : (most : ℕ) (stage : Stage) (due : Due) (part : Part) → IsUnbroken stage → (kind : Option Kind)
-    → Leads stage (with_kind (front most stage due part) kind)
+    → Leads stage (front_with_kind (front most stage due part) kind)
 kind_leads most stage due part u None = fails_leads most stage due part faults.UnknownType u
 kind_leads most stage due part u (Some kind) = (refl, tt, tt)
 
 status_leads : (most : ℕ) (stage : Stage) (due : Due) (part : Part) → IsUnbroken stage → (kind : Kind) (byte : ℕ) (is_one : Bool)
-    → Leads stage (if is_one then says (with_due (front most stage due part) (dues.HighLength kind (status_of byte))) 1 said.Nothing
+    → Leads stage (if is_one then says (front_with_due (front most stage due part) (dues.HighLength kind (status_of byte))) 1 said.Nothing
     else fails (front most stage due part) faults.WrongStatus)
 status_leads most stage due part u kind byte true = (refl, tt, tt)
 status_leads most stage due part u kind byte false = fails_leads most stage due part faults.WrongStatus u
@@ -79,14 +79,14 @@ status_leads most stage due part u kind byte false = fails_leads most stage due 
 length_leads : (most : ℕ) (stage : Stage) (due : Due) (part : Part) → IsUnbroken stage → (head : Head) (wrong empty : Bool)
     → Leads stage (if wrong then fails (front most stage due part) faults.WrongLength
     else if empty then fails (front most stage due part) faults.EmptyPart
-    else says (with_due (front most stage due part) (dues.Rest head 4)) 1 said.Nothing)
+    else says (front_with_due (front most stage due part) (dues.Rest head 4)) 1 said.Nothing)
 length_leads most stage due part u head true empty = fails_leads most stage due part faults.WrongLength u
 length_leads most stage due part u head false true = fails_leads most stage due part faults.EmptyPart u
 length_leads most stage due part u head false false = (refl, tt, tt)
 
 passed_leads : (most : ℕ) (stage : Stage) (due : Due) (part : Part) (left run body : ℕ) (all : Bool)
     → Leads stage (if all then packet_done (front most stage dues.Type part) stage run body
-    else says (with_due (front most stage due part) (dues.Data (left - run))) run (told body))
+    else says (front_with_due (front most stage due part) (dues.Data (left - run))) run (told_body body))
 passed_leads most stage due part left run body true = done_leads most stage dues.Type part run body
 passed_leads most stage due part left run body false = (refl, told_data body, told_end stage body)
 
@@ -105,7 +105,7 @@ abbrev StageOf : Stage → Result Fed FrontFault → Stage
 StageOf stage (Ok fed) = stage
 StageOf stage (Err fault) = (refuses stage fault).stage
 
-abbrev Does : Stage → Result Action FrontFault → Step → Type 0
+abbrev Does : Stage → Result Action FrontFault → FrontStep → Type 0
 Does stage does step = (step.front.stage ≡ StageOf stage step.brings) × SaidOf does step.brings × EndsWhere step.front.stage step.brings
 
 abbrev IsFault : Stage → Result Action FrontFault → Type 0
@@ -128,11 +128,11 @@ request_faults (Broken fault) head = refl
 refusal_faults : (stage : Stage) (fault : FrontFault) → IsFault (refuses stage fault).stage (refuses stage fault).does
 refusal_faults stage fault = search rules
 
-attention_faults : (stage : Stage) → IsFault (attention stage).stage (attention stage).does
+attention_faults : (stage : Stage) → IsFault (takes_attention stage).stage (takes_attention stage).does
 attention_faults stage = search rules
 
-attended_faults : (stage : Stage) (is_one : Bool) → IsFault (if is_one then attention stage else refuses stage faults.WrongAttention).stage
-    (if is_one then attention stage else refuses stage faults.WrongAttention).does
+attended_faults : (stage : Stage) (is_one : Bool) → IsFault (if is_one then takes_attention stage else refuses stage faults.WrongAttention).stage
+    (if is_one then takes_attention stage else refuses stage faults.WrongAttention).does
 attended_faults stage true = attention_faults stage
 attended_faults stage false = refusal_faults stage faults.WrongAttention
 
@@ -172,7 +172,7 @@ action_does f stage count (Ok actions.HandOn) e = (refl, refl, tt)
 
 -- ---- Any bytes
 
-abbrev pub Fits : Stage → Option Head → Step → Type 0
+abbrev pub Fits : Stage → Option Head → FrontStep → Type 0
 Fits stage packet step = (step.front.stage ≡ stage_fed stage packet step.brings) × SaysOf stage packet step.brings × EndsWhere step.front.stage step.brings
 
 judged_stage : (stage : Stage) (head : Head) (behind : Stage) (brings : Result Fed FrontFault) → behind ≡ StageOf (taken stage head).stage brings
@@ -186,13 +186,13 @@ judged_said stage head (Err fault) s = s
 
 header_fits : (f : Front) (head : Head) → Fits f.stage (Some head) (action_done f (taken f.stage head).stage head.count (taken f.stage head).does)
 header_fits f head =
-    let step : Step = action_done f (taken f.stage head).stage head.count (taken f.stage head).does in
+    let step : FrontStep = action_done f (taken f.stage head).stage head.count (taken f.stage head).does in
     let d : Does (taken f.stage head).stage (taken f.stage head).does step =
     action_does f (taken f.stage head).stage head.count (taken f.stage head).does (faults_in head.kind f.stage head) in
     (judged_stage f.stage head step.front.stage step.brings d.0, judged_said f.stage head step.brings d.1, d.2)
 
 rest_fits : (f : Front) (head : Head) (left : ℕ) (more : Bool) → Fits f.stage (if more then None else Some head)
-    (if more then says (with_due f (dues.Rest head (left - 1))) 1 said.Nothing else action_done f (taken f.stage head).stage head.count (taken f.stage head).does)
+    (if more then says (front_with_due f (dues.Rest head (left - 1))) 1 said.Nothing else action_done f (taken f.stage head).stage head.count (taken f.stage head).does)
 rest_fits f head left true = (refl, tt, tt)
 rest_fits f head left false = header_fits f head
 
@@ -206,10 +206,10 @@ by_due most stage due part u (dues.LowLength kind status high) byte rest there =
     (nat_lt (256 * high + byte) 8 || nat_lt most (256 * high + byte)) ((256 * high + byte == 8) && not (has_bit (bits_of status) 1))
 by_due most stage due part u (dues.Rest head left) byte rest there = rest_fits (front most stage due part) head left (nat_lt 1 left)
 by_due most stage due part u (dues.Data left) byte rest there =
-    part_leads most stage due part u left (run_of part (min left there)) (body_of part (run_of part (min left there))) (part_behind part byte (run_of part (min left there)))
+    part_leads most stage due part u left (run_of part (min left there)) (body_count part (run_of part (min left there))) (length_part_behind part byte (run_of part (min left there)))
 
 -- behind a fault it is answered again
-closed_attended : (fault : FrontFault) (is_one : Bool) → Broken fault ≡ (refuses (if is_one then breaks fault else breaks fault).stage fault).stage
+closed_attended : (fault : FrontFault) (is_one : Bool) → Broken fault ≡ (refuses (if is_one then breaks_end fault else breaks_end fault).stage fault).stage
 closed_attended fault true = refl
 closed_attended fault false = refl
 

@@ -20,7 +20,7 @@ use Rattle.tds_front.specs.declared.stage.Action.TheVariants as actions
 use Rattle.tds_front.specs.declared.stage.Head.{Head}
 use Rattle.tds_front.specs.declared.stage.Stage.{Stage}
 use Rattle.tds_front.specs.declared.stage.Stage.TheVariants.{Quiet, Receiving, Underway, Stopping, Broken}
-use Rattle.tds_front.specs.Bytes.{Step, TakesSome, is_due_some, is_part_some, behind_length, body_of, action_done, due_for, ended_in, fails, fed, fed_by, fed_unless, kind_from, packet_done, part_behind, part_of, run_of, says, told, with_due, with_kind, with_part}
+use Rattle.tds_front.specs.Bytes.{FrontStep, TakesSome, is_due_some, is_part_some, behind_length, body_count, action_done, due_for, ended_in, fails, fed, fed_by, fed_unless, kind_from, packet_done, length_part_behind, part_of, run_of, says, told_body, front_with_due, front_with_kind, with_part}
 use Rattle.tds_front.specs.Rules.{taken}
 use Rattle.tds_front.proofs.Packets.{front}
 
@@ -47,7 +47,7 @@ Lively f = IsDueSome f.due × IsPartSome f.part
 one : 1 ≤ 1
 one = omega arith
 
-abbrev Does : Step → Type 0
+abbrev Does : FrontStep → Type 0
 Does step = Lively step.front × IfOk step.brings (λ fed. 1 ≤ fed.count)
 
 ended_some : (f : Front) (count body : ℕ) (part : Part) → Lively f → 1 ≤ count → Does (ended_in f count body part)
@@ -68,17 +68,17 @@ done_some f (Broken fault) count body t some = (t, some)
 
 -- ---- Bytes of a header
 
-kind_some : (f : Front) (kind : Option Kind) → Lively f → Does (with_kind f kind)
+kind_some : (f : Front) (kind : Option Kind) → Lively f → Does (front_with_kind f kind)
 kind_some f None t = (t, tt)
 kind_some f (Some kind) t = ((tt, t.1), one)
 
 status_some : (f : Front) (kind : Kind) (byte : ℕ) (is_one : Bool) → Lively f
-    → Does (if is_one then says (with_due f (dues.HighLength kind (status_of byte))) 1 said.Nothing else fails f faults.WrongStatus)
+    → Does (if is_one then says (front_with_due f (dues.HighLength kind (status_of byte))) 1 said.Nothing else fails f faults.WrongStatus)
 status_some f kind byte true t = ((tt, t.1), one)
 status_some f kind byte false t = (t, tt)
 
 length_some : (f : Front) (head : Head) (wrong empty : Bool) → Lively f
-    → Does (if wrong then fails f faults.WrongLength else if empty then fails f faults.EmptyPart else says (with_due f (dues.Rest head 4)) 1 said.Nothing)
+    → Does (if wrong then fails f faults.WrongLength else if empty then fails f faults.EmptyPart else says (front_with_due f (dues.Rest head 4)) 1 said.Nothing)
 length_some f head true empty t = (t, tt)
 length_some f head false true t = (t, tt)
 length_some f head false false t = ((tt, t.1), one)
@@ -113,7 +113,7 @@ action_some f stage count (Ok actions.Acknowledge) t = ((headed_some f stage cou
 action_some f stage count (Ok actions.HandOn) t = ((headed_some f stage count Dropped tt, tt), one)
 
 rest_some : (f : Front) (head : Head) (left : ℕ) (more : Bool) → Lively f
-    → Does (if more then says (with_due f (dues.Rest head (left - 1))) 1 said.Nothing else action_done f (taken f.stage head).stage head.count (taken f.stage head).does)
+    → Does (if more then says (front_with_due f (dues.Rest head (left - 1))) 1 said.Nothing else action_done f (taken f.stage head).stage head.count (taken f.stage head).does)
 rest_some f head left true t = ((tt, t.1), one)
 rest_some f head left false t = action_some f (taken f.stage head).stage head.count (taken f.stage head).does t
 
@@ -155,7 +155,7 @@ headers_some : (left run : ℕ) (all : Bool) → run ≤ left → (left == run) 
 headers_some left run true le e = tt
 headers_some left run false le e = above left run le (differ left run e)
 
-behind_some : (part : Part) (byte there : ℕ) → IsPartSome part → IfSome (part_behind part byte (run_of part there)) IsPartSome
+behind_some : (part : Part) (byte there : ℕ) → IsPartSome part → IfSome (length_part_behind part byte (run_of part there)) IsPartSome
 behind_some Low byte there h = tt
 behind_some (High low) byte there h = tt
 behind_some (Third count) byte there h = third_some count (byte == 0)
@@ -165,8 +165,8 @@ behind_some Body byte there h = tt
 behind_some Dropped byte there h = tt
 
 passed_some : (f : Front) (left run body : ℕ) (all : Bool) → Lively f → 1 ≤ run → run ≤ left → (left == run) ≡ all
-    → Does (if all then packet_done (with_due f dues.Type) f.stage run body else says (with_due f (dues.Data (left - run))) run (told body))
-passed_some f left run body true t some le e = done_some (with_due f dues.Type) f.stage run body (tt, t.1) some
+    → Does (if all then packet_done (front_with_due f dues.Type) f.stage run body else says (front_with_due f (dues.Data (left - run))) run (told_body body))
+passed_some f left run body true t some le e = done_some (front_with_due f dues.Type) f.stage run body (tt, t.1) some
 passed_some f left run body false t some le e = ((above left run le (differ left run e), t.1), some)
 
 part_some : (f : Front) (left run body : ℕ) (behind : Option Part) → Lively f → 1 ≤ run → run ≤ left → IfSome behind IsPartSome → Does (with_part f left run body behind)
@@ -174,10 +174,10 @@ part_some f left run body None t some le h = (t, tt)
 part_some f left run body (Some next) t some le h = passed_some (front f.most f.stage f.due next) left run body (left == run) (t.0, h) some le refl
 
 data_some : (f : Front) (left byte there : ℕ) → IsPartSome f.part → Lively f → 1 ≤ left → 1 ≤ there
-    → Does (with_part f left (run_of f.part (min left there)) (body_of f.part (run_of f.part (min left there))) (part_behind f.part byte (run_of f.part (min left there))))
+    → Does (with_part f left (run_of f.part (min left there)) (body_count f.part (run_of f.part (min left there))) (length_part_behind f.part byte (run_of f.part (min left there))))
 data_some f left byte there h t due some =
     let runs = run_some f.part (min left there) h (le-min due some) in
-    part_some f left (run_of f.part (min left there)) (body_of f.part (run_of f.part (min left there))) (part_behind f.part byte (run_of f.part (min left there)))
+    part_some f left (run_of f.part (min left there)) (body_count f.part (run_of f.part (min left there))) (length_part_behind f.part byte (run_of f.part (min left there)))
     t runs.0 (le_trans runs.1 (min-le_left left there)) (behind_some f.part byte (min left there) h)
 
 -- ---- Any bytes

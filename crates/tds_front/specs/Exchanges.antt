@@ -1,6 +1,6 @@
 -- A lawful server's end, said once more: exchanges, one behind the other.
 use Rattle.std.specs.Prelude.{◌≡◌, ℕ, zero, suc, List, [], ◌∷◌, ◌++◌}
-use Rattle.tds_front.specs.Serving.{More, Whole, Ignored, Attention, Tokens, Ends, Acknowledges, Place, Happening, Comes, Goes, Closes, behind_brought, behind_reply}
+use Rattle.tds_front.specs.Serving.{More, Whole, Ignored, Attention, Tokens, Ends, Acknowledges, ServerIsAt, Happening, Comes, Goes, Closes, behind_brought, behind_reply}
 
 -- What comes behind an attention that stops an answer: so many tokens; or the answer's end crosses it (MS-TDS 2.2.1.7).
 pub data Stop : Type 0 where
@@ -55,7 +55,7 @@ pub record IsFront (happenings : List Happening) : Type 0 where
 
 -- ---- Faults
 
-abbrev pub place_after : Place → List Happening → Place
+abbrev pub place_after : ServerIsAt → List Happening → ServerIsAt
 place_after place [] = place
 place_after place (Comes brought ∷ later) = place_after (behind_brought place brought) later
 place_after place (Goes reply ∷ later) = place_after (behind_reply place reply) later

@@ -14,22 +14,22 @@ use Rattle.tds_front.specs.declared.stage.Stage.{Stage}
 use Rattle.tds_front.specs.declared.stage.Stage.TheVariants as stages
 use Rattle.tds_front.specs.Rules as rules
 use Rattle.tds_front.specs.Rules.{taken}
-use Rattle.tds_front.specs.Serving.{More, Whole, Ignored, Attention, Wrong, Reply, Tokens, Ends, Acknowledges, Happening, Comes, Goes, Closes, brings, begun_behind}
+use Rattle.tds_front.specs.Serving.{More, Whole, Ignored, Attention, Wrong, ServerReply, Tokens, Ends, Acknowledges, Happening, Comes, Goes, Closes, brings_message, begun_behind}
 
-pub data Event : Type 0 where
+pub data FrontEvent : Type 0 where
   -- a packet of the application
-  Packet : (head : Head) → Event
+  Packet : (head : Head) → FrontEvent
   -- bytes of it that are no packet of a client's, or no headers of a request (MS-TDS 2.2.3.1, 2.2.5.3)
-  Refuses : (fault : FrontFault) → Event
+  Refuses : (fault : FrontFault) → FrontEvent
   -- something of its request goes on, the last of it or not
-  GoesOn : (last : Bool) → Event
+  GoesOn : (last : Bool) → FrontEvent
   -- what is behind says this, and it goes to the application
-  Says : (reply : Reply) → Event
+  Says : (reply : ServerReply) → FrontEvent
 
-abbrev pub stage_behind : Stage → Reply → Stage
-stage_behind stage Tokens = stage
-stage_behind stage Ends = rules.answered stage
-stage_behind stage Acknowledges = rules.acknowledged stage
+abbrev pub stage_behind_reply : Stage → ServerReply → Stage
+stage_behind_reply stage Tokens = stage
+stage_behind_reply stage Ends = rules.answered stage
+stage_behind_reply stage Acknowledges = rules.acknowledged stage
 
 -- ---- Towards the application
 
@@ -40,19 +40,19 @@ with_own (Ok action) later = later
 with_own (Err fault) later = Closes ∷ later
 
 -- once it is closed, nothing goes to it
-abbrev pub with_reply : Stage → Reply → List Happening → List Happening
+abbrev pub with_reply : Stage → ServerReply → List Happening → List Happening
 with_reply (stages.Broken fault) reply later = later
 with_reply stage reply later = Goes reply ∷ later
 
 -- what comes of the application, and what goes to it
-abbrev pub towards : Option Kind → Stage → List Event → List Happening
+abbrev pub towards : Option Kind → Stage → List FrontEvent → List Happening
 towards begun stage [] = []
 towards begun stage (Packet head ∷ events) =
-    Comes (brings begun head) ∷ with_own (taken stage head).does (towards (begun_behind begun head) (taken stage head).stage events)
+    Comes (brings_message begun head) ∷ with_own (taken stage head).does (towards (begun_behind begun head) (taken stage head).stage events)
 towards begun stage (Refuses fault ∷ events) =
     Comes Wrong ∷ with_own (rules.refuses stage fault).does (towards None (rules.refuses stage fault).stage events)
-towards begun stage (GoesOn last ∷ events) = towards begun (rules.went_on stage) events
-towards begun stage (Says reply ∷ events) = with_reply stage reply (towards begun (stage_behind stage reply) events)
+towards begun stage (GoesOn last ∷ events) = towards begun (rules.request_went_on stage) events
+towards begun stage (Says reply ∷ events) = with_reply stage reply (towards begun (stage_behind_reply stage reply) events)
 
 -- ---- Behind it
 
@@ -63,12 +63,12 @@ with_told (Ok actions.HandOn) later = Comes Attention ∷ later
 with_told does later = later
 
 -- what goes on, and what is said there
-abbrev pub behind : Stage → List Event → List Happening
-behind stage [] = []
-behind stage (Packet head ∷ events) = with_told (taken stage head).does (behind (taken stage head).stage events)
-behind stage (Refuses fault ∷ events) = behind (rules.refuses stage fault).stage events
-behind stage (GoesOn last ∷ events) = Comes (if last then Whole else More) ∷ behind (rules.went_on stage) events
-behind stage (Says reply ∷ events) = Goes reply ∷ behind (stage_behind stage reply) events
+abbrev pub happenings_of : Stage → List FrontEvent → List Happening
+happenings_of stage [] = []
+happenings_of stage (Packet head ∷ events) = with_told (taken stage head).does (happenings_of (taken stage head).stage events)
+happenings_of stage (Refuses fault ∷ events) = happenings_of (rules.refuses stage fault).stage events
+happenings_of stage (GoesOn last ∷ events) = Comes (if last then Whole else More) ∷ happenings_of (rules.request_went_on stage) events
+happenings_of stage (Says reply ∷ events) = Goes reply ∷ happenings_of (stage_behind_reply stage reply) events
 
 -- where its end has come
 abbrev pub EndsAt : Bool → Stage → Type 0
@@ -77,12 +77,12 @@ EndsAt true (stages.Receiving kind gone) = ⊥
 EndsAt last stage = Unit {0}
 
 -- The last of a request goes on only where its end has come.
-abbrev pub EndsWhole : Stage → List Event → Type 0
+abbrev pub EndsWhole : Stage → List FrontEvent → Type 0
 EndsWhole stage [] = Unit {0}
 EndsWhole stage (Packet head ∷ events) = EndsWhole (taken stage head).stage events
 EndsWhole stage (Refuses fault ∷ events) = EndsWhole (rules.refuses stage fault).stage events
-EndsWhole stage (GoesOn last ∷ events) = EndsAt last stage × EndsWhole (rules.went_on stage) events
-EndsWhole stage (Says reply ∷ events) = EndsWhole (stage_behind stage reply) events
+EndsWhole stage (GoesOn last ∷ events) = EndsAt last stage × EndsWhole (rules.request_went_on stage) events
+EndsWhole stage (Says reply ∷ events) = EndsWhole (stage_behind_reply stage reply) events
 
 -- ---- What a call with bytes is of these
 
@@ -119,12 +119,12 @@ IsData (said.End count) = Unit {0}
 IsData answer = ⊥
 
 -- a request's end is told where it is whole
-abbrev pub IsWhole : Stage → Type 0
-IsWhole (stages.Underway gone) = Unit {0}
-IsWhole stage = ⊥
+abbrev pub IsWholeRequest : Stage → Type 0
+IsWholeRequest (stages.Underway gone) = Unit {0}
+IsWholeRequest stage = ⊥
 
 abbrev pub EndsOf : Said → Stage → Type 0
-EndsOf (said.End count) stage = IsWhole stage
+EndsOf (said.End count) stage = IsWholeRequest stage
 EndsOf answer stage = Unit {0}
 
 abbrev pub SaysOf : Stage → Option Head → Result Fed FrontFault → Type 0

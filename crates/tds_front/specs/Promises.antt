@@ -8,7 +8,7 @@ use Rattle.tds_front.specs.declared.stage.Action.TheVariants.{Begin, Go, Forget,
 use Rattle.tds_front.specs.declared.stage.Head.{Head}
 use Rattle.tds_front.specs.declared.stage.Stage.{Stage}
 use Rattle.tds_front.specs.declared.stage.Stage.TheVariants.{Quiet, Receiving, Underway, Stopping, Broken}
-use Rattle.tds_front.specs.Rules.{taken, went_on, answered, acknowledged}
+use Rattle.tds_front.specs.Rules.{taken, request_went_on, answered, acknowledged}
 
 pub data Event : Type 0 where
   Packet : (head : Head) → Event
@@ -18,7 +18,7 @@ pub data Event : Type 0 where
 
 abbrev pub stage_by : Stage → Event → Stage
 stage_by stage (Packet head) = (taken stage head).stage
-stage_by stage WentOn = went_on stage
+stage_by stage WentOn = request_went_on stage
 stage_by stage Answered = answered stage
 stage_by stage Acknowledged = acknowledged stage
 

@@ -13,67 +13,67 @@ use Rattle.tds_front.specs.declared.stage.Action.{Action}
 use Rattle.tds_front.specs.declared.stage.Action.TheVariants.{Begin, Go, Forget, Acknowledge, HandOn}
 use Rattle.tds_front.specs.declared.stage.Move.{Move}
 
-abbrev pub moves : Stage → Action → Move
-moves stage action = record { stage = stage; does = Ok action }
+abbrev pub moves_to : Stage → Action → Move
+moves_to stage action = record { stage = stage; does = Ok action }
 
-abbrev pub breaks : FrontFault → Move
-breaks fault = record { stage = Broken fault; does = Err fault }
+abbrev pub breaks_end : FrontFault → Move
+breaks_end fault = record { stage = Broken fault; does = Err fault }
 
 -- the first fault stays
 abbrev pub refuses : Stage → FrontFault → Move
-refuses (Broken first) fault = breaks first
-refuses _ fault = breaks fault
+refuses (Broken first) fault = breaks_end first
+refuses _ fault = breaks_end fault
 
 -- ---- A packet of a request
 
 -- behind one that ends its message or not
-abbrev pub behind : Kind → Bool → ℕ → Stage
-behind kind gone status = if has_bit status 1 then Underway gone else Receiving kind gone
+abbrev pub stage_behind_packet : Kind → Bool → ℕ → Stage
+stage_behind_packet kind gone status = if has_bit status 1 then Underway gone else Receiving kind gone
 
 -- its message is to be ignored (MS-TDS 2.2.3.1.2)
 abbrev pub forgets : Bool → ℕ → Move
-forgets gone status = if has_bit status 1 then moves Quiet (Forget gone) else breaks faults.IgnoredPart
+forgets gone status = if has_bit status 1 then moves_to Quiet (Forget gone) else breaks_end faults.IgnoredPart
 
 -- the first one of a message
 abbrev pub begins : Head → Move
 begins head =
-    if has_both_resets (bits_of head.status) then breaks faults.BothResets
+    if has_both_resets (bits_of head.status) then breaks_end faults.BothResets
     else if has_bit (bits_of head.status) 2 then forgets false (bits_of head.status)
-    else if head.count == 0 then breaks faults.EmptyPart
-    else moves (behind head.kind false (bits_of head.status)) (Begin head.kind (reset_of (bits_of head.status)))
+    else if head.count == 0 then breaks_end faults.EmptyPart
+    else moves_to (stage_behind_packet head.kind false (bits_of head.status)) (Begin head.kind (reset_of (bits_of head.status)))
 
 -- one of a message that has begun: each has the same type
 abbrev pub goes_on : Kind → Bool → Head → Move
 goes_on kind gone head =
     if kind_byte kind == kind_byte head.kind
-    then (if has_bit (bits_of head.status) 2 then forgets gone (bits_of head.status) else moves (behind kind gone (bits_of head.status)) Go)
-    else breaks faults.TypeChanged
+    then (if has_bit (bits_of head.status) 2 then forgets gone (bits_of head.status) else moves_to (stage_behind_packet kind gone (bits_of head.status)) Go)
+    else breaks_end faults.TypeChanged
 
 abbrev pub of_request : Stage → Head → Move
 of_request Quiet head = begins head
 of_request (Receiving kind gone) head = goes_on kind gone head
-of_request (Underway gone) head = breaks faults.RequestWhileAnswering
-of_request Stopping head = breaks faults.RequestWhileAnswering
-of_request (Broken fault) head = breaks fault
+of_request (Underway gone) head = breaks_end faults.RequestWhileAnswering
+of_request Stopping head = breaks_end faults.RequestWhileAnswering
+of_request (Broken fault) head = breaks_end fault
 
 -- ---- An attention (MS-TDS 2.2.1.7)
 
 -- whoever has something of the request acknowledges its attention
 abbrev pub stops : Bool → Move
-stops false = moves Quiet Acknowledge
-stops true = moves Stopping HandOn
+stops false = moves_to Quiet Acknowledge
+stops true = moves_to Stopping HandOn
 
-abbrev pub attention : Stage → Move
-attention Quiet = moves Quiet Acknowledge
-attention (Receiving kind gone) = stops gone
-attention (Underway gone) = stops gone
-attention Stopping = breaks faults.SecondAttention
-attention (Broken fault) = breaks fault
+abbrev pub takes_attention : Stage → Move
+takes_attention Quiet = moves_to Quiet Acknowledge
+takes_attention (Receiving kind gone) = stops gone
+takes_attention (Underway gone) = stops gone
+takes_attention Stopping = breaks_end faults.SecondAttention
+takes_attention (Broken fault) = breaks_end fault
 
 -- it has no data, and end of message alone
 abbrev pub attended : Stage → Head → Move
 attended stage head =
-    if (bits_of head.status == 1) && (head.count == 0) then attention stage else refuses stage faults.WrongAttention
+    if (bits_of head.status == 1) && (head.count == 0) then takes_attention stage else refuses stage faults.WrongAttention
 
 -- ---- Any packet
 
@@ -88,12 +88,12 @@ taken stage head = taken_as head.kind stage head
 -- ---- What is heard of the server
 
 -- something of the request has gone on to it
-abbrev pub went_on : Stage → Stage
-went_on Quiet = Quiet
-went_on (Receiving kind gone) = Receiving kind true
-went_on (Underway gone) = Underway true
-went_on Stopping = Stopping
-went_on (Broken fault) = Broken fault
+abbrev pub request_went_on : Stage → Stage
+request_went_on Quiet = Quiet
+request_went_on (Receiving kind gone) = Receiving kind true
+request_went_on (Underway gone) = Underway true
+request_went_on Stopping = Stopping
+request_went_on (Broken fault) = Broken fault
 
 -- it has answered
 abbrev pub answered : Stage → Stage

@@ -22,34 +22,34 @@ pub data Brought : Type 0 where
   Wrong : Brought
 
 -- what goes to the client
-pub data Reply : Type 0 where
+pub data ServerReply : Type 0 where
   -- some of a message
-  Tokens : Reply
+  Tokens : ServerReply
   -- the end of a request's answer
-  Ends : Reply
+  Ends : ServerReply
   -- the end of a message that acknowledges an attention: a DONE with bit 0020 (2.2.7.6)
-  Acknowledges : Reply
+  Acknowledges : ServerReply
 
 pub data Happening : Type 0 where
   Comes : (brought : Brought) → Happening
-  Goes : (reply : Reply) → Happening
+  Goes : (reply : ServerReply) → Happening
   -- the server closes the connection
   Closes : Happening
 
 -- ---- Where a server is
 
-pub data Place : Type 0 where
+pub data ServerIsAt : Type 0 where
   -- Logged In (3.3.5.6): it waits for a request, of which a part may have come
-  Ready : Place
+  Ready : ServerIsAt
   -- Client Request Execution (3.3.5.7): a request is whole, and its answer hasn't ended
-  Executing : Place
+  Executing : ServerIsAt
   -- an attention has come, and isn't acknowledged (2.2.1.7): whether an answer is underway that may still end before
-  Stopping : (answering : Bool) → Place
+  Stopping : (answering : Bool) → ServerIsAt
   -- the client broke the protocol
-  Broken : Place
+  Broken : ServerIsAt
 
 -- A request is asked where none is underway, and one attention at a time; it may come at any other moment, also behind the answer's end.
-abbrev pub behind_brought : Place → Brought → Place
+abbrev pub behind_brought : ServerIsAt → Brought → ServerIsAt
 behind_brought Ready More = Ready
 behind_brought Ready Whole = Executing
 behind_brought Ready Ignored = Ready
@@ -61,7 +61,7 @@ behind_brought (Stopping answering) brought = Broken
 behind_brought Broken brought = Broken
 
 -- A request is answered where it is whole, and an attention acknowledged where one is. Nothing else goes.
-abbrev pub MayGo : Place → Reply → Type 0
+abbrev pub MayGo : ServerIsAt → ServerReply → Type 0
 MayGo Executing Tokens = Unit {0}
 MayGo Executing Ends = Unit {0}
 MayGo (Stopping answering) Tokens = Unit {0}
@@ -70,14 +70,14 @@ MayGo (Stopping answering) Acknowledges = Unit {0}
 MayGo place reply = ⊥
 
 -- With the acknowledgement the answer is over.
-abbrev pub behind_reply : Place → Reply → Place
+abbrev pub behind_reply : ServerIsAt → ServerReply → ServerIsAt
 behind_reply place Tokens = place
 behind_reply (Stopping answering) Ends = Stopping false
 behind_reply Broken reply = Broken
 behind_reply place reply = Ready
 
 -- Only what may go at that moment goes, one thing after the other; and the server closes only where the client broke the protocol.
-abbrev pub IsLawful : Place → List Happening → Type 0
+abbrev pub IsLawful : ServerIsAt → List Happening → Type 0
 IsLawful place [] = Unit {0}
 IsLawful place (Comes brought ∷ later) = IsLawful (behind_brought place brought) later
 IsLawful place (Goes reply ∷ later) = MayGo place reply × IsLawful (behind_reply place reply) later
@@ -86,8 +86,8 @@ IsLawful place (Closes ∷ later) = (place ≡ Broken) × IsLawful place later
 -- ---- What a packet brings, by its header (2.2.3.1)
 
 -- The last packet of a message has bit 01; with bit 02 the message is to be ignored, and only the last packet has it.
-abbrev pub brought_by : ℕ → Brought
-brought_by status =
+abbrev pub brought_by_status : ℕ → Brought
+brought_by_status status =
     if has_bit status 2 then (if has_bit status 1 then Ignored else Wrong)
     else (if has_bit status 1 then Whole else More)
 
@@ -96,12 +96,12 @@ abbrev pub brought_first : Head → Brought
 brought_first head =
     if has_both_resets (bits_of head.status) then Wrong
     else if (head.count == 0) && not (has_bit (bits_of head.status) 2) then Wrong
-    else brought_by (bits_of head.status)
+    else brought_by_status (bits_of head.status)
 
 -- Each packet of a message has the type of the first one.
 abbrev pub brought_in : Option Kind → Head → Brought
 brought_in None head = brought_first head
-brought_in (Some kind) head = if kind_byte kind == kind_byte head.kind then brought_by (bits_of head.status) else Wrong
+brought_in (Some kind) head = if kind_byte kind == kind_byte head.kind then brought_by_status (bits_of head.status) else Wrong
 
 -- An attention has no data, and end of message alone (2.2.1.7).
 abbrev pub brought_apart : Head → Brought
@@ -113,17 +113,17 @@ brought_as kinds.Answer begun head = Wrong
 brought_as kind begun head = brought_in begun head
 
 -- where a message of this type has begun, or none has
-abbrev pub brings : Option Kind → Head → Brought
-brings begun head = brought_as head.kind begun head
+abbrev pub brings_message : Option Kind → Head → Brought
+brings_message begun head = brought_as head.kind begun head
 
 -- the type of the message that has begun then, which is its first packet's
-abbrev pub type_of : Option Kind → Kind → Kind
-type_of None kind = kind
-type_of (Some first) kind = first
+abbrev pub message_type : Option Kind → Kind → Kind
+message_type None kind = kind
+message_type (Some first) kind = first
 
 abbrev pub begun_by : Brought → Option Kind → Kind → Option Kind
-begun_by More begun kind = Some (type_of begun kind)
+begun_by More begun kind = Some (message_type begun kind)
 begun_by brought begun kind = None
 
 abbrev pub begun_behind : Option Kind → Head → Option Kind
-begun_behind begun head = begun_by (brings begun head) begun head.kind
+begun_behind begun head = begun_by (brings_message begun head) begun head.kind

@@ -1,8 +1,8 @@
 //! An application's end, over bytes.
 ghost use Rattle.std.specs.Prelude.{◌≡◌, ◌≤◌, ℕ, length, max, Ok, Err, IfOk};
-ghost use Rattle.tds_front.specs.Bytes.{IsWithin, body_in, behind_length, body_of, data_taken, action_done, due_for, fed, fed_by};
-ghost use Rattle.tds_front.specs.Bytes.{behind_data, ended_in, gone_on, headed, kind_from, new_front, part_behind};
-ghost use Rattle.tds_front.specs.Bytes.{packet_done, part_of, run_of, told, with_due, with_kind, with_length};
+ghost use Rattle.tds_front.specs.Bytes.{IsWithin, body_in, behind_length, body_count, data_taken, action_done, due_for, fed, fed_by};
+ghost use Rattle.tds_front.specs.Bytes.{behind_data, ended_in, packet_gone_on, headed, kind_from, new_front, length_part_behind};
+ghost use Rattle.tds_front.specs.Bytes.{packet_done, part_of, run_of, told_body, front_with_due, front_with_kind, with_length};
 ghost use Rattle.tds_front.specs.Bytes.{with_rest, with_status};
 ghost use Rattle.tds_front.specs.Rules as rules;
 
@@ -110,7 +110,7 @@ impl Front {
 
     /// Something of its request has gone on to the server.
     pub fn went_on(&mut self)
-        ensures { self.new ≡ record self.old { stage = rules.went_on self.old.stage } }
+        ensures { self.new ≡ record self.old { stage = rules.request_went_on self.old.stage } }
     {
         self.stage = self.stage.went_on();
     }
@@ -187,8 +187,8 @@ impl Front {
 
     /// The type of a packet has come.
     fn take_kind(&mut self, kind: Option<Kind>) -> Brought
-        ensures front { self.new ≡ (with_kind self.old kind).front }
-        ensures brings { result ≡ (with_kind self.old kind).brings }
+        ensures front { self.new ≡ (front_with_kind self.old kind).front }
+        ensures brings { result ≡ (front_with_kind self.old kind).brings }
         ensures within { IsWithin 1 result }
     {
         match kind {
@@ -292,8 +292,8 @@ impl Front {
 
     /// A packet that goes on with a message: without data it ends it.
     fn go_on(&mut self, count: u16) -> Brought
-        ensures front { self.new ≡ (gone_on self.old count).front }
-        ensures brings { result ≡ (gone_on self.old count).brings }
+        ensures front { self.new ≡ (packet_gone_on self.old count).front }
+        ensures brings { result ≡ (packet_gone_on self.old count).brings }
         ensures within { IsWithin 1 result }
     {
         if count == 0 {

@@ -13,7 +13,7 @@ ghost use Rattle.tds_front.specs.declared.front.Front.{Front};
 ghost use Rattle.tds_front.specs.declared.front.Fed.{Fed};
 ghost use Rattle.tds_front.specs.Bytes.{TakesSome, fed, new_front};
 ghost use Rattle.tds_front.specs.Passing as passing;
-ghost use Rattle.tds_front.specs.Passing.{EndsWhere, EndsWhole, SaysOf, behind, judged, stage_fed, towards};
+ghost use Rattle.tds_front.specs.Passing.{EndsWhere, EndsWhole, SaysOf, happenings_of, judged, stage_fed, towards};
 ghost use Rattle.tds_front.specs.Rules.{taken};
 ghost use Rattle.tds_front.specs.Serving.{Broken, Happening, IsLawful, Ready};
 ghost use Rattle.tds_front.specs.Exchanges.{IsFront, IsSilent, place_after};
@@ -21,8 +21,8 @@ ghost use Rattle.tds_front.specs.Exchanges.{IsFront, IsSilent, place_after};
 /// An application's end is a lawful server's towards whoever connects, where what is behind it is a
 /// lawful server's end towards what goes on.
 pub fn lawful_front()
-    ensures { (events : List passing.Event) → EndsWhole stages.Quiet events
-        → IsLawful Ready (behind stages.Quiet events)
+    ensures { (events : List passing.FrontEvent) → EndsWhole stages.Quiet events
+        → IsLawful Ready (happenings_of stages.Quiet events)
         → IsLawful Ready (towards None stages.Quiet events) }
 {}
 

@@ -1,7 +1,7 @@
 //! What the bytes of an application's message are, one behind another (MS-TDS 2.2.3.1, 2.2.5.3).
 ghost use Rattle.std.specs.Prelude.{◌≡◌, ◌≤◌, max};
-ghost use Rattle.tds_front.specs.Bytes.{behind_length, body_in, body_of, due_for, kind_from, part_behind};
-ghost use Rattle.tds_front.specs.Bytes.{part_of, run_of, told};
+ghost use Rattle.tds_front.specs.Bytes.{behind_length, body_in, body_count, due_for, kind_from, length_part_behind};
+ghost use Rattle.tds_front.specs.Bytes.{part_of, run_of, told_body};
 
 use crate::front::{Due, Part, Said};
 use tds_packet::Kind;
@@ -59,7 +59,7 @@ pub(crate) fn run_of(part: Part, there: u16) -> u16
 
 /// How many of them are the body's.
 pub(crate) fn body_of(part: Part, run: u16) -> u16
-    ensures is { result ≡ body_of part run }
+    ensures is { result ≡ body_count part run }
     ensures most { result ≤ run }
 {
     match part {
@@ -75,7 +75,7 @@ pub(crate) fn body_of(part: Part, run: u16) -> u16
 
 /// What is due behind them, of which this is the first one.
 pub(crate) fn part_behind(part: Part, byte: u8, run: u16) -> Option<Part>
-    ensures { result ≡ part_behind part byte run }
+    ensures { result ≡ length_part_behind part byte run }
 {
     match part {
         Part::Low => Some(Part::High(byte)),
@@ -114,7 +114,7 @@ fn behind_length(count: u16) -> Part
 
 /// So many bytes of a body, if they are any.
 pub(crate) fn told(body: u16) -> Said
-    ensures is { result ≡ told body }
+    ensures is { result ≡ told_body body }
     ensures body { body_in result ≡ body }
 {
     if body == 0 {

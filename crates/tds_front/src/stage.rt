@@ -1,9 +1,9 @@
 //! What an application is at, and what is to be done with each of its packets, by its header.
 ghost use Rattle.std.specs.Prelude.{◌≡◌};
 ghost use Rattle.tds_packet.specs.Layout.{bits_of};
-ghost use Rattle.tds_front.specs.Rules.{acknowledged, answered, attended, attention, begins, behind};
-ghost use Rattle.tds_front.specs.Rules.{breaks, forgets, goes_on, moves, of_request, refuses, stops};
-ghost use Rattle.tds_front.specs.Rules.{taken, went_on};
+ghost use Rattle.tds_front.specs.Rules.{acknowledged, answered, attended, takes_attention, begins, stage_behind_packet};
+ghost use Rattle.tds_front.specs.Rules.{breaks_end, forgets, goes_on, moves_to, of_request, refuses, stops};
+ghost use Rattle.tds_front.specs.Rules.{taken, request_went_on};
 
 use crate::fault::FrontFault;
 use tds_packet::{Kind, Reset, Status};
@@ -57,7 +57,7 @@ pub struct Move {
 }
 
 fn moves(stage: Stage, action: Action) -> Move
-    ensures { result ≡ moves stage action }
+    ensures { result ≡ moves_to stage action }
 {
     Move {
         stage,
@@ -67,7 +67,7 @@ fn moves(stage: Stage, action: Action) -> Move
 
 /// It has broken the protocol so.
 fn breaks(fault: FrontFault) -> Move
-    ensures { result ≡ breaks fault }
+    ensures { result ≡ breaks_end fault }
 {
     Move {
         stage: Stage::Broken(fault),
@@ -77,7 +77,7 @@ fn breaks(fault: FrontFault) -> Move
 
 /// Behind a packet of a request, which ends its message or not.
 fn behind(kind: Kind, gone: bool, status: Status) -> Stage
-    ensures { result ≡ behind kind gone (bits_of status) }
+    ensures { result ≡ stage_behind_packet kind gone (bits_of status) }
 {
     if status.ends() {
         Stage::Underway { gone }
@@ -195,7 +195,7 @@ impl Stage {
 
     /// An attention.
     fn attention(self) -> Move
-        ensures { result ≡ attention self }
+        ensures { result ≡ takes_attention self }
     {
         match self {
             Stage::Quiet => moves(Stage::Quiet, Action::Acknowledge),
@@ -208,7 +208,7 @@ impl Stage {
 
     /// Something of its request has gone on to the server.
     pub fn went_on(self) -> Stage
-        ensures { result ≡ went_on self }
+        ensures { result ≡ request_went_on self }
     {
         match self {
             Stage::Quiet => Stage::Quiet,

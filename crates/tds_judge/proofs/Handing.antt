@@ -5,7 +5,7 @@ use Rattle.tds_judge.specs.declared.finding.Spot.{Spot}
 use Rattle.tds_judge.specs.declared.judge.Judge.{Judge}
 use Rattle.tds_judge.specs.declared.talk.Event.{Event}
 use Rattle.tds_judge.specs.declared.talk.Event.TheVariants as events
-use Rattle.tds_wire.specs.Reading.{Reading}
+use Rattle.tds_wire.specs.Reading.{Parser}
 use Rattle.tds_judge.specs.Conversation.{IsLawful, Piece, Bytes, Lends, Closes, piece_seen, seen}
 use Rattle.tds_judge.specs.Framing.{Run, closed, closed_by, closing, event_by, event_said, run_of, spot_of}
 use Rattle.tds_judge.specs.History.{Said, Tells, further}
@@ -15,11 +15,11 @@ use Rattle.tds_judge.proofs.Breaking.{breaks_by}
 use Rattle.tds_judge.proofs.Lawful.{not_broken}
 use Rattle.tds_judge.proofs.Telling.{on, said_so, same, steps_so, stopped_so}
 
-event_so_by : (o : Option Reading) (spot : Spot) (event : Event) (a : Run) → Tells a (event_by o spot event a)
+event_so_by : (o : Option Parser) (spot : Spot) (event : Event) (a : Run) → Tells a (event_by o spot event a)
 event_so_by None spot event a = same a
 event_so_by (Some r) spot event a = said_so spot event a
 
-closed_so_by : (o : Option Reading) (spot : Spot) (a : Run) → Tells a (closed_by o spot a)
+closed_so_by : (o : Option Parser) (spot : Spot) (a : Run) → Tells a (closed_by o spot a)
 closed_so_by None spot a = same a
 closed_so_by (Some r) spot a = stopped_so spot (closing a.judge) a
 

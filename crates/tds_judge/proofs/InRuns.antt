@@ -8,7 +8,7 @@ use Rattle.tds_wire.specs.declared.fault.Refusal.{Refusal}
 use Rattle.tds_wire.specs.declared.fault.WireFault.{WireFault}
 use Rattle.tds_wire.specs.declared.told.Token.{Token}
 use Rattle.tds_wire.specs.Bytes.{Went, Over, Within, Failed, onward, standing, then_piece}
-use Rattle.tds_wire.specs.Reading.{Reading, Found, Sees, Inside as Amid, Refuses, found_by, found_on, front_of, inside as inside_of, next_token, refusal_at, then_found}
+use Rattle.tds_wire.specs.Reading.{Parser, Found, Sees, Inside as Amid, Refuses, found_by, found_on, front_of, inside as inside_of, next_token, refusal_at, then_found}
 use Rattle.tds_judge.specs.declared.finding.Direction.{Direction}
 use Rattle.tds_judge.specs.declared.finding.Direction.TheVariants.{ToServer, ToClient}
 use Rattle.tds_judge.specs.declared.finding.Finding.{Finding}
@@ -32,17 +32,17 @@ stopped d t (b ∷ bytes) j told e = ap (steps d t bytes) (rw e refl) ∙ stoppe
 
 -- ---- Data that nobody reads
 
-abbrev skipping : Direction → Judge → Reading → ℕ → ℕ → Judge
+abbrev skipping : Direction → Judge → Parser → ℕ → ℕ → Judge
 skipping ToServer j r left offset = record j { client = record j.client { due = due.Data left; inside = inside.Skipped; offset = offset }; parser = Some r }
 skipping ToClient j r left offset = record j { server = record j.server { due = due.Data left; inside = inside.Skipped; offset = offset }; parser = Some r }
 
-skip_one : (d : Direction) (t b : ℕ) (j : Judge) (told : List Finding) (r : Reading) (left offset : ℕ) → nat_lt 1 left ≡ true
+skip_one : (d : Direction) (t b : ℕ) (j : Judge) (told : List Finding) (r : Parser) (left offset : ℕ) → nat_lt 1 left ≡ true
     → step d t b (run_of (skipping d j r left offset) told) ≡ run_of (skipping d j r (left - 1) (min 18446744073709551615 (offset + 1))) told
 unfolding step due_by inside_by
 skip_one ToServer t b j told r left offset more = rw more refl
 skip_one ToClient t b j told r left offset more = rw more refl
 
-skip_run : (d : Direction) (t b : ℕ) (bytes : List ℕ) (j : Judge) (told : List Finding) (r : Reading) (left offset : ℕ) → length (b ∷ bytes) < left
+skip_run : (d : Direction) (t b : ℕ) (bytes : List ℕ) (j : Judge) (told : List Finding) (r : Parser) (left offset : ℕ) → length (b ∷ bytes) < left
     → steps d t (b ∷ bytes) (run_of (skipping d j r left offset) told)
     ≡ run_of (skipping d j r (left - length (b ∷ bytes)) (min 18446744073709551615 (offset + length (b ∷ bytes)))) told
 unfolding steps
@@ -56,24 +56,24 @@ skip_run d t b (c ∷ bytes) j told r left offset few =
     ∙ ap (λ (n : ℕ). run_of (skipping d j r (left - length (b ∷ c ∷ bytes)) n) told) f))
 
 -- a judge that is there is one of these
-is_skipping : (d : Direction) (j : Judge) (r : Reading) (left : ℕ) → (frame_by d j).due ≡ due.Data left → (frame_by d j).inside ≡ inside.Skipped → j.parser ≡ Some r
+is_skipping : (d : Direction) (j : Judge) (r : Parser) (left : ℕ) → (frame_by d j).due ≡ due.Data left → (frame_by d j).inside ≡ inside.Skipped → j.parser ≡ Some r
     → skipping d j r left (frame_by d j).offset ≡ j
 is_skipping ToServer j r left d i w =
     ap (λ (x : Due). record j { client = record j.client { due = x; inside = inside.Skipped }; parser = Some r }) (sym d)
     ∙ (ap (λ (x : Inside). record j { client = record j.client { inside = x }; parser = Some r }) (sym i)
-    ∙ ap (λ (x : Option Reading). record j { parser = x }) (sym w))
+    ∙ ap (λ (x : Option Parser). record j { parser = x }) (sym w))
 is_skipping ToClient j r left d i w =
     ap (λ (x : Due). record j { server = record j.server { due = x; inside = inside.Skipped }; parser = Some r }) (sym d)
     ∙ (ap (λ (x : Inside). record j { server = record j.server { inside = x }; parser = Some r }) (sym i)
-    ∙ ap (λ (x : Option Reading). record j { parser = x }) (sym w))
+    ∙ ap (λ (x : Option Parser). record j { parser = x }) (sym w))
 
-skips_by : (d : Direction) (t b : ℕ) (bytes : List ℕ) (j : Judge) (told : List Finding) (r : Reading) (left : ℕ) → length (b ∷ bytes) < left
+skips_by : (d : Direction) (t b : ℕ) (bytes : List ℕ) (j : Judge) (told : List Finding) (r : Parser) (left : ℕ) → length (b ∷ bytes) < left
     → steps d t (b ∷ bytes) (run_of (skipping d j r left (frame_by d j).offset) told)
     ≡ run_of (passed d left (length (b ∷ bytes)) (skipping d j r left (frame_by d j).offset)) told
 skips_by ToServer t b bytes j told r left few = skip_run ToServer t b bytes j told r left j.client.offset few
 skips_by ToClient t b bytes j told r left few = skip_run ToClient t b bytes j told r left j.server.offset few
 
-pub skips : (d : Direction) (t b : ℕ) (bytes : List ℕ) (j : Judge) (told : List Finding) (r : Reading) (left : ℕ)
+pub skips : (d : Direction) (t b : ℕ) (bytes : List ℕ) (j : Judge) (told : List Finding) (r : Parser) (left : ℕ)
     → (frame_by d j).due ≡ due.Data left → (frame_by d j).inside ≡ inside.Skipped → j.parser ≡ Some r → length (b ∷ bytes) < left
     → run_of (passed d left (length (b ∷ bytes)) j) told ≡ steps d t (b ∷ bytes) (run_of j told)
 skips d t b bytes j told r left e i w few =
@@ -86,33 +86,33 @@ skips d t b bytes j told r left e i w few =
 
 -- the law of `tds_wire`: two pieces do what both do as one
 abbrev pub Cuts : Type 0
-Cuts = (r : Reading) (first second : List ℕ) → then_found (next_token r first) second ≡ next_token r (first ++ second)
+Cuts = (r : Parser) (first second : List ℕ) → then_found (next_token r first) second ≡ next_token r (first ++ second)
 
-abbrev reading : Judge → Reading → ℕ → ℕ → Judge
+abbrev reading : Judge → Parser → ℕ → ℕ → Judge
 reading j r left offset = record j { server = record j.server { due = due.Data left; inside = inside.Walked; offset = offset }; parser = Some r }
 
-walk_one : (t b : ℕ) (j : Judge) (told : List Finding) (r s : Reading) (left offset : ℕ) → next_token r (b ∷ []) ≡ Amid s → nat_lt 1 left ≡ true
+walk_one : (t b : ℕ) (j : Judge) (told : List Finding) (r s : Parser) (left offset : ℕ) → next_token r (b ∷ []) ≡ Amid s → nat_lt 1 left ≡ true
     → step ToClient t b (run_of (reading j r left offset) told) ≡ run_of (reading j s (left - 1) (min 18446744073709551615 (offset + 1))) told
 unfolding step due_by inside_by
 walk_one t b j told r s left offset e more = rw e (rw more refl)
 
-over_one : (t b : ℕ) (j : Judge) (told : List Finding) (r s : Reading) (left offset : ℕ) (token : Token) (rest : List ℕ) → next_token r (b ∷ []) ≡ Sees token s rest → nat_lt 1 left ≡ true
+over_one : (t b : ℕ) (j : Judge) (told : List Finding) (r s : Parser) (left offset : ℕ) (token : Token) (rest : List ℕ) → next_token r (b ∷ []) ≡ Sees token s rest → nat_lt 1 left ≡ true
     → step ToClient t b (run_of (reading j r left offset) told)
     ≡ said (spot_at offset t) (events.Says token) (run_of (reading j s (left - 1) (min 18446744073709551615 (offset + 1))) told)
 unfolding step due_by inside_by
 over_one t b j told r s left offset token rest e more = rw e (rw more refl)
 
 -- all of it is inside a token
-within_on : (f : Found) (t b : ℕ) (more : List ℕ) (j : Judge) (told : List Finding) (r s : Reading) (left offset : ℕ) (end : Run)
+within_on : (f : Found) (t b : ℕ) (more : List ℕ) (j : Judge) (told : List Finding) (r s : Parser) (left offset : ℕ) (end : Run)
     → next_token r (b ∷ []) ≡ f → then_found f more ≡ Amid s → nat_lt 1 left ≡ true
-    → ((u : Reading) → next_token u more ≡ Amid s → steps ToClient t more (run_of (reading j u (left - 1) (min 18446744073709551615 (offset + 1))) told) ≡ end)
+    → ((u : Parser) → next_token u more ≡ Amid s → steps ToClient t more (run_of (reading j u (left - 1) (min 18446744073709551615 (offset + 1))) told) ≡ end)
     → steps ToClient t (b ∷ more) (run_of (reading j r left offset) told) ≡ end
 unfolding steps
 within_on (Amid u) t b more j told r s left offset end e h lt next = ap (steps ToClient t more) (walk_one t b j told r u left offset e lt) ∙ next u h
 within_on (Sees token u rest) t b more j told r s left offset end e h lt next = absurd cc
 within_on (Refuses refusal) t b more j told r s left offset end e h lt next = absurd cc
 
-within_run : (cuts : Cuts) (t b : ℕ) (bytes : List ℕ) (j : Judge) (told : List Finding) (r s : Reading) (left offset : ℕ) → next_token r (b ∷ bytes) ≡ Amid s → length (b ∷ bytes) < left
+within_run : (cuts : Cuts) (t b : ℕ) (bytes : List ℕ) (j : Judge) (told : List Finding) (r s : Parser) (left offset : ℕ) → next_token r (b ∷ bytes) ≡ Amid s → length (b ∷ bytes) < left
     → steps ToClient t (b ∷ bytes) (run_of (reading j r left offset) told)
     ≡ run_of (reading j s (left - length (b ∷ bytes)) (min 18446744073709551615 (offset + length (b ∷ bytes)))) told
 unfolding steps
@@ -121,18 +121,18 @@ within_run cuts t b (c ∷ bytes) j told r s left offset e few =
     let n : left - 1 - length (c ∷ bytes) ≡ left - length (b ∷ c ∷ bytes) = omega arith in
     let m : min 18446744073709551615 (min 18446744073709551615 (offset + 1) + length (c ∷ bytes)) ≡ min 18446744073709551615 (offset + length (b ∷ c ∷ bytes)) = omega arith in
     within_on (next_token r (b ∷ [])) t b (c ∷ bytes) j told r s left offset _ refl (cuts r (b ∷ []) (c ∷ bytes) ∙ e) (lt-ltb 1 left (omega (arith, few)))
-    (λ (u : Reading) (h : next_token u (c ∷ bytes) ≡ Amid s).
+    (λ (u : Parser) (h : next_token u (c ∷ bytes) ≡ Amid s).
     within_run cuts t c bytes j told u s (left - 1) (min 18446744073709551615 (offset + 1)) h (omega (arith, few))
     ∙ (ap (λ (k : ℕ). run_of (reading j s k (min 18446744073709551615 (min 18446744073709551615 (offset + 1) + length (c ∷ bytes)))) told) n
     ∙ ap (λ (k : ℕ). run_of (reading j s (left - length (b ∷ c ∷ bytes)) k) told) m))
 
-is_reading : (j : Judge) (r : Reading) (left : ℕ) → j.server.due ≡ due.Data left → j.server.inside ≡ inside.Walked → j.parser ≡ Some r → reading j r left j.server.offset ≡ j
+is_reading : (j : Judge) (r : Parser) (left : ℕ) → j.server.due ≡ due.Data left → j.server.inside ≡ inside.Walked → j.parser ≡ Some r → reading j r left j.server.offset ≡ j
 is_reading j r left d i w =
     ap (λ (x : Due). record j { server = record j.server { due = x; inside = inside.Walked }; parser = Some r }) (sym d)
     ∙ (ap (λ (x : Inside). record j { server = record j.server { inside = x }; parser = Some r }) (sym i)
-    ∙ ap (λ (x : Option Reading). record j { parser = x }) (sym w))
+    ∙ ap (λ (x : Option Parser). record j { parser = x }) (sym w))
 
-pub walks_within : (cuts : Cuts) (t b : ℕ) (bytes : List ℕ) (j : Judge) (told : List Finding) (r s : Reading) (left : ℕ)
+pub walks_within : (cuts : Cuts) (t b : ℕ) (bytes : List ℕ) (j : Judge) (told : List Finding) (r s : Parser) (left : ℕ)
     → j.server.due ≡ due.Data left → j.server.inside ≡ inside.Walked → j.parser ≡ Some r → next_token r (b ∷ bytes) ≡ Amid s → length (b ∷ bytes) < left
     → run_of (passed ToClient left (length (b ∷ bytes)) (record j { parser = Some s })) told ≡ steps ToClient t (b ∷ bytes) (run_of j told)
 walks_within cuts t b bytes j told r s left d i w e few =
@@ -142,7 +142,7 @@ walks_within cuts t b bytes j told r s left d i w e few =
     ∙ ap (λ (x : Inside). run_of (record j { server = record j.server { due = due.Data (left - length (b ∷ bytes)); inside = x; offset = min 18446744073709551615 (j.server.offset + length (b ∷ bytes)) }; parser = Some s }) told) (sym i)))
 
 -- a token ends with the last of these bytes
-abbrev over_run : ℕ → Judge → List Finding → Reading → ℕ → ℕ → ℕ → Token → Run
+abbrev over_run : ℕ → Judge → List Finding → Parser → ℕ → ℕ → ℕ → Token → Run
 over_run t j told s left offset n token = said (spot_at (place offset n) t) (events.Says token) (run_of (reading j s (left - n) (min 18446744073709551615 (offset + n))) told)
 
 -- the last byte's place, from the second one on
@@ -154,9 +154,9 @@ place_on (suc k) offset =
     rw (a, b) (omega arith)
 
 -- the first of the bytes is inside the token, or its end
-first_on : (f : Found) (t b k : ℕ) (more : List ℕ) (j : Judge) (told : List Finding) (r s : Reading) (left offset : ℕ) (token : Token)
+first_on : (f : Found) (t b k : ℕ) (more : List ℕ) (j : Judge) (told : List Finding) (r s : Parser) (left offset : ℕ) (token : Token)
     → next_token r (b ∷ []) ≡ f → then_found f more ≡ Sees token s (drop k more) → k ≤ length more → nat_lt 1 left ≡ true
-    → ((u : Reading) → next_token u more ≡ Sees token s (drop k more) → steps ToClient t (take k more) (run_of (reading j u (left - 1) (min 18446744073709551615 (offset + 1))) told) ≡ over_run t j told s left offset (suc k) token)
+    → ((u : Parser) → next_token u more ≡ Sees token s (drop k more) → steps ToClient t (take k more) (run_of (reading j u (left - 1) (min 18446744073709551615 (offset + 1))) told) ≡ over_run t j told s left offset (suc k) token)
     → steps ToClient t (b ∷ take k more) (run_of (reading j r left offset) told) ≡ over_run t j told s left offset (suc k) token
 unfolding steps
 first_on (Amid u) t b k more j told r s left offset token e h few lt next = ap (steps ToClient t (take k more)) (walk_one t b j told r u left offset e lt) ∙ next u h
@@ -164,7 +164,7 @@ first_on (Sees first u rest) t b zero more j told r s left offset token e h few 
     let same : u ≡ s = cc in
     let also : first ≡ token = cc in
     over_one t b j told r u left offset first rest e lt
-    ∙ (ap (λ (x : Reading). said (spot_at offset t) (events.Says first) (run_of (reading j x (left - 1) (min 18446744073709551615 (offset + 1))) told)) same
+    ∙ (ap (λ (x : Parser). said (spot_at offset t) (events.Says first) (run_of (reading j x (left - 1) (min 18446744073709551615 (offset + 1))) told)) same
     ∙ ap (λ (x : Token). said (spot_at offset t) (events.Says x) (run_of (reading j s (left - 1) (min 18446744073709551615 (offset + 1))) told)) also)
 first_on (Sees first u rest) t b (suc k) more j told r s left offset token e h few lt next =
     let same : rest ++ more ≡ drop (suc k) more = cc in
@@ -173,25 +173,25 @@ first_on (Sees first u rest) t b (suc k) more j told r s left offset token e h f
     absurd (omega (arith, n, m, few, ap length same))
 first_on (Refuses refusal) t b k more j told r s left offset token e h few lt next = absurd cc
 
-over_steps : (cuts : Cuts) (t b k : ℕ) (bytes : List ℕ) (j : Judge) (told : List Finding) (r s : Reading) (left offset : ℕ) (token : Token)
+over_steps : (cuts : Cuts) (t b k : ℕ) (bytes : List ℕ) (j : Judge) (told : List Finding) (r s : Parser) (left offset : ℕ) (token : Token)
     → next_token r (b ∷ bytes) ≡ Sees token s (drop k bytes) → k ≤ length bytes → suc k < left
     → steps ToClient t (b ∷ take k bytes) (run_of (reading j r left offset) told) ≡ over_run t j told s left offset (suc k) token
 over_steps cuts t b zero bytes j told r s left offset token e few less =
     first_on (next_token r (b ∷ [])) t b 0 bytes j told r s left offset token refl (cuts r (b ∷ []) bytes ∙ e) few (lt-ltb 1 left (omega (arith, less)))
-    (λ (u : Reading) (h : next_token u bytes ≡ Sees token s bytes). absurd (omega (arith, sees_fewer u bytes token s bytes h)))
+    (λ (u : Parser) (h : next_token u bytes ≡ Sees token s bytes). absurd (omega (arith, sees_fewer u bytes token s bytes h)))
 over_steps cuts t b (suc k) [] j told r s left offset token e few less = absurd (omega (arith, few))
 over_steps cuts t b (suc k) (c ∷ bytes) j told r s left offset token e few less =
     let n : left - 1 - suc k ≡ left - suc (suc k) = omega arith in
     let m : min 18446744073709551615 (min 18446744073709551615 (offset + 1) + suc k) ≡ min 18446744073709551615 (offset + suc (suc k)) = omega arith in
     let p : place (min 18446744073709551615 (offset + 1)) (suc k) ≡ place offset (suc (suc k)) = place_on k offset in
     first_on (next_token r (b ∷ [])) t b (suc k) (c ∷ bytes) j told r s left offset token refl (cuts r (b ∷ []) (c ∷ bytes) ∙ e) few (lt-ltb 1 left (omega (arith, less)))
-    (λ (u : Reading) (h : next_token u (c ∷ bytes) ≡ Sees token s (drop k bytes)).
+    (λ (u : Parser) (h : next_token u (c ∷ bytes) ≡ Sees token s (drop k bytes)).
     over_steps cuts t c k bytes j told u s (left - 1) (min 18446744073709551615 (offset + 1)) token h (omega (arith, few)) (omega (arith, less))
     ∙ (ap (λ (x : ℕ). said (spot_at x t) (events.Says token) (run_of (reading j s (left - 1 - suc k) (min 18446744073709551615 (min 18446744073709551615 (offset + 1) + suc k))) told)) p
     ∙ (ap (λ (x : ℕ). said (spot_at (place offset (suc (suc k))) t) (events.Says token) (run_of (reading j s x (min 18446744073709551615 (min 18446744073709551615 (offset + 1) + suc k))) told)) n
     ∙ ap (λ (x : ℕ). said (spot_at (place offset (suc (suc k))) t) (events.Says token) (run_of (reading j s (left - suc (suc k)) x) told)) m)))
 
-pub walks_over : (cuts : Cuts) (t b k : ℕ) (bytes : List ℕ) (j : Judge) (told : List Finding) (r s : Reading) (left : ℕ) (token : Token)
+pub walks_over : (cuts : Cuts) (t b k : ℕ) (bytes : List ℕ) (j : Judge) (told : List Finding) (r s : Parser) (left : ℕ) (token : Token)
     → j.server.due ≡ due.Data left → j.server.inside ≡ inside.Walked → j.parser ≡ Some r → next_token r (b ∷ bytes) ≡ Sees token s (drop k bytes) → k ≤ length bytes → suc k < left
     → said (spot_at (place j.server.offset (suc k)) t) (events.Says token) (run_of (passed ToClient left (suc k) (record j { parser = Some s })) told) ≡ steps ToClient t (b ∷ take k bytes) (run_of j told)
 walks_over cuts t b k bytes j told r s left token d i w e few less =
@@ -202,38 +202,38 @@ walks_over cuts t b k bytes j told r s left token d i w e few less =
 
 -- ---- A fault
 
-fault_one : (t b : ℕ) (j : Judge) (told : List Finding) (r : Reading) (left offset : ℕ) (refusal : Refusal) → next_token r (b ∷ []) ≡ Refuses refusal
+fault_one : (t b : ℕ) (j : Judge) (told : List Finding) (r : Parser) (left offset : ℕ) (refusal : Refusal) → next_token r (b ∷ []) ≡ Refuses refusal
     → step ToClient t b (run_of (reading j r left offset) told)
     ≡ stops (spot_at offset t) (refused_as refusal) (run_of (reading j r left (min 18446744073709551615 (offset + 1))) told)
 unfolding step due_by inside_by
 fault_one t b j told r left offset refusal e = rw e refl
 
 -- one byte on, inside a token
-record Further (r : Reading) (bytes : List ℕ) (behind : List ℕ) : Type 0 where
+record Further (r : Parser) (bytes : List ℕ) (behind : List ℕ) : Type 0 where
   fails : Fails r bytes
   rest : fails.rest ≡ behind
   on : (fault : WireFault) → standing r.walk.at.due ≡ Failing fault → ⊥
 
-further_by : (went : Went) (b : ℕ) (bytes rest : List ℕ) (fault : WireFault) (r u : Reading)
+further_by : (went : Went) (b : ℕ) (bytes rest : List ℕ) (fault : WireFault) (r u : Parser)
     → onward r.walk (b ∷ []) ≡ went → StaysOn went → found_by r (b ∷ []) went ≡ Amid u → then_piece went bytes ≡ Failed fault rest → Further u bytes rest
 further_by (Over w left) b bytes rest fault r u e stays f h = absurd cc
 further_by (Within w) b bytes rest fault r u e stays f h =
     let same : inside_of r w (b ∷ []) ≡ u = cc in
     record {
-      fails = record { fault = fault; rest = rest; whole = ap (λ (x : Reading). x.refused) (sym same); fails = ap (λ (x : Reading). onward x.walk bytes) (sym same) ∙ h };
+      fails = record { fault = fault; rest = rest; whole = ap (λ (x : Parser). x.refused) (sym same); fails = ap (λ (x : Parser). onward x.walk bytes) (sym same) ∙ h };
       rest = refl;
-      on = λ (g : WireFault) (k : standing u.walk.at.due ≡ Failing g). stays g (ap (λ (x : Reading). standing x.walk.at.due) same ∙ k);
+      on = λ (g : WireFault) (k : standing u.walk.at.due ≡ Failing g). stays g (ap (λ (x : Parser). standing x.walk.at.due) same ∙ k);
     }
 further_by (Failed g left) b bytes rest fault r u e stays f h = absurd cc
 
-further : (r u : Reading) (b : ℕ) (bytes : List ℕ) (h : Fails r (b ∷ bytes)) → next_token r (b ∷ []) ≡ Amid u → Further u bytes h.rest
+further : (r u : Parser) (b : ℕ) (bytes : List ℕ) (h : Fails r (b ∷ bytes)) → next_token r (b ∷ []) ≡ Amid u → Further u bytes h.rest
 unfolding next_token
 further r u b bytes h e =
     further_by (onward r.walk (b ∷ [])) b bytes h.rest h.fault r u refl (stays_on r.walk (b ∷ []))
     (sym (ap (λ (o : Option Refusal). found_on o r (b ∷ [])) h.whole) ∙ e) (cut r.walk (b ∷ []) bytes ∙ h.fails)
 
 -- what is left behind a byte that is refused at once is all behind it
-at_once_by : (went : Went) (b : ℕ) (bytes rest : List ℕ) (fault : WireFault) (r : Reading) (refusal : Refusal)
+at_once_by : (went : Went) (b : ℕ) (bytes rest : List ℕ) (fault : WireFault) (r : Parser) (refusal : Refusal)
     → found_by r (b ∷ []) went ≡ Refuses refusal → then_piece went bytes ≡ Failed fault rest → length bytes ≤ length rest
 at_once_by (Over w left) b bytes rest fault r refusal f h = absurd cc
 at_once_by (Within w) b bytes rest fault r refusal f h = absurd cc
@@ -241,25 +241,25 @@ at_once_by (Failed g left) b bytes rest fault r refusal f h =
     let same : left ++ bytes ≡ rest = cc in
     omega (arith, length-append left bytes, ap length same)
 
-at_once : (r : Reading) (b : ℕ) (bytes : List ℕ) (refusal : Refusal) (h : Fails r (b ∷ bytes)) → next_token r (b ∷ []) ≡ Refuses refusal → length bytes ≤ length h.rest
+at_once : (r : Parser) (b : ℕ) (bytes : List ℕ) (refusal : Refusal) (h : Fails r (b ∷ bytes)) → next_token r (b ∷ []) ≡ Refuses refusal → length bytes ≤ length h.rest
 unfolding next_token
 at_once r b bytes refusal h e =
     at_once_by (onward r.walk (b ∷ [])) b bytes h.rest h.fault r refusal
     (sym (ap (λ (o : Option Refusal). found_on o r (b ∷ [])) h.whole) ∙ e) (cut r.walk (b ∷ []) bytes ∙ h.fails)
 
 -- behind a byte of a token, a byte at least leads to the fault
-some_later : (u : Reading) (bytes rest : List ℕ) → Further u bytes rest → length rest < length bytes
+some_later : (u : Parser) (bytes rest : List ℕ) → Further u bytes rest → length rest < length bytes
 some_later u bytes rest h =
     let l : FailsLater (length bytes) (Failed h.fails.fault h.fails.rest) = subst (FailsLater (length bytes)) h.fails.fails (fails_later u.walk bytes h.on) in
     omega (arith, l, ap length h.rest)
 
-abbrev failing : ℕ → Judge → List Finding → Reading → ℕ → ℕ → ℕ → Refusal → Run
+abbrev failing : ℕ → Judge → List Finding → Parser → ℕ → ℕ → ℕ → Refusal → Run
 failing t j told r left offset n refusal =
     stops (spot_at (place offset n) t) (refused_as refusal) (run_of (reading j r left (min 18446744073709551615 (offset + n))) told)
 
-fault_on : (f : Found) (t b n : ℕ) (bytes : List ℕ) (j : Judge) (told : List Finding) (r : Reading) (left offset : ℕ) (refusal : Refusal) (h : Fails r (b ∷ bytes))
+fault_on : (f : Found) (t b n : ℕ) (bytes : List ℕ) (j : Judge) (told : List Finding) (r : Parser) (left offset : ℕ) (refusal : Refusal) (h : Fails r (b ∷ bytes))
     → next_token r (b ∷ []) ≡ f → then_found f bytes ≡ Refuses refusal → suc n ≡ max 1 (length (b ∷ bytes) - length h.rest) → nat_lt 1 left ≡ true
-    → ((u : Reading) → next_token u bytes ≡ Refuses refusal → Further u bytes h.rest → steps ToClient t (take n bytes) (run_of (reading j u (left - 1) (min 18446744073709551615 (offset + 1))) told) ≡ failing t j told r (left - n) offset (suc n) refusal)
+    → ((u : Parser) → next_token u bytes ≡ Refuses refusal → Further u bytes h.rest → steps ToClient t (take n bytes) (run_of (reading j u (left - 1) (min 18446744073709551615 (offset + 1))) told) ≡ failing t j told r (left - n) offset (suc n) refusal)
     → steps ToClient t (b ∷ take n bytes) (run_of (reading j r left offset) told) ≡ failing t j told r (left - n) offset (suc n) refusal
 unfolding steps
 fault_on (Amid u) t b n bytes j told r left offset refusal h e f count lt next = ap (steps ToClient t (take n bytes)) (walk_one t b j told r u left offset e lt) ∙ next u f (further r u b bytes h e)
@@ -272,28 +272,28 @@ fault_on (Refuses first) t b zero bytes j told r left offset refusal h e f count
     ∙ ap (λ (x : ℕ). failing t j told r x offset 1 refusal) (sym all))
 fault_on (Refuses first) t b (suc n) bytes j told r left offset refusal h e f count lt next = absurd (omega (arith, count, at_once r b bytes first h e))
 
-fault_steps : (cuts : Cuts) (t b n : ℕ) (bytes : List ℕ) (j : Judge) (told : List Finding) (r : Reading) (left offset : ℕ) (refusal : Refusal) (h : Fails r (b ∷ bytes))
+fault_steps : (cuts : Cuts) (t b n : ℕ) (bytes : List ℕ) (j : Judge) (told : List Finding) (r : Parser) (left offset : ℕ) (refusal : Refusal) (h : Fails r (b ∷ bytes))
     → next_token r (b ∷ bytes) ≡ Refuses refusal → suc n ≡ max 1 (length (b ∷ bytes) - length h.rest) → suc n < left
     → steps ToClient t (b ∷ take n bytes) (run_of (reading j r left offset) told) ≡ failing t j told r (left - n) offset (suc n) refusal
 fault_steps cuts t b n [] j told r left offset refusal h e count less =
     fault_on (next_token r (b ∷ [])) t b n [] j told r left offset refusal h refl (cuts r (b ∷ []) [] ∙ e) count (lt-ltb 1 left (omega (arith, less)))
-    (λ (u : Reading) (f : next_token u [] ≡ Refuses refusal) (g : Further u [] h.rest). absurd (omega (arith, some_later u [] h.rest g)))
+    (λ (u : Parser) (f : next_token u [] ≡ Refuses refusal) (g : Further u [] h.rest). absurd (omega (arith, some_later u [] h.rest g)))
 fault_steps cuts t b zero (c ∷ bytes) j told r left offset refusal h e count less =
     fault_on (next_token r (b ∷ [])) t b 0 (c ∷ bytes) j told r left offset refusal h refl (cuts r (b ∷ []) (c ∷ bytes) ∙ e) count (lt-ltb 1 left (omega (arith, less)))
-    (λ (u : Reading) (f : next_token u (c ∷ bytes) ≡ Refuses refusal) (g : Further u (c ∷ bytes) h.rest). absurd (omega (arith, count, some_later u (c ∷ bytes) h.rest g)))
+    (λ (u : Parser) (f : next_token u (c ∷ bytes) ≡ Refuses refusal) (g : Further u (c ∷ bytes) h.rest). absurd (omega (arith, count, some_later u (c ∷ bytes) h.rest g)))
 fault_steps cuts t b (suc n) (c ∷ bytes) j told r left offset refusal h e count less =
     let k : left - 1 - n ≡ left - suc n = omega arith in
     let m : min 18446744073709551615 (min 18446744073709551615 (offset + 1) + suc n) ≡ min 18446744073709551615 (offset + suc (suc n)) = omega arith in
     let p : place (min 18446744073709551615 (offset + 1)) (suc n) ≡ place offset (suc (suc n)) = place_on n offset in
     fault_on (next_token r (b ∷ [])) t b (suc n) (c ∷ bytes) j told r left offset refusal h refl (cuts r (b ∷ []) (c ∷ bytes) ∙ e) count (lt-ltb 1 left (omega (arith, less)))
-    (λ (u : Reading) (f : next_token u (c ∷ bytes) ≡ Refuses refusal) (g : Further u (c ∷ bytes) h.rest).
+    (λ (u : Parser) (f : next_token u (c ∷ bytes) ≡ Refuses refusal) (g : Further u (c ∷ bytes) h.rest).
     fault_steps cuts t c n bytes j told u (left - 1) (min 18446744073709551615 (offset + 1)) refusal g.fails f (omega (arith, count, some_later u (c ∷ bytes) h.rest g, ap length g.rest)) (omega (arith, less))
     ∙ (ap (λ (x : ℕ). stops (spot_at x t) (refused_as refusal) (run_of (reading j r (left - 1 - n) (min 18446744073709551615 (min 18446744073709551615 (offset + 1) + suc n))) told)) p
     ∙ (ap (λ (x : ℕ). stops (spot_at (place offset (suc (suc n))) t) (refused_as refusal) (run_of (reading j r x (min 18446744073709551615 (min 18446744073709551615 (offset + 1) + suc n))) told)) k
     ∙ ap (λ (x : ℕ). stops (spot_at (place offset (suc (suc n))) t) (refused_as refusal) (run_of (reading j r (left - suc n) x) told)) m)))
 
 -- how many bytes lead to a fault, by what is told of it
-counts_by : (went : Went) (r : Reading) (piece : List ℕ) (refusal : Refusal) → AtMost (length piece) went → r.refused ≡ None → onward r.walk piece ≡ went → found_by r piece went ≡ Refuses refusal
+counts_by : (went : Went) (r : Parser) (piece : List ℕ) (refusal : Refusal) → AtMost (length piece) went → r.refused ≡ None → onward r.walk piece ≡ went → found_by r piece went ≡ Refuses refusal
     → r.start + r.passed + length piece < 18446744073709551615
     → (h : Fails r piece) × (max 1 (length piece - length h.rest) ≡ refused_after (r.start + r.passed) refusal)
 counts_by (Over w rest) r piece refusal most whole e f few = absurd cc
@@ -303,13 +303,13 @@ counts_by (Failed fault rest) r piece refusal most whole e f few =
     let n : length (front_of piece rest) ≡ min (length piece - length rest) (length piece) = length-take (length piece - length rest) piece in
     (record { fault = fault; rest = rest; whole = whole; fails = e }, omega (arith, n, most, few, ap (λ (x : Refusal). x.at) same))
 
-counts : (r : Reading) (piece : List ℕ) (refusal : Refusal) → r.refused ≡ None → next_token r piece ≡ Refuses refusal → r.start + r.passed + length piece < 18446744073709551615
+counts : (r : Parser) (piece : List ℕ) (refusal : Refusal) → r.refused ≡ None → next_token r piece ≡ Refuses refusal → r.start + r.passed + length piece < 18446744073709551615
     → (h : Fails r piece) × (max 1 (length piece - length h.rest) ≡ refused_after (r.start + r.passed) refusal)
 unfolding next_token
 counts r piece refusal whole e few =
     counts_by (onward r.walk piece) r piece refusal (most_onward r.walk piece) whole refl (sym (ap (λ (o : Option Refusal). found_on o r piece) whole) ∙ e) few
 
-pub walks_to_fault : (cuts : Cuts) (t b n : ℕ) (bytes : List ℕ) (j : Judge) (told : List Finding) (r : Reading) (left : ℕ) (refusal : Refusal)
+pub walks_to_fault : (cuts : Cuts) (t b n : ℕ) (bytes : List ℕ) (j : Judge) (told : List Finding) (r : Parser) (left : ℕ) (refusal : Refusal)
     → j.server.due ≡ due.Data left → j.server.inside ≡ inside.Walked → j.parser ≡ Some r → r.refused ≡ None → r.start + r.passed ≤ 9223372036854775808
     → next_token r (b ∷ bytes) ≡ Refuses refusal → length (b ∷ bytes) < left → left ≤ 65535 → suc n ≡ min (refused_after (r.start + r.passed) refusal) (length (b ∷ bytes))
     → stops (spot_at (place j.server.offset (suc n)) t) (refused_as refusal) (run_of (failed left (suc n) j) told) ≡ steps ToClient t (b ∷ take n bytes) (run_of j told)

@@ -1,6 +1,6 @@
 -- Rows in a run of a packet's bytes: what they do is nothing but to be passed.
 use Rattle.std.proofs.Common.{◌≡◌, ◌∙◌, ◌≤◌, ◌<◌, ℕ, List, length, take, Some, false, refl, ap}
-use Rattle.tds_wire.specs.Reading.{Reading}
+use Rattle.tds_wire.specs.Reading.{Parser}
 use Rattle.tds_wire.specs.Rows.{IsPassed, row_token}
 use Rattle.tds_judge.specs.declared.finding.Direction.TheVariants.{ToClient}
 use Rattle.tds_judge.specs.declared.finding.Finding.{Finding}
@@ -13,7 +13,7 @@ use Rattle.tds_judge.proofs.InRuns.{Cuts}
 use Rattle.tds_judge.proofs.Mute.{mute}
 use Rattle.tds_judge.proofs.SomeRuns.{some_over}
 
-pub row_steps : (cuts : Cuts) (t n : ℕ) (bytes : List ℕ) (j : Judge) (told : List Finding) (r s : Reading) (left : ℕ)
+pub row_steps : (cuts : Cuts) (t n : ℕ) (bytes : List ℕ) (j : Judge) (told : List Finding) (r s : Parser) (left : ℕ)
     → j.server.due ≡ due.Data left → j.server.inside ≡ inside.Walked → j.parser ≡ Some r → j.talk.is_final ≡ false → IsPassed n r s bytes
     → 0 < n → n ≤ length bytes → length bytes < left
     → run_of (passed ToClient left n (record j { parser = Some s })) told ≡ steps ToClient t (take n bytes) (run_of j told)

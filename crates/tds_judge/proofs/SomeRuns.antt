@@ -4,7 +4,7 @@ use Rattle.std.proofs.Math.Seq.{take-length}
 use Rattle.std.proofs.lemmas.List.{length-take-le}
 use Rattle.tds_wire.specs.declared.fault.Refusal.{Refusal}
 use Rattle.tds_wire.specs.declared.told.Token.{Token}
-use Rattle.tds_wire.specs.Reading.{Reading, Sees, Inside as Amid, next_token}
+use Rattle.tds_wire.specs.Reading.{Parser, Sees, Inside as Amid, next_token}
 use Rattle.tds_judge.specs.declared.finding.Direction.{Direction}
 use Rattle.tds_judge.specs.declared.finding.Direction.TheVariants.{ToClient}
 use Rattle.tds_judge.specs.declared.finding.Finding.{Finding}
@@ -16,7 +16,7 @@ use Rattle.tds_judge.specs.Framing.{Run, frame_by, refused_as, run_of, said, ste
 use Rattle.tds_judge.specs.Runs.{IsRefused, failed, passed, place, spot_at}
 use Rattle.tds_judge.proofs.InRuns.{Cuts, skips, stopped, walks_over, walks_to_fault, walks_within}
 
-pub is_none : (parser : Option Reading) → stopped_by parser ≡ true → parser ≡ None
+pub is_none : (parser : Option Parser) → stopped_by parser ≡ true → parser ≡ None
 is_none None e = refl
 is_none (Some r) e = absurd cc
 
@@ -28,21 +28,21 @@ one_step d t (b ∷ bytes) run some = refl
 pub all_stopped : (d : Direction) (t : ℕ) (bytes : List ℕ) (j : Judge) (told : List Finding) → j.parser ≡ None → run_of j told ≡ steps d t (take (length bytes) bytes) (run_of j told)
 all_stopped d t bytes j told e = sym (stopped d t (take (length bytes) bytes) j told e)
 
-pub some_within : (cuts : Cuts) (t : ℕ) (bytes : List ℕ) (j : Judge) (told : List Finding) (r s : Reading) (left : ℕ) → 0 < length bytes
+pub some_within : (cuts : Cuts) (t : ℕ) (bytes : List ℕ) (j : Judge) (told : List Finding) (r s : Parser) (left : ℕ) → 0 < length bytes
     → j.server.due ≡ due.Data left → j.server.inside ≡ inside.Walked → j.parser ≡ Some r → next_token r bytes ≡ Amid s → length bytes < left
     → run_of (passed ToClient left (length bytes) (record j { parser = Some s })) told ≡ steps ToClient t (take (length bytes) bytes) (run_of j told)
 some_within cuts t [] j told r s left some d i w e few = absurd (omega (arith, some))
 some_within cuts t (b ∷ bytes) j told r s left some d i w e few =
     walks_within cuts t b bytes j told r s left d i w e few ∙ ap (λ (ys : List ℕ). steps ToClient t ys (run_of j told)) (sym (take-length (b ∷ bytes)))
 
-pub some_over : (cuts : Cuts) (t n : ℕ) (bytes : List ℕ) (j : Judge) (told : List Finding) (r s : Reading) (left : ℕ) (token : Token)
+pub some_over : (cuts : Cuts) (t n : ℕ) (bytes : List ℕ) (j : Judge) (told : List Finding) (r s : Parser) (left : ℕ) (token : Token)
     → j.server.due ≡ due.Data left → j.server.inside ≡ inside.Walked → j.parser ≡ Some r → next_token r bytes ≡ Sees token s (drop n bytes) → 0 < n → n ≤ length bytes → length bytes < left
     → said (spot_at (place j.server.offset n) t) (events.Says token) (run_of (passed ToClient left n (record j { parser = Some s })) told) ≡ steps ToClient t (take n bytes) (run_of j told)
 some_over cuts t zero bytes j told r s left token d i w e some few less = absurd (omega (arith, some))
 some_over cuts t (suc n) [] j told r s left token d i w e some few less = absurd (omega (arith, few))
 some_over cuts t (suc n) (b ∷ bytes) j told r s left token d i w e some few less = walks_over cuts t b n bytes j told r s left token d i w e (omega (arith, few)) (omega (arith, few, less))
 
-pub some_to_fault : (cuts : Cuts) (t n : ℕ) (bytes : List ℕ) (j : Judge) (told : List Finding) (r : Reading) (left : ℕ) (refusal : Refusal) (h : IsRefused n r bytes) → h.refusal ≡ refusal
+pub some_to_fault : (cuts : Cuts) (t n : ℕ) (bytes : List ℕ) (j : Judge) (told : List Finding) (r : Parser) (left : ℕ) (refusal : Refusal) (h : IsRefused n r bytes) → h.refusal ≡ refusal
     → j.server.due ≡ due.Data left → j.server.inside ≡ inside.Walked → j.parser ≡ Some r → r.refused ≡ None → r.start + r.passed ≤ 9223372036854775808
     → 0 < length bytes → length bytes < left → left ≤ 65535
     → stops (spot_at (place j.server.offset n) t) (refused_as refusal) (run_of (failed left n j) told) ≡ steps ToClient t (take n bytes) (run_of j told)
@@ -52,7 +52,7 @@ some_to_fault cuts t (suc n) (b ∷ bytes) j told r left refusal h same d i w wh
     ap (λ (x : Refusal). stops (spot_at (place j.server.offset (suc n)) t) (refused_as x) (run_of (failed left (suc n) j) told)) (sym same)
     ∙ walks_to_fault cuts t b n bytes j told r left h.refusal d i w whole small h.refuses few most h.after
 
-pub some_skipped : (parser : Option Reading) (d : Direction) (t n : ℕ) (bytes : List ℕ) (j : Judge) (told : List Finding) (left : ℕ) → j.parser ≡ parser → stopped_by parser ≡ false
+pub some_skipped : (parser : Option Parser) (d : Direction) (t n : ℕ) (bytes : List ℕ) (j : Judge) (told : List Finding) (left : ℕ) → j.parser ≡ parser → stopped_by parser ≡ false
     → (frame_by d j).due ≡ due.Data left → (frame_by d j).inside ≡ inside.Skipped → 0 < n → n ≤ length bytes → n < left
     → run_of (passed d left n j) told ≡ steps d t (take n bytes) (run_of j told)
 some_skipped None d t n bytes j told left w on e i some few less = absurd cc

@@ -17,7 +17,7 @@ use Rattle.tds_judge.specs.declared.talk.Event.{Event}
 use Rattle.tds_judge.specs.declared.talk.Event.TheVariants as events
 use Rattle.tds_judge.specs.declared.talk.Limits.{Limits}
 use Rattle.tds_judge.specs.declared.talk.Talk.{Talk}
-use Rattle.tds_wire.specs.Reading.{Reading, Found, Sees, Inside as Amid, Refuses, next_token}
+use Rattle.tds_wire.specs.Reading.{Parser, Found, Sees, Inside as Amid, Refuses, next_token}
 use Rattle.tds_judge.specs.declared.headers.Headed.{Headed}
 use Rattle.tds_judge.specs.declared.headers.Headed.TheVariants as headings
 use Rattle.tds_judge.specs.declared.headers.HeaderFault.TheVariants as faults
@@ -210,7 +210,7 @@ versioned_so spot place byte a =
     either a (framed spot.direction f a) (versioned_if (is_judged_version byte) spot byte b) (nat_lt place 7) (framed_so spot.direction f a)
     (on a b (versioned_if (is_judged_version byte) spot byte b) (framed_so spot.direction g a) (versioned_so_by (is_judged_version byte) spot byte b))
 
-read_so : (r : Reading) (a : Run) → Tells a (read_by r a)
+read_so : (r : Parser) (a : Run) → Tells a (read_by r a)
 read_so r a = nothing a (read_by r a) refl refl refl
 
 found_so : (found : Found) (spot : Spot) (a : Run) → Tells a (walked_by found spot a)
@@ -218,7 +218,7 @@ found_so (Sees token r rest) spot a = on a (read_by r a) (said spot (events.Says
 found_so (Amid r) spot a = read_so r a
 found_so (Refuses refusal) spot a = stopped_so spot (refused_as refusal) a
 
-walked_so : (o : Option Reading) (spot : Spot) (byte : ℕ) (a : Run) → Tells a (walked o spot byte a)
+walked_so : (o : Option Parser) (spot : Spot) (byte : ℕ) (a : Run) → Tells a (walked o spot byte a)
 walked_so None spot byte a = same a
 walked_so (Some r) spot byte a = found_so (next_token r (byte ∷ [])) spot a
 
@@ -229,7 +229,7 @@ inside_so (inside.Prefix heading) spot byte a = prefixed_so spot (heading_by hea
 inside_so inside.Walked spot byte a = walked_so a.judge.parser spot byte a
 inside_so (inside.Version place) spot byte a = versioned_so spot place byte a
 
-counted_so : (o : Option Reading) (spot : Spot) (left : ℕ) (a : Run) → Tells a (counted_by o spot left a)
+counted_so : (o : Option Parser) (spot : Spot) (left : ℕ) (a : Run) → Tells a (counted_by o spot left a)
 counted_so None spot left a = same a
 counted_so (Some r) spot left a =
     let f = record (frame_of spot.direction a) { due = due.Data (left - 1) } in
@@ -244,7 +244,7 @@ due_so (due.Data left) spot byte a =
     let b = inside_by (frame_of spot.direction a).inside spot byte a in
     on a b (counted spot left b) (inside_so (frame_of spot.direction a).inside spot byte a) (counted_so b.judge.parser spot left b)
 
-step_so_by : (o : Option Reading) (d : Direction) (time byte : ℕ) (a : Run) → Tells a (step_by o d time byte a)
+step_so_by : (o : Option Parser) (d : Direction) (time byte : ℕ) (a : Run) → Tells a (step_by o d time byte a)
 step_so_by None d time byte a = same a
 step_so_by (Some r) d time byte a =
     let f = frame_of d a in

@@ -6,8 +6,8 @@ use Rattle.tds_wire.specs.declared.due.Standing.{Standing}
 use Rattle.tds_wire.specs.declared.due.Standing.TheVariants.{Between, Going, Failing}
 use Rattle.tds_wire.specs.declared.told.Token.{Token}
 use Rattle.tds_wire.specs.Walking.{Walk}
-use Rattle.tds_wire.specs.Bytes.{Went, Over, Within, Failed, onward, standing, step, then_piece, to_end, went_by, went_on}
-use Rattle.tds_wire.specs.Reading.{Reading, Sees, found_by, found_on, next_token}
+use Rattle.tds_wire.specs.Bytes.{Went, Over, Within, Failed, onward, standing, walk_step, then_piece, to_end, went_by, went_on}
+use Rattle.tds_wire.specs.Reading.{Parser, Sees, found_by, found_on, next_token}
 
 -- ---- How many bytes are left
 
@@ -34,7 +34,7 @@ most_by (Failing fault) w bytes went h = omega arith
 most_at_end : (w : Walk) (bytes : List ℕ) → AtMost (length bytes) (to_end w bytes)
 unfolding to_end
 most_at_end w [] = most_by (standing w.at.due) w [] (Within w) tt
-most_at_end w (byte ∷ bytes) = most_by (standing w.at.due) w (byte ∷ bytes) (to_end (step w byte) bytes) (one_more (length bytes) (to_end (step w byte) bytes) (most_at_end (step w byte) bytes))
+most_at_end w (byte ∷ bytes) = most_by (standing w.at.due) w (byte ∷ bytes) (to_end (walk_step w byte) bytes) (one_more (length bytes) (to_end (walk_step w byte) bytes) (most_at_end (walk_step w byte) bytes))
 
 most_on : (st : Standing) (bytes : List ℕ) (went : Went) → AtMost (length bytes) went → AtMost (length bytes) (went_on st bytes went)
 most_on Between bytes went h = h
@@ -44,7 +44,7 @@ most_on (Failing fault) bytes went h = omega arith
 pub most_onward : (w : Walk) (bytes : List ℕ) → AtMost (length bytes) (onward w bytes)
 unfolding onward
 most_onward w [] = most_on (standing w.at.due) [] (Within w) tt
-most_onward w (byte ∷ bytes) = most_on (standing w.at.due) (byte ∷ bytes) (to_end (step w byte) bytes) (one_more (length bytes) (to_end (step w byte) bytes) (most_at_end (step w byte) bytes))
+most_onward w (byte ∷ bytes) = most_on (standing w.at.due) (byte ∷ bytes) (to_end (walk_step w byte) bytes) (one_more (length bytes) (to_end (walk_step w byte) bytes) (most_at_end (walk_step w byte) bytes))
 
 fewer_of : (n : ℕ) (went : Went) → AtMost n went → Fewer (suc n) went
 fewer_of n (Over w rest) h = omega (arith, h)
@@ -59,21 +59,21 @@ fewer_on (Failing fault) bytes n went h = tt
 fewer : (w : Walk) (bytes : List ℕ) → Fewer (length bytes) (onward w bytes)
 unfolding onward
 fewer w [] = fewer_on (standing w.at.due) [] 0 (Within w) tt
-fewer w (byte ∷ bytes) = fewer_on (standing w.at.due) (byte ∷ bytes) (suc (length bytes)) (to_end (step w byte) bytes) (fewer_of (length bytes) (to_end (step w byte) bytes) (most_at_end (step w byte) bytes))
+fewer w (byte ∷ bytes) = fewer_on (standing w.at.due) (byte ∷ bytes) (suc (length bytes)) (to_end (walk_step w byte) bytes) (fewer_of (length bytes) (to_end (walk_step w byte) bytes) (most_at_end (walk_step w byte) bytes))
 
 -- a token has a byte at least
-sees_by : (went : Went) (r : Reading) (piece : List ℕ) (token : Token) (s : Reading) (rest : List ℕ)
+sees_by : (went : Went) (r : Parser) (piece : List ℕ) (token : Token) (s : Parser) (rest : List ℕ)
     → Fewer (length piece) went → found_by r piece went ≡ Sees token s rest → length rest < length piece
 sees_by (Over w left) r piece token s rest h e = let same : left ≡ rest = cc in omega (arith, h, ap length same)
 sees_by (Within w) r piece token s rest h e = absurd cc
 sees_by (Failed fault left) r piece token s rest h e = absurd cc
 
-sees_on : (o : Option Refusal) (r : Reading) (piece : List ℕ) (token : Token) (s : Reading) (rest : List ℕ)
+sees_on : (o : Option Refusal) (r : Parser) (piece : List ℕ) (token : Token) (s : Parser) (rest : List ℕ)
     → found_on o r piece ≡ Sees token s rest → length rest < length piece
 sees_on (Some refusal) r piece token s rest e = absurd cc
 sees_on None r piece token s rest e = sees_by (onward r.walk piece) r piece token s rest (fewer r.walk piece) e
 
-pub sees_fewer : (r : Reading) (piece : List ℕ) (token : Token) (s : Reading) (rest : List ℕ)
+pub sees_fewer : (r : Parser) (piece : List ℕ) (token : Token) (s : Parser) (rest : List ℕ)
     → next_token r piece ≡ Sees token s rest → length rest < length piece
 unfolding next_token
 sees_fewer r piece token s rest e = sees_on r.refused r piece token s rest e
@@ -96,7 +96,7 @@ on_by (Failing fault) w bytes went h = tt
 on_at_end : (w : Walk) (bytes : List ℕ) → StaysOn (to_end w bytes)
 unfolding to_end
 on_at_end w [] = on_by (standing w.at.due) w [] (Within w) (λ good. good)
-on_at_end w (byte ∷ bytes) = on_by (standing w.at.due) w (byte ∷ bytes) (to_end (step w byte) bytes) (λ good. on_at_end (step w byte) bytes)
+on_at_end w (byte ∷ bytes) = on_by (standing w.at.due) w (byte ∷ bytes) (to_end (walk_step w byte) bytes) (λ good. on_at_end (walk_step w byte) bytes)
 
 on_on : (st : Standing) (bytes : List ℕ) (went : Went) → (IsOn st → StaysOn went) → StaysOn (went_on st bytes went)
 on_on Between bytes went h = h (λ fault e. absurd cc)
@@ -106,10 +106,10 @@ on_on (Failing fault) bytes went h = tt
 pub stays_on : (w : Walk) (bytes : List ℕ) → StaysOn (onward w bytes)
 unfolding onward
 stays_on w [] = on_on (standing w.at.due) [] (Within w) (λ good. good)
-stays_on w (byte ∷ bytes) = on_on (standing w.at.due) (byte ∷ bytes) (to_end (step w byte) bytes) (λ good. on_at_end (step w byte) bytes)
+stays_on w (byte ∷ bytes) = on_on (standing w.at.due) (byte ∷ bytes) (to_end (walk_step w byte) bytes) (λ good. on_at_end (walk_step w byte) bytes)
 
 -- where bytes are refused: what is left behind the fault
-pub record Fails (r : Reading) (piece : List ℕ) : Type 0 where
+pub record Fails (r : Parser) (piece : List ℕ) : Type 0 where
   pub fault : WireFault
   pub rest : List ℕ
   pub whole : r.refused ≡ None
@@ -134,7 +134,7 @@ later_on (Failing fault) bytes n went good h = absurd (good fault refl)
 pub fails_later : (w : Walk) (bytes : List ℕ) → IsOn (standing w.at.due) → FailsLater (length bytes) (onward w bytes)
 unfolding onward
 fails_later w [] good = later_on (standing w.at.due) [] 0 (Within w) good tt
-fails_later w (byte ∷ bytes) good = later_on (standing w.at.due) (byte ∷ bytes) (suc (length bytes)) (to_end (step w byte) bytes) good (later_of (length bytes) (to_end (step w byte) bytes) (most_at_end (step w byte) bytes))
+fails_later w (byte ∷ bytes) good = later_on (standing w.at.due) (byte ∷ bytes) (suc (length bytes)) (to_end (walk_step w byte) bytes) good (later_of (length bytes) (to_end (walk_step w byte) bytes) (most_at_end (walk_step w byte) bytes))
 
 -- ---- Two pieces do what both do as one
 
@@ -172,7 +172,7 @@ empty_by (Failing fault) w more h = sym (end_failing w more fault h)
 cut_end : (w : Walk) (bytes more : List ℕ) → then_piece (to_end w bytes) more ≡ to_end w (bytes ++ more)
 unfolding to_end
 cut_end w [] more = empty_by (standing w.at.due) w more refl
-cut_end w (b ∷ bytes) more = cut_by (standing w.at.due) w (b ∷ bytes) more _ _ (cut_end (step w b) bytes more)
+cut_end w (b ∷ bytes) more = cut_by (standing w.at.due) w (b ∷ bytes) more _ _ (cut_end (walk_step w b) bytes more)
 
 cut_on : (s : Standing) (bytes more : List ℕ) (x y : Went) → then_piece x more ≡ y → then_piece (went_on s bytes x) more ≡ went_on s (bytes ++ more) y
 cut_on Between bytes more x y h = h
@@ -187,4 +187,4 @@ nothing_by (Failing fault) w more h = sym (onward_failing w more fault h)
 pub cut : (w : Walk) (bytes more : List ℕ) → then_piece (onward w bytes) more ≡ onward w (bytes ++ more)
 unfolding onward
 cut w [] more = nothing_by (standing w.at.due) w more refl
-cut w (b ∷ bytes) more = cut_on (standing w.at.due) (b ∷ bytes) more _ _ (cut_end (step w b) bytes more)
+cut w (b ∷ bytes) more = cut_on (standing w.at.due) (b ∷ bytes) more _ _ (cut_end (walk_step w b) bytes more)

@@ -26,7 +26,7 @@ use Rattle.tds_judge.specs.Talking.{new_talk, talk_by}
 use Rattle.tds_judge.specs.Noting.{told_by}
 use Rattle.tds_wire.specs.declared.fault.Refusal.{Refusal}
 use Rattle.tds_wire.specs.Faults.{fault_number}
-use Rattle.tds_wire.specs.Reading.{IsReady, Reading, Found, Sees, Inside as Amid, Refuses, is_between, next_token, restarted}
+use Rattle.tds_wire.specs.Reading.{IsReady, Parser, Found, Sees, Inside as Amid, Refuses, is_between, next_token, restarted}
 use Rattle.tds_judge.specs.PacketHeads.{shifted, head_of, is_plausible, is_tls, fault_of, event_of, is_to_fill, inside_of}
 
 -- ---- Frames
@@ -88,7 +88,7 @@ stops spot event run =
 
 -- ---- The end of a packet
 
-abbrev pub is_whole : Inside → Option Reading → Bool
+abbrev pub is_whole : Inside → Option Parser → Bool
 is_whole inside.Skipped parser = true
 is_whole (inside.Prefix heading) parser = true
 is_whole (inside.Version place) parser = true
@@ -152,7 +152,7 @@ lost spot value run =
 abbrev pub is_walked : Head → Run → Bool
 is_walked head run = not (head.kind == 18) && not (run.judge.client.kind == 18)
 
-abbrev pub restarted_by : Option Reading → Option Reading
+abbrev pub restarted_by : Option Parser → Option Parser
 restarted_by None = None
 restarted_by (Some r) = Some (restarted r)
 
@@ -259,7 +259,7 @@ versioned spot place byte run =
     (framed spot.direction (record (frame_of spot.direction run) { inside = inside.Skipped })
     run)
 
-abbrev pub read_by : Reading → Run → Run
+abbrev pub read_by : Parser → Run → Run
 read_by r run = record { judge = record run.judge { parser = Some r }; told = run.told }
 
 -- ALTMETADATA and ALTROW (COMPUTE, 2.2.7.1 and 2.2.7.2) aren't read; all else that is refused is no
@@ -275,7 +275,7 @@ walked_by (Sees token r rest) spot run = said spot (events.Says token) (read_by 
 walked_by (Amid r) spot run = read_by r run
 walked_by (Refuses refusal) spot run = stops spot (refused_as refusal) run
 
-abbrev pub walked : Option Reading → Spot → ℕ → Run → Run
+abbrev pub walked : Option Parser → Spot → ℕ → Run → Run
 walked None spot byte run = run
 walked (Some r) spot byte run = walked_by (next_token r (byte ∷ [])) spot run
 
@@ -285,7 +285,7 @@ inside_by (inside.Prefix heading) spot byte run = prefixed spot (heading_by head
 inside_by inside.Walked spot byte run = walked run.judge.parser spot byte run
 inside_by (inside.Version place) spot byte run = versioned spot place byte run
 
-abbrev pub counted_by : Option Reading → Spot → ℕ → Run → Run
+abbrev pub counted_by : Option Parser → Spot → ℕ → Run → Run
 counted_by None spot left run = run
 counted_by (Some r) spot left run =
     if nat_lt 1 left
@@ -316,7 +316,7 @@ spot_of direction time run = record {
   time = time;
 }
 
-abbrev pub step_by : Option Reading → Direction → ℕ → ℕ → Run → Run
+abbrev pub step_by : Option Parser → Direction → ℕ → ℕ → Run → Run
 step_by None direction time byte run = run
 step_by (Some r) direction time byte run =
     due_by (frame_of direction run).due (spot_of direction time run) byte (moved direction run)
@@ -330,7 +330,7 @@ unfoldable pub steps : Direction → ℕ → List ℕ → Run → Run
 steps direction time [] run = run
 steps direction time (byte ∷ bytes) run = steps direction time bytes (step direction time byte run)
 
-abbrev pub stopped_by : Option Reading → Bool
+abbrev pub stopped_by : Option Parser → Bool
 stopped_by None = true
 stopped_by (Some r) = false
 
@@ -343,12 +343,12 @@ pub record IsNew (given : Limits) (j : Judge) : Type 0 where
   pub client : j.client ≡ new_frame
   pub server : j.server ≡ new_frame
   pub talk : j.talk ≡ new_talk
-  pub parser : (r : Reading) × (j.parser ≡ Some r) × IsReady r
+  pub parser : (r : Parser) × (j.parser ≡ Some r) × IsReady r
 
 -- ---- Other events
 
 -- What is said of the connection as a whole has the place of the client's next byte.
-abbrev pub event_by : Option Reading → Spot → Event → Run → Run
+abbrev pub event_by : Option Parser → Spot → Event → Run → Run
 event_by None spot event run = run
 event_by (Some r) spot event run = said spot event run
 
@@ -367,7 +367,7 @@ closing j =
     if is_lost j.client.part && nat_lt 0 j.client.offset then events.Stops endings.NotTds 0
     else events.Closed
 
-abbrev pub closed_by : Option Reading → Spot → Run → Run
+abbrev pub closed_by : Option Parser → Spot → Run → Run
 closed_by None spot run = run
 closed_by (Some r) spot run = stops spot (closing run.judge) run
 

@@ -1,7 +1,7 @@
 -- Runs of bytes, as one step.
 use Rattle.std.specs.Prelude.{◌≡◌, ℕ, ◌+◌, ◌-◌, ◌≤◌, ◌<◌, nat_lt, List, length, drop, min, max, if◌then◌else◌}
 use Rattle.tds_wire.specs.declared.fault.Refusal.{Refusal}
-use Rattle.tds_wire.specs.Reading.{Reading, Sees, Inside, Refuses, next_token}
+use Rattle.tds_wire.specs.Reading.{Parser, Sees, Inside, Refuses, next_token}
 use Rattle.tds_judge.specs.declared.finding.Direction.{Direction}
 use Rattle.tds_judge.specs.declared.finding.Direction.TheVariants.{ToClient}
 use Rattle.tds_judge.specs.declared.finding.Spot.{Spot}
@@ -15,13 +15,13 @@ use Rattle.tds_judge.specs.Framing.{frame_by, with_frame}
 abbrev pub refused_after : ℕ → Refusal → ℕ
 refused_after before refusal = max 1 (min 18446744073709551615 (refusal.at + 1) - before)
 
-pub record IsRefused (n : ℕ) (r : Reading) (piece : List ℕ) : Type 0 where
+pub record IsRefused (n : ℕ) (r : Parser) (piece : List ℕ) : Type 0 where
   pub refusal : Refusal
   pub refuses : next_token r piece ≡ Refuses refusal
   pub after : n ≡ min (refused_after (r.start + r.passed) refusal) (length piece)
 
 -- what a run of bytes comes to, between these two
-abbrev pub IsWent : Went → Reading → Reading → List ℕ → Type 0
+abbrev pub IsWent : Went → Parser → Parser → List ℕ → Type 0
 IsWent went.Inside r s piece = next_token r piece ≡ Inside s
 IsWent (went.Ends n token) r s piece =
     (next_token r piece ≡ Sees token s (drop n piece)) × (0 < n) × (n ≤ length piece)

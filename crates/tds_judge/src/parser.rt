@@ -18,10 +18,10 @@ pub struct TokenParser {
 }
 
 impl Model for TokenParser {
-    ghost use Rattle.tds_wire.specs.Reading.{Reading};
+    ghost use Rattle.tds_wire.specs.Reading.{Parser};
     ghost use Rattle.tds_judge.specs.TokenParser.{parser_reading};
 
-    ghost Value = { Reading };
+    ghost Value = { Parser };
 
     ghost view = { parser_reading };
 }

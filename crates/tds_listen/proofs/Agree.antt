@@ -26,7 +26,7 @@ use Rattle.tds_wire.specs.declared.told.Told.TheVariants as told
 use Rattle.tds_wire.specs.Bytes.{seen_of}
 use Rattle.tds_wire.specs.Types.{type_of}
 use Rattle.tds_wire.specs.Layout.{Read, Got, Seen, ◌>>=◌, column_list, columns_at, counted, info_at, run, token_at, token_behind, two, value, values}
-use Rattle.tds_wire.specs.Reading.{IsReady, Reading, Ends, Passed, front_of, kept, laid_by, laid_out, next_token, outcome_of, token_with}
+use Rattle.tds_wire.specs.Reading.{IsReady, Parser, Ends, Passed, front_of, kept, laid_by, laid_out, next_token, outcome_of, token_with}
 use Rattle.tds_wire.specs.Told.{added, told_of, short_at}
 use Rattle.tds_listen.specs.Agreeing.{IsPassed, IsSameToken, Knows, int4s, kind_of}
 use Rattle.tds_listen.specs.Signs.{done_kind, sign_by, unclear_sign}
@@ -253,7 +253,7 @@ front_is bytes rest =
     let e : length (bytes ++ rest) - length rest ≡ length bytes = omega (arith, n) in
     ap (λ (k : ℕ). take k (bytes ++ rest)) e ∙ take-append_seam bytes rest
 
-module _ (r : Reading) (columns : Option ℕ) (token : Token) (rest : List ℕ) (ready : IsReady r) where
+module _ (r : Parser) (columns : Option ℕ) (token : Token) (rest : List ℕ) (ready : IsReady r) where
   abbrev the_passed : Passed
   the_passed = record { token = token_with r (kind_of token) (spelling token); columns = columns_behind token r.walk.columns }
 
@@ -281,8 +281,8 @@ module _ (r : Reading) (columns : Option ℕ) (token : Token) (rest : List ℕ) 
     columns = known_behind columns token r.walk.columns known;
   }
 
-pub agree : ((r : Reading) (piece : List ℕ) → IsReady r → outcome_of (next_token r piece) ≡ laid_out r piece)
-    → (r : Reading) (columns after : Option ℕ) (token : Token) (bytes rest : List ℕ) → IsReady r → r.walk.features.encryption ≡ false → 16 ≤ r.walk.most
+pub agree : ((r : Parser) (piece : List ℕ) → IsReady r → outcome_of (next_token r piece) ≡ laid_out r piece)
+    → (r : Parser) (columns after : Option ℕ) (token : Token) (bytes rest : List ℕ) → IsReady r → r.walk.features.encryption ≡ false → 16 ≤ r.walk.most
     → Knows columns r.walk.columns → IsToken columns token bytes after → IsPassed r token bytes rest after (outcome_of (next_token r (bytes ++ rest)))
 agree passed r columns after token bytes rest ready plain room known is =
     let all : IsPassed r token (spelling token) rest (columns_after columns token) (outcome_of (next_token r (spelling token ++ rest))) =

@@ -4,8 +4,8 @@ use Rattle.tds_wire.specs.declared.fault.Refusal.{Refusal}
 use Rattle.tds_wire.specs.declared.due.Standing.{Standing}
 use Rattle.tds_wire.specs.declared.due.Standing.TheVariants.{Between, Going, Failing}
 use Rattle.tds_wire.specs.Walking.{Walk}
-use Rattle.tds_wire.specs.Bytes.{Went, Over, Within, Failed, onward, standing, step, to_end, went_by, went_on}
-use Rattle.tds_wire.specs.Reading.{Reading, Found, Sees, Inside, Refuses, found_by, found_on, next_token}
+use Rattle.tds_wire.specs.Bytes.{Went, Over, Within, Failed, onward, standing, walk_step, to_end, went_by, went_on}
+use Rattle.tds_wire.specs.Reading.{Parser, Found, Sees, Inside, Refuses, found_by, found_on, next_token}
 
 -- behind a token no more is left than so much
 abbrev OverAtMost : ℕ → Went → Type 0
@@ -36,7 +36,7 @@ left_by (Failing fault) w bytes went h = tt
 left_at_end : (w : Walk) (bytes : List ℕ) → OverAtMost (length bytes) (to_end w bytes)
 unfolding to_end
 left_at_end w [] = left_by (standing w.at.due) w [] (Within w) tt
-left_at_end w (byte ∷ bytes) = left_by (standing w.at.due) w (byte ∷ bytes) (to_end (step w byte) bytes) (more_left (length bytes) (to_end (step w byte) bytes) (left_at_end (step w byte) bytes))
+left_at_end w (byte ∷ bytes) = left_by (standing w.at.due) w (byte ∷ bytes) (to_end (walk_step w byte) bytes) (more_left (length bytes) (to_end (walk_step w byte) bytes) (left_at_end (walk_step w byte) bytes))
 
 fewer_on : (st : Standing) (bytes : List ℕ) (n : ℕ) (went : Went) → OverAtMost n went → OverFewer (suc n) (went_on st bytes went)
 fewer_on Between bytes n went h = fewer_left n went h
@@ -49,20 +49,20 @@ TakesSome n (Sees token r rest) = length rest < n
 TakesSome n (Inside r) = Unit {0}
 TakesSome n (Refuses refusal) = Unit {0}
 
-takes_by : (r : Reading) (piece : List ℕ) (n : ℕ) (went : Went) → OverFewer n went → TakesSome n (found_by r piece went)
+takes_by : (r : Parser) (piece : List ℕ) (n : ℕ) (went : Went) → OverFewer n went → TakesSome n (found_by r piece went)
 takes_by r piece n (Over w rest) h = h
 takes_by r piece n (Within w) h = tt
 takes_by r piece n (Failed fault rest) h = tt
 
-takes_on : (o : Option Refusal) (r : Reading) (piece : List ℕ) (n : ℕ) → OverFewer n (onward r.walk piece) → TakesSome n (found_on o r piece)
+takes_on : (o : Option Refusal) (r : Parser) (piece : List ℕ) (n : ℕ) → OverFewer n (onward r.walk piece) → TakesSome n (found_on o r piece)
 takes_on None r piece n h = takes_by r piece n (onward r.walk piece) h
 takes_on (Some refusal) r piece n h = tt
 
 fewer_onward : (w : Walk) (byte : ℕ) (bytes : List ℕ) → OverFewer (suc (length bytes)) (onward w (byte ∷ bytes))
 unfolding onward
-fewer_onward w byte bytes = fewer_on (standing w.at.due) (byte ∷ bytes) (length bytes) (to_end (step w byte) bytes) (left_at_end (step w byte) bytes)
+fewer_onward w byte bytes = fewer_on (standing w.at.due) (byte ∷ bytes) (length bytes) (to_end (walk_step w byte) bytes) (left_at_end (walk_step w byte) bytes)
 
-pub takes_some : (r : Reading) (byte : ℕ) (bytes : List ℕ) → TakesSome (suc (length bytes)) (next_token r (byte ∷ bytes))
+pub takes_some : (r : Parser) (byte : ℕ) (bytes : List ℕ) → TakesSome (suc (length bytes)) (next_token r (byte ∷ bytes))
 unfolding next_token
 takes_some r byte bytes = takes_on r.refused r (byte ∷ bytes) (suc (length bytes)) (fewer_onward r.walk byte bytes)
 
@@ -77,6 +77,6 @@ fewer_any w [] = none_on (standing w.at.due) w
 fewer_any w (byte ∷ bytes) = fewer_onward w byte bytes
 
 -- of any bytes
-pub takes_any : (r : Reading) (bytes : List ℕ) → TakesSome (length bytes) (next_token r bytes)
+pub takes_any : (r : Parser) (bytes : List ℕ) → TakesSome (length bytes) (next_token r bytes)
 unfolding next_token
 takes_any r bytes = takes_on r.refused r bytes (length bytes) (fewer_any r.walk bytes)

@@ -13,7 +13,7 @@ use Rattle.tds_client.specs.Hearing.{◌>>=◌, hear_sign, may_end}
 use Rattle.tds_client.specs.Machine.{ItemMove, end_skipped, ended_in, signed, signed_in, tells, with_heard}
 use Rattle.tds_client.specs.Session.{ClientSession, Stage, Cancelling}
 use Rattle.tds_wire.specs.declared.told.Token.{Token}
-use Rattle.tds_wire.specs.Reading.{Reading, Found, Sees, Inside, Refuses, is_between, next_token}
+use Rattle.tds_wire.specs.Reading.{Parser, Found, Sees, Inside, Refuses, is_between, next_token}
 use Rattle.tds_listen.specs.declared.fault.ListenFault.{ListenFault}
 use Rattle.tds_listen.specs.declared.fault.ListenFault.TheVariants as faults
 use Rattle.tds_listen.specs.Hearing.{Move, heard_by, heard_end, moved_by, next_heard, settled_by, told_if}
@@ -28,11 +28,11 @@ abbrev stage_from : Stage → Result Move ListenFault → Stage
 stage_from stage (Ok move) = move.session.stage
 stage_from stage (Err fault) = stage
 
-told_signed : (x : Result ClientSession ClientFault) (r : Reading) (rest : List ℕ) → told_from (heard_by x (λ next. Ok (record { told = None; session = next; reading = r; rest = rest }))) ≡ None
+told_signed : (x : Result ClientSession ClientFault) (r : Parser) (rest : List ℕ) → told_from (heard_by x (λ next. Ok (record { told = None; session = next; reading = r; rest = rest }))) ≡ None
 told_signed (Ok next) r rest = refl
 told_signed (Err fault) r rest = refl
 
-heard_stays : (s : ClientSession) (x : Result Heard ClientFault) (o : Option Token) (r : Reading) (rest : List ℕ)
+heard_stays : (s : ClientSession) (x : Result Heard ClientFault) (o : Option Token) (r : Parser) (rest : List ℕ)
     → stage_from s.stage (heard_by (x >>= λ heard. Ok (with_heard s heard)) (λ next. Ok (record { told = o; session = next; reading = r; rest = rest }))) ≡ s.stage
 heard_stays s (Ok heard) o r rest = refl
 heard_stays s (Err fault) o r rest = refl
@@ -51,10 +51,10 @@ stays_found s (Sees token r rest) e =
 stays_found s (Inside r) e = refl
 stays_found s (Refuses refusal) e = refl
 
-pub quiet : (s : ClientSession) (r : Reading) (bytes : List ℕ) (move : Move) → s.stage ≡ Cancelling → next_heard s r bytes ≡ Ok move → move.told ≡ None
+pub quiet : (s : ClientSession) (r : Parser) (bytes : List ℕ) (move : Move) → s.stage ≡ Cancelling → next_heard s r bytes ≡ Ok move → move.told ≡ None
 quiet s r bytes move e does = sym (ap told_from does) ∙ told_found s (next_token r bytes) e
 
-pub stays : (s : ClientSession) (r : Reading) (bytes : List ℕ) (move : Move) → s.stage ≡ Cancelling → next_heard s r bytes ≡ Ok move → move.session.stage ≡ Cancelling
+pub stays : (s : ClientSession) (r : Parser) (bytes : List ℕ) (move : Move) → s.stage ≡ Cancelling → next_heard s r bytes ≡ Ok move → move.session.stage ≡ Cancelling
 stays s r bytes move e does = sym (ap (stage_from s.stage) does) ∙ (stays_found s (next_token r bytes) e ∙ e)
 
 -- ---- The end of a message
@@ -74,8 +74,8 @@ end_by s done.Awaited move does other = sym (ap ends_at does)
 end_by s done.Answered move does other = sym (ap ends_at does)
 end_by s done.Acknowledged move does other = absurd (other (sym (ap answers does)))
 
-abbrev end_in : ClientSession → Reading → Stage → Result ItemMove ListenFault
+abbrev end_in : ClientSession → Parser → Stage → Result ItemMove ListenFault
 end_in s r st = if tells st && not (is_between r) then Err faults.Cut else heard_by (ended_in Any st s) (λ move. settled_by move.answer move)
 
-pub ends : (s : ClientSession) (r : Reading) (move : ItemMove) → s.stage ≡ Cancelling → heard_end s r ≡ Ok move → move.answer ≢ takes.Acknowledged → move.session.stage ≡ Cancelling
+pub ends : (s : ClientSession) (r : Parser) (move : ItemMove) → s.stage ≡ Cancelling → heard_end s r ≡ Ok move → move.answer ≢ takes.Acknowledged → move.session.stage ≡ Cancelling
 ends s r move e does other = end_by s s.heard.done move (sym (ap (end_in s r) e) ∙ does) other

@@ -9,7 +9,7 @@ use Rattle.tds_client.specs.declared.state.ClientState.TheVariants as states
 use Rattle.tds_client.specs.Machine.{Listens, signed_in}
 use Rattle.tds_client.specs.Session.{ClientSession, Stage, Idle, Sending, Reading as Reads, Cancelling, Broken, state_of}
 use Rattle.tds_wire.specs.declared.told.Token.{Token}
-use Rattle.tds_wire.specs.Reading.{Reading, Found, Sees, Inside, Refuses, next_token, then_found}
+use Rattle.tds_wire.specs.Reading.{Parser, Found, Sees, Inside, Refuses, next_token, then_found}
 use Rattle.tds_wire.specs.Rows.{IsPassed, row_token}
 use Rattle.tds_listen.specs.declared.fault.ListenFault.{ListenFault}
 use Rattle.tds_listen.specs.Hearing.{Both, heard_by, heard_data, then_data}
@@ -19,7 +19,7 @@ use Rattle.tds_listen.proofs.Fewer.{TakesSome, takes_any}
 
 -- the law of `tds_wire`: two pieces do what both do as one
 abbrev pub Cuts : Type 0
-Cuts = (r : Reading) (first second : List ℕ) → then_found (next_token r first) second ≡ next_token r (first ++ second)
+Cuts = (r : Parser) (first second : List ℕ) → then_found (next_token r first) second ≡ next_token r (first ++ second)
 
 -- ---- Only a token's own bytes matter
 
@@ -34,7 +34,7 @@ token_from other (Sees token r rest) = token
 token_from other (Inside r) = other
 token_from other (Refuses refusal) = other
 
-behind_from : Reading → Found → Reading
+behind_from : Parser → Found → Parser
 behind_from other (Sees token r rest) = r
 behind_from other (Inside r) = other
 behind_from other (Refuses refusal) = other
@@ -44,7 +44,7 @@ rest_from (Sees token r rest) = rest
 rest_from (Inside r) = []
 rest_from (Refuses refusal) = []
 
-own_bytes : (found : Found) (token : Token) (s : Reading) (more : List ℕ) → then_found found more ≡ Sees token s more → found ≡ Sees token s []
+own_bytes : (found : Found) (token : Token) (s : Parser) (more : List ℕ) → then_found found more ≡ Sees token s more → found ≡ Sees token s []
 unfolding token_from behind_from rest_from
 own_bytes (Sees t r rest) token s more e =
     let a : t ≡ token = ap (token_from token) e in
@@ -56,7 +56,7 @@ own_bytes (Inside r) token s more e =
     absurd (omega (arith, h))
 own_bytes (Refuses refusal) token s more e = absurd cc
 
-seen_alone : Cuts → (r s : Reading) (n : ℕ) (token : Token) (bytes : List ℕ) → next_token r bytes ≡ Sees token s (drop n bytes) → next_token r (take n bytes) ≡ Sees token s []
+seen_alone : Cuts → (r s : Parser) (n : ℕ) (token : Token) (bytes : List ℕ) → next_token r bytes ≡ Sees token s (drop n bytes) → next_token r (take n bytes) ≡ Sees token s []
 seen_alone cut r s n token bytes e =
     own_bytes (next_token r (take n bytes)) token s (drop n bytes) (cut r (take n bytes) (drop n bytes) ∙ (ap (next_token r) (take-append-drop n bytes) ∙ e))
 
@@ -69,7 +69,7 @@ unmoved_in Reads s h = refl
 unmoved_in Cancelling s h = refl
 unmoved_in (Broken fault) s h = absurd h
 
-found_data : (s : ClientSession) (r : Reading) (bytes : List ℕ) → 0 < length bytes → heard_data s r bytes ≡ data_by s (next_token r bytes)
+found_data : (s : ClientSession) (r : Parser) (bytes : List ℕ) → 0 < length bytes → heard_data s r bytes ≡ data_by s (next_token r bytes)
 found_data s r [] some = absurd (omega (arith, some))
 found_data s r (x ∷ xs) some = data_step s r x xs
 
@@ -89,7 +89,7 @@ skips_on Cancelling e = tt
 skips_on (Broken fault) e = absurd cc
 
 -- one row
-row_heard : Cuts → (s : ClientSession) (r after : Reading) (n : ℕ) (bytes : List ℕ) → Listens s.stage → IsPassed n r after bytes → 0 < n → n ≤ length bytes
+row_heard : Cuts → (s : ClientSession) (r after : Parser) (n : ℕ) (bytes : List ℕ) → Listens s.stage → IsPassed n r after bytes → 0 < n → n ≤ length bytes
     → heard_data s r (take n bytes) ≡ Ok (record { session = s; reading = after })
 row_heard cut s r after n bytes listens passed some few =
     let l : length (take n bytes) ≡ n = length-take-le n bytes few in
@@ -99,7 +99,7 @@ row_heard cut s r after n bytes listens passed some few =
     ∙ nothing_heard s after))
 
 -- and one more
-pub rows_heard : Cuts → (s : ClientSession) (r mid after : Reading) (done n : ℕ) (bytes : List ℕ) → Listens s.stage
+pub rows_heard : Cuts → (s : ClientSession) (r mid after : Parser) (done n : ℕ) (bytes : List ℕ) → Listens s.stage
     → heard_data s r (take done bytes) ≡ Ok (record { session = s; reading = mid }) → IsPassed n mid after (drop done bytes) → 0 < n → n ≤ length (drop done bytes)
     → heard_data s r (take (done + n) bytes) ≡ Ok (record { session = s; reading = after })
 rows_heard cut s r mid after done n bytes listens before passed some few =
@@ -108,13 +108,13 @@ rows_heard cut s r mid after done n bytes listens before passed some few =
     ∙ (ap (λ (x : Result Both ListenFault). then_data x (take n (drop done bytes))) before ∙ row_heard cut s mid after n (drop done bytes) listens passed some few))
 
 -- what is left behind them
-goes_on_behind : Cuts → (s : ClientSession) (r after : Reading) (n : ℕ) (bytes : List ℕ)
+goes_on_behind : Cuts → (s : ClientSession) (r after : Parser) (n : ℕ) (bytes : List ℕ)
     → heard_data s r (take n bytes) ≡ Ok (record { session = s; reading = after }) → heard_data s r bytes ≡ heard_data s after (drop n bytes)
 goes_on_behind cut s r after n bytes heard =
     ap (heard_data s r) (sym (take-append-drop n bytes)) ∙ (cuts cut s r (take n bytes) (drop n bytes) ∙ ap (λ (x : Result Both ListenFault). then_data x (drop n bytes)) heard)
 
 -- the same of what is left of all
-pub rows_behind : Cuts → (s : ClientSession) (r after : Reading) (n done : ℕ) (all : List ℕ)
+pub rows_behind : Cuts → (s : ClientSession) (r after : Parser) (n done : ℕ) (all : List ℕ)
     → heard_data s r (take n (take (length all - done) (drop done all))) ≡ Ok (record { session = s; reading = after })
     → heard_data s r (drop done all) ≡ heard_data s after (drop (done + n) all)
 rows_behind cut s r after n done all heard =

@@ -5,7 +5,7 @@ use Rattle.tds_token.specs.declared.token.Token.TheVariants as tokens
 use Rattle.tds_client.specs.Signs as strict
 use Rattle.tds_wire.specs.declared.shape.Shape.{Shape}
 use Rattle.tds_wire.specs.declared.shape.Shape.TheVariants as shape
-use Rattle.tds_wire.specs.Reading.{Reading, Outcome, Ends, Passed}
+use Rattle.tds_wire.specs.Reading.{Parser, Outcome, Ends, Passed}
 use Rattle.tds_wire.specs.Told.{added}
 use Rattle.tds_listen.specs.Signs.{sign_of}
 
@@ -30,12 +30,12 @@ kind_of (tokens.Env e) = 0xE3
 kind_of (tokens.Done status cur_cmd rows) = 0xFD
 
 -- One token of all these bytes has been passed, of the same kind and with the same sign, and behind it the same columns are known.
-pub record IsSameToken (r : Reading) (token : Token) (bytes : List ℕ) (after : Option ℕ) (passed : Passed) : Type 0 where
+pub record IsSameToken (r : Parser) (token : Token) (bytes : List ℕ) (after : Option ℕ) (passed : Passed) : Type 0 where
   pub kind : passed.token.kind ≡ kind_of token
   pub start : passed.token.start ≡ r.start
   pub length : passed.token.length ≡ added 0 (length bytes)
   pub sign : sign_of passed.token ≡ strict.sign_of token
   pub columns : Knows after passed.columns
 
-abbrev pub IsPassed : Reading → Token → List ℕ → List ℕ → Option ℕ → Outcome → Type 0
+abbrev pub IsPassed : Parser → Token → List ℕ → List ℕ → Option ℕ → Outcome → Type 0
 IsPassed r token bytes rest after outcome = (passed : Passed) × (outcome ≡ Ends passed rest) × IsSameToken r token bytes after passed

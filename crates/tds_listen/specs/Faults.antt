@@ -3,7 +3,7 @@ use Rattle.std.specs.Prelude.{ℕ, ◌≡◌}
 use Rattle.tds_client.specs.declared.fault.ClientFault.{ClientFault}
 use Rattle.tds_client.specs.declared.fault.ClientFault.TheVariants.{Lost}
 use Rattle.tds_client.specs.Session.{ClientSession, Stage, Idle, Broken, lost}
-use Rattle.tds_client.specs.Taking.{broken_by, ended}
+use Rattle.tds_client.specs.Taking.{broken_by, behind_message}
 use Rattle.tds_listen.specs.declared.fault.ListenFault.{ListenFault}
 use Rattle.tds_listen.specs.declared.fault.ListenFault.TheVariants as faults
 
@@ -25,7 +25,7 @@ abbrev pub broken_at_end : ClientSession → ListenFault → ClientSession
 broken_at_end s (faults.Client fault) = broken_by s fault
 broken_at_end s (faults.Wire refusal) = lost s
 broken_at_end s faults.Cut = lost s
-broken_at_end s faults.ResetUnanswered = lost (ended s Idle s.heard)
+broken_at_end s faults.ResetUnanswered = lost (behind_message s Idle s.heard)
 
 -- so it is broken, by what it was broken before if it was
 abbrev pub IsBroken : ListenFault → Stage → Type 0

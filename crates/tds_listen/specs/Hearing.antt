@@ -9,7 +9,7 @@ use Rattle.tds_client.specs.Machine.{ItemMove, all_signed, going_on, message_end
 use Rattle.tds_client.specs.Session.{ClientSession}
 use Rattle.tds_wire.specs.declared.fault.Refusal.{Refusal}
 use Rattle.tds_wire.specs.declared.told.Token.{Token}
-use Rattle.tds_wire.specs.Reading.{Reading, Found, Sees, Inside, Refuses, Outcome, Ends, More, Refused, is_between, next_token}
+use Rattle.tds_wire.specs.Reading.{Parser, Found, Sees, Inside, Refuses, Outcome, Ends, More, Refused, is_between, next_token}
 use Rattle.tds_listen.specs.declared.fault.ListenFault.{ListenFault}
 use Rattle.tds_listen.specs.declared.fault.ListenFault.TheVariants as faults
 use Rattle.tds_listen.specs.Signs.{sign_of, signs_of}
@@ -25,7 +25,7 @@ heard_by (Err fault) next = Err (faults.Client fault)
 pub record Move : Type 0 where
   pub told : Option Token
   pub session : ClientSession
-  pub reading : Reading
+  pub reading : Parser
   pub rest : List ℕ
 
 abbrev pub told_if : Bool → Token → Option Token
@@ -38,7 +38,7 @@ moved_by s (Sees token r rest) =
 moved_by s (Inside r) = Ok (record { told = None; session = s; reading = r; rest = [] })
 moved_by s (Refuses refusal) = Err (faults.Wire refusal)
 
-abbrev pub next_heard : ClientSession → Reading → List ℕ → Result Move ListenFault
+abbrev pub next_heard : ClientSession → Parser → List ℕ → Result Move ListenFault
 next_heard s r bytes = moved_by s (next_token r bytes)
 
 -- The same by what the layout says of the bytes; where the parser is then isn't looked at.
@@ -61,47 +61,47 @@ without_parser (Err fault) = Err fault
 
 -- how the bytes end: the parser stands there, or it refused one
 pub data Stop : Type 0 where
-  Stands : Reading → Stop
+  Stands : Parser → Stop
   Fails : Refusal → Stop
 
-pub record Tokens : Type 0 where
+pub record TokensHeard : Type 0 where
   pub tokens : List Token
   pub stop : Stop
 
-abbrev pub no_tokens : Stop → Tokens
+abbrev pub no_tokens : Stop → TokensHeard
 no_tokens stop = record { tokens = []; stop = stop }
 
-abbrev pub led_by : Token → Tokens → Tokens
+abbrev pub led_by : Token → TokensHeard → TokensHeard
 led_by token others = record { tokens = token ∷ others.tokens; stop = others.stop }
 
-abbrev pub tokens_by : Found → (Reading → List ℕ → Tokens) → Tokens
+abbrev pub tokens_by : Found → (Parser → List ℕ → TokensHeard) → TokensHeard
 tokens_by (Sees token r rest) behind = led_by token (behind r rest)
 tokens_by (Inside r) behind = no_tokens (Stands r)
 tokens_by (Refuses refusal) behind = no_tokens (Fails refusal)
 
 -- at most so many: there are no more of them than bytes
-unfoldable pub tokens_within : ℕ → Reading → List ℕ → Tokens
+unfoldable pub tokens_within : ℕ → Parser → List ℕ → TokensHeard
 tokens_within most r [] = no_tokens (Stands r)
 tokens_within zero r (byte ∷ bytes) = no_tokens (Stands r)
 tokens_within (suc most) r (byte ∷ bytes) = tokens_by (next_token r (byte ∷ bytes)) (λ next rest. tokens_within most next rest)
 
-abbrev pub tokens_in : Reading → List ℕ → Tokens
+abbrev pub tokens_in : Parser → List ℕ → TokensHeard
 tokens_in r bytes = tokens_within (length bytes) r bytes
 
 -- the client and the parser
 pub record Both : Type 0 where
   pub session : ClientSession
-  pub reading : Reading
+  pub reading : Parser
 
 abbrev pub at_stop : ClientSession → Stop → Result Both ListenFault
 at_stop s (Stands r) = Ok (record { session = s; reading = r })
 at_stop s (Fails refusal) = Err (faults.Wire refusal)
 
 -- The client hears the tokens' signs, one behind the other, and then how the bytes end.
-abbrev pub heard_tokens : ClientSession → Tokens → Result Both ListenFault
+abbrev pub heard_tokens : ClientSession → TokensHeard → Result Both ListenFault
 heard_tokens s all = heard_by (all_signed Any s (signs_of all.tokens)) (λ next. at_stop next all.stop)
 
-abbrev pub heard_data : ClientSession → Reading → List ℕ → Result Both ListenFault
+abbrev pub heard_data : ClientSession → Parser → List ℕ → Result Both ListenFault
 heard_data s r bytes = heard_tokens s (tokens_in r bytes)
 
 -- what one more piece does
@@ -124,7 +124,7 @@ settled_by takes.Acknowledged move = Ok move
 settled_by takes.NoMemory move = Ok move
 
 -- A message that is read ends between two tokens. Behind a cancel it may end inside one, which the attention cut.
-abbrev pub heard_end : ClientSession → Reading → Result ItemMove ListenFault
+abbrev pub heard_end : ClientSession → Parser → Result ItemMove ListenFault
 heard_end s r =
     if tells s.stage && not (is_between r) then Err faults.Cut
     else heard_by (message_ended Any s) (λ move. settled_by move.answer move)
@@ -139,5 +139,5 @@ abbrev pub behind_data : Bool → Result Both ListenFault → Result ItemMove Li
 behind_data ends (Ok both) = ended_if ends both
 behind_data ends (Err fault) = Err fault
 
-abbrev pub heard_packet : ClientSession → Reading → Bool → List ℕ → Result ItemMove ListenFault
+abbrev pub heard_packet : ClientSession → Parser → Bool → List ℕ → Result ItemMove ListenFault
 heard_packet s r ends bytes = behind_data ends (heard_data s r bytes)

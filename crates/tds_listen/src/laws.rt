@@ -14,12 +14,12 @@ ghost use Rattle.tds_token.specs.Layout.{IsToken, RangedEnv, spelling};
 ghost use Rattle.tds_token.specs.declared.env_change.EnvChange.{EnvChange};
 ghost use Rattle.tds_token.specs.declared.token.Token.{Token};
 ghost use Rattle.tds_token.specs.declared.token.Token.TheVariants as tokens;
-ghost use Rattle.tds_wire.specs.Reading.{IsReady, Reading, laid_out, next_token, outcome_of};
+ghost use Rattle.tds_wire.specs.Reading.{IsReady, Parser, laid_out, next_token, outcome_of};
 ghost use Rattle.tds_wire.specs.Told.{told_of};
 
 /// How an answer's bytes are cut into pieces doesn't matter: two pieces do what both do as one.
 pub fn cuts_are_unheard()
-    ensures { (s : ClientSession) (r : Reading) (first second : List ℕ)
+    ensures { (s : ClientSession) (r : Parser) (first second : List ℕ)
         → heard_data s r (first ++ second) ≡ then_data (heard_data s r first) second }
 {
     tds_wire::cuts_do_not_matter();
@@ -28,12 +28,12 @@ pub fn cuts_are_unheard()
 /// In cancelling no token is told, whatever comes, and the client goes on cancelling: only the end of
 /// a message that answers `Acknowledged` leads out of it.
 pub fn nothing_told()
-    ensures token { (s : ClientSession) (r : Reading) (bytes : List ℕ) (move : Move)
+    ensures token { (s : ClientSession) (r : Parser) (bytes : List ℕ) (move : Move)
         → s.stage ≡ Cancelling → next_heard s r bytes ≡ Ok move → move.told ≡ None }
-    ensures stays { (s : ClientSession) (r : Reading) (bytes : List ℕ) (move : Move)
+    ensures stays { (s : ClientSession) (r : Parser) (bytes : List ℕ) (move : Move)
         → s.stage ≡ Cancelling → next_heard s r bytes ≡ Ok move
         → move.session.stage ≡ Cancelling }
-    ensures ends { (s : ClientSession) (r : Reading) (move : ItemMove)
+    ensures ends { (s : ClientSession) (r : Parser) (move : ItemMove)
         → s.stage ≡ Cancelling → heard_end s r ≡ Ok move → move.answer ≢ Acknowledged
         → move.session.stage ≡ Cancelling }
 {}
@@ -42,7 +42,7 @@ pub fn nothing_told()
 /// next token there, and no other; nothing, where the layout's bytes end first; and the layout's
 /// refusal.
 pub fn tokens_are_heard()
-    ensures { (s : ClientSession) (r : Reading) (bytes : List ℕ) → IsReady r
+    ensures { (s : ClientSession) (r : Parser) (bytes : List ℕ) → IsReady r
         → without_parser (next_heard s r bytes) ≡ laid_move s (laid_out r bytes) }
 {
     tds_wire::tokens_are_passed();
@@ -60,7 +60,7 @@ pub fn changes_are_the_same()
 /// the same bytes, kind and sign, and behind it as many columns are known. So it is where the parser
 /// has room for the 16 columns of the strict profile, and no column encryption was acknowledged.
 pub fn readers_agree()
-    ensures { (r : Reading) (columns after : Option ℕ) (token : Token) (bytes rest : List ℕ)
+    ensures { (r : Parser) (columns after : Option ℕ) (token : Token) (bytes rest : List ℕ)
         → IsReady r → r.walk.features.encryption ≡ false → 16 ≤ r.walk.most
         → Knows columns r.walk.columns → IsToken columns token bytes after
         → IsPassed r token bytes rest after (outcome_of (next_token r (bytes ++ rest))) }

@@ -5,7 +5,7 @@ use Rattle.tds_play.specs.Holdings.{conn_in, conn_of, ended_of, all_ended}
 use Rattle.tds_play.specs.Noted.{leases_after, tickets_after, asked_after}
 use Rattle.tds_play.specs.Plays.{held_by, holdings_of}
 use Rattle.tds_world.specs.Events.{notes}
-use Rattle.tds_world.specs.World.{Holding, World, holding, numbered, ended, ended_at, ended_numbered}
+use Rattle.tds_world.specs.World.{Holding, World, holding, numbered, holding_ended, ended_at, ended_numbered}
 use Rattle.tds_world.specs.declared.event.Event.{Event}
 use Rattle.tds_world.specs.declared.event.Event.TheVariants as event
 
@@ -34,7 +34,7 @@ pub ended_held : (hs : List Holding) (n : ℕ) → ended_of (holdings_of hs) n �
 ended_held hs zero = refl
 ended_held hs (suc n) = end_held hs n
 
-pub all_held : (hs : List Holding) → all_ended (holdings_of hs) ≡ holdings_of (map ended hs)
+pub all_held : (hs : List Holding) → all_ended (holdings_of hs) ≡ holdings_of (map holding_ended hs)
 all_held [] = refl
 all_held (h ∷ hs) = ap (λ (os : List (Option ℕ)). None ∷ os) (all_held hs)
 
@@ -45,7 +45,7 @@ given_held [] n heard from = refl
 given_held (h ∷ hs) n heard from = ap (λ (os : List (Option ℕ)). held_by h ∷ os) (given_held hs n heard from)
 
 -- One that is over at once.
-over_held : (hs : List Holding) (n heard : ℕ) → holdings_of hs ++ None ∷ [] ≡ holdings_of (hs ++ ended (holding n heard None) ∷ [])
+over_held : (hs : List Holding) (n heard : ℕ) → holdings_of hs ++ None ∷ [] ≡ holdings_of (hs ++ holding_ended (holding n heard None) ∷ [])
 over_held [] n heard = refl
 over_held (h ∷ hs) n heard = ap (λ (os : List (Option ℕ)). held_by h ∷ os) (over_held hs n heard)
 

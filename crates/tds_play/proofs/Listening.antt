@@ -8,7 +8,7 @@ use Rattle.tds_world.specs.declared.report.RequestStatus.{RequestStatus}
 use Rattle.tds_world.specs.Arrivals.{reach_client, to_client}
 use Rattle.tds_world.specs.Connection.{Connection, In, down_underway}
 use Rattle.tds_world.specs.Entries.{up_bytes, down_bytes}
-use Rattle.tds_world.specs.Phase.{status_of}
+use Rattle.tds_world.specs.Phase.{request_status}
 use Rattle.tds_world.specs.Record as world
 use Rattle.tds_play.specs.declared.link.Link.{Link}
 use Rattle.tds_play.specs.Seats.{Seat, drained, drained_at}
@@ -44,8 +44,8 @@ TellsOf x y told then =
     (q : world.Record) → x ≡ Some q
     → (after : world.Record) × (y ≡ Some after)
     × ((more : List Token) × (then.told ≡ told ++ more) × (after.given ≡ q.given ++ more))
-    × ((before : RequestStatus) → status_of false q ≡ status_under None before
-    → status_of false after ≡ status_under then.settled before)
+    × ((before : RequestStatus) → request_status false q ≡ status_under None before
+    → request_status false after ≡ status_under then.settled before)
 
 same_some : {A : Type 0} (a b : A) → Some a ≡ Some b → a ≡ b
 same_some a b e = cc
@@ -60,7 +60,7 @@ one_heard number then r s q p is told same tells =
       mark = ap (λ x. x.mark) told.0 ∙ is.mark ∙ sym (ap (λ x. x.asking.mark) same);
       status =
           ap (λ x. x.status) told.0 ∙ ap (status_under then.settled) is.status
-          ∙ sym (t.3 (status_of false q) refl) ∙ sym (ap (status_of false) at);
+          ∙ sym (t.3 (request_status false q) refl) ∙ sym (ap (request_status false) at);
       ran = ap (λ x. x.ran) told.0 ∙ is.ran ∙ sym (ap (λ x. x.ran) same);
       tokens = told.1 ∙ t.2.1 ∙ ap (λ ts. ts ++ t.2.0) is.tokens ∙ sym t.2.2 ∙ sym (ap (λ x. x.given) at);
     }

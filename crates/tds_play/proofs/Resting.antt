@@ -21,7 +21,7 @@ use Rattle.tds_world.specs.WithLosses.{CleanNothing}
 use Rattle.tds_world.specs.World.{Here, Missing, World, new_world, numbered, uncut_in}
 use Rattle.tds_play.specs.Calls.{DoInTurn, FailInTurn, MakesCalls, MarksFailures}
 use Rattle.tds_play.specs.Failures.{TellFailures}
-use Rattle.tds_play.specs.Pipe.{Begun, Pipe}
+use Rattle.tds_play.specs.Pipe.{BegunEvent, Pipe}
 use Rattle.tds_play.specs.Stopping.{AllStop}
 use Rattle.tds_play.specs.WholePlay.{CanAllStop}
 use Rattle.tds_play.proofs.plays.PlayerActs.{all_at}
@@ -80,14 +80,14 @@ all_stop setup answers ps report told all never =
 
 -- ---- Which event
 
-fail_in_turn : (setup : Setup) (answers : Answers) (n : ℕ) (ps : List Played) (bs : List Begun) (last : ℕ → Option Pipe) (w : World) → DoInTurn setup answers n ps bs last w → FailInTurn setup answers ps bs last w
+fail_in_turn : (setup : Setup) (answers : Answers) (n : ℕ) (ps : List Played) (bs : List BegunEvent) (last : ℕ → Option Pipe) (w : World) → DoInTurn setup answers n ps bs last w → FailInTurn setup answers ps bs last w
 fail_in_turn setup answers n [] [] last w does = tt
 fail_in_turn setup answers n [] (b ∷ bs) last w does = does
 fail_in_turn setup answers n (p ∷ ps) [] last w does = does
 fail_in_turn setup answers n (p ∷ ps) (b ∷ bs) last w does =
     (does.1.fails, fail_in_turn setup answers (suc n) ps bs last (world_then setup answers w p) does.2)
 
-pub marks_failures : {is_told : Bool} (setup : Setup) (answers : Answers) (ps : List Played) (old new : List Begun) (pipes : ℕ → Option Pipe) → MakesCalls is_told setup answers ps old new pipes → TellFailures setup answers ps pipes → MarksFailures is_told setup answers ps old new pipes
+pub marks_failures : {is_told : Bool} (setup : Setup) (answers : Answers) (ps : List Played) (old new : List BegunEvent) (pipes : ℕ → Option Pipe) → MakesCalls is_told setup answers ps old new pipes → TellFailures setup answers ps pipes → MarksFailures is_told setup answers ps old new pipes
 marks_failures setup answers ps old new pipes makes whole = record {
   told = makes.told;
   since = makes.since;

@@ -10,7 +10,7 @@ use Rattle.tds_server.specs.State.{ServerState}
 use Rattle.tds_world.specs.declared.event.Event.{Event}
 use Rattle.tds_play.specs.Acts.{cancelled_as, unless_lost}
 use Rattle.tds_play.specs.Links.{cut_of, recounted}
-use Rattle.tds_play.specs.Pipe.{Begun, Changes, IsFaithful, Pipe, sent_on}
+use Rattle.tds_play.specs.Pipe.{BegunEvent, Changes, IsFaithful, Pipe, sent_on}
 use Rattle.tds_play.specs.Plays.{MayLose}
 use Rattle.tds_play.proofs.any_bytes.Faithful.{no_more_came, sent_faithful}
 use Rattle.tds_play.specs.Ties.{Holds, IsTied, KeepsTies, counted, saturated, with_counted}
@@ -56,7 +56,7 @@ holds_more link ToClient n (Some p) bytes failures is h = record {
 }
 
 -- What was handed over is tied.
-pub handed_ties : {E S : Type 0} (link new : Link E S) (d : Direction) (n : ℕ) (bytes : List ℕ) (failures : ℕ) (old pipes : ℕ → Option Pipe) (told still : List Begun)
+pub handed_ties : {E S : Type 0} (link new : Link E S) (d : Direction) (n : ℕ) (bytes : List ℕ) (failures : ℕ) (old pipes : ℕ → Option Pipe) (told still : List BegunEvent)
     → IsTied link (old link.number) → link.is_cut ≡ false → n ≡ length bytes
     → new ≡ with_counted link d (saturated (counted link d + n))
     → Changes old pipes link.number (sent_on (old link.number) d bytes failures)
@@ -122,14 +122,14 @@ cancelled_live a link new is = ap (λ l. l.is_cut) is ∙ (cancelled_keeps a lin
 
 -- Where what came then is the first of what was handed over, it was so before, under the number that the
 -- connection then had.
-pub faithful_before : {E S : Type 0} (conn k : ℕ) (new : Link E S) (pipes last : ℕ → Option Pipe) (told still : List Begun) → k ≡ conn → KeepsTies k new pipes last told still → IsFaithful (last conn) → IsFaithful (pipes conn)
+pub faithful_before : {E S : Type 0} (conn k : ℕ) (new : Link E S) (pipes last : ℕ → Option Pipe) (told still : List BegunEvent) → k ≡ conn → KeepsTies k new pipes last told still → IsFaithful (last conn) → IsFaithful (pipes conn)
 faithful_before conn k new pipes last told still is ties f =
     subst (λ (n : ℕ). IsFaithful (pipes n)) is (ties.faithful (subst (λ (n : ℕ). IsFaithful (last n)) (sym is) f))
 
 -- ---- The end of an event
 
 -- Bytes were handed over and the event ended, each under the number that the connection then had.
-pub ties_handed : {E S : Type 0} (conn m k : ℕ) (out new : Link E S) (old pipes last : ℕ → Option Pipe) (told between still : List Begun) → m ≡ conn → k ≡ m
+pub ties_handed : {E S : Type 0} (conn m k : ℕ) (out new : Link E S) (old pipes last : ℕ → Option Pipe) (told between still : List BegunEvent) → m ≡ conn → k ≡ m
     → KeepsTies m out old pipes told between → KeepsTies k new pipes last between still → KeepsTies conn new old last told still
 ties_handed conn m k out new old pipes last told between still put handed hands ends = record {
   tied = subst (λ (n : ℕ). IsTied new (last n)) (handed ∙ put) ends.tied;
@@ -142,7 +142,7 @@ ties_handed conn m k out new old pipes last told between still put handed hands 
 }
 
 -- One that was handed bytes alone.
-pub ties_numbered : {E S : Type 0} (conn m : ℕ) (out : Link E S) (old pipes : ℕ → Option Pipe) (told still : List Begun) → m ≡ conn → KeepsTies m out old pipes told still → KeepsTies conn out old pipes told still
+pub ties_numbered : {E S : Type 0} (conn m : ℕ) (out : Link E S) (old pipes : ℕ → Option Pipe) (told still : List BegunEvent) → m ≡ conn → KeepsTies m out old pipes told still → KeepsTies conn out old pipes told still
 ties_numbered {E} {S} conn m out old pipes told still put hands = subst (λ (n : ℕ). KeepsTies n out old pipes told still) put hands
 
 by_end : {E S : Type 0} (lost : Bool) (mid out new : Link E S) → new ≡ cond lost (cut_of out) out → out ≡ recounted out.to_server out.to_client mid → new ≡ unless_lost lost (recounted new.to_server new.to_client mid)

@@ -3,20 +3,20 @@ use Rattle.std.proofs.Common.{Bool, true, ◌≡◌, ◌∙◌, ◌<◌, ℕ, su
 use Rattle.tds_packet.specs.declared.kind.Direction.{Direction}
 use Rattle.tds_packet.specs.declared.kind.Direction.TheVariants.{ToServer, ToClient}
 use Rattle.tds_play.specs.Failures.{Carry, HasNoFailure, LiveAreSound, Send}
-use Rattle.tds_play.specs.Pipe.{Begun, MayCarry, MaySend, Pipe, carried_on, newest_of, since, stuck_on, traffic}
+use Rattle.tds_play.specs.Pipe.{BegunEvent, MayCarry, MaySend, Pipe, carried_on, newest_of, since, stuck_on, traffic}
 use Rattle.tds_play.specs.Seats.{Seated}
 use Rattle.tds_play.specs.Ties.{IsJustTold, IsUnasked}
 
 -- ---- The newest event
 
-newest_is : (pipes : ℕ → Option Pipe) (bs : List Begun) (b : Begun) → newest_of pipes (bs ++ b ∷ []) ≡ b.pipes
+newest_is : (pipes : ℕ → Option Pipe) (bs : List BegunEvent) (b : BegunEvent) → newest_of pipes (bs ++ b ∷ []) ≡ b.pipes
 newest_is pipes [] b = refl
 newest_is pipes (c ∷ bs) b = newest_is c.pipes bs b
 
 -- A carrier was told of an event, and nothing else changed.
-pub just_told : {is_told : Bool} (event : ℕ) (old new : List Begun) (pipes after : ℕ → Option Pipe) → (is_told ≡ true → new ≡ old ++ record { event = event; pipes = pipes } ∷ []) → after ≡ pipes → IsJustTold is_told new after
+pub just_told : {is_told : Bool} (event : ℕ) (old new : List BegunEvent) (pipes after : ℕ → Option Pipe) → (is_told ≡ true → new ≡ old ++ record { event = event; pipes = pipes } ∷ []) → after ≡ pipes → IsJustTold is_told new after
 just_told event old new pipes after told still n tells =
-    ap (λ (bs : List Begun). since bs n) (told tells)
+    ap (λ (bs : List BegunEvent). since bs n) (told tells)
     ∙ ap (λ (ps : ℕ → Option Pipe). ps n) (newest_is (λ n. None) old (record { event = event; pipes = pipes }))
     ∙ ap (λ (ps : ℕ → Option Pipe). ps n) (sym still)
 
@@ -37,11 +37,11 @@ may_send is_told before now same fine = record {
 }
 
 -- Bytes may be handed over, and carried.
-pub sends_at : {is_told : Bool} (told : List Begun) (pipes : ℕ → Option Pipe) (n m : ℕ) → m ≡ n → IsUnasked is_told told pipes n → MaySend is_told (since told m) (pipes m)
+pub sends_at : {is_told : Bool} (told : List BegunEvent) (pipes : ℕ → Option Pipe) (n m : ℕ) → m ≡ n → IsUnasked is_told told pipes n → MaySend is_told (since told m) (pipes m)
 sends_at {is_told} told pipes n m is u =
     subst (λ (k : ℕ). MaySend is_told (since told k) (pipes k)) (sym is) (may_send is_told (since told n) (pipes n) u.since_then u.unfailed)
 
-pub carries_at : {is_told : Bool} (told : List Begun) (pipes : ℕ → Option Pipe) (n : ℕ) → IsUnasked is_told told pipes n → MayCarry is_told (since told n) (pipes n)
+pub carries_at : {is_told : Bool} (told : List BegunEvent) (pipes : ℕ → Option Pipe) (n : ℕ) → IsUnasked is_told told pipes n → MayCarry is_told (since told n) (pipes n)
 carries_at {is_told} told pipes n u = record {
   sends = may_send is_told (since told n) (pipes n) u.since_then u.unfailed;
   unfailed = carries_fine (pipes n) u.unfailed;
@@ -101,21 +101,21 @@ sends_stuck before p d may = record {
 }
 
 -- What one call left, seen by the next one: the carrier was told of no other event.
-pub sends_then : {is_told : Bool} (told still : List Begun) (n m : ℕ) (now : ℕ → Option Pipe) (p : Option Pipe) → m ≡ n → still ≡ told → now n ≡ p → MaySend is_told (since told n) p → MaySend is_told (since still m) (now m)
+pub sends_then : {is_told : Bool} (told still : List BegunEvent) (n m : ℕ) (now : ℕ → Option Pipe) (p : Option Pipe) → m ≡ n → still ≡ told → now n ≡ p → MaySend is_told (since told n) p → MaySend is_told (since still m) (now m)
 sends_then {is_told} told still n m now p is same here may =
     subst (λ (k : ℕ). MaySend is_told (since still k) (now k)) (sym is)
-    (subst (λ (bs : List Begun). MaySend is_told (since bs n) (now n)) (sym same)
+    (subst (λ (bs : List BegunEvent). MaySend is_told (since bs n) (now n)) (sym same)
     (subst (λ (q : Option Pipe). MaySend is_told (since told n) q) (sym here) may))
 
-pub carries_then : {is_told : Bool} (told still : List Begun) (n m : ℕ) (now : ℕ → Option Pipe) (p : Option Pipe) → m ≡ n → still ≡ told → now n ≡ p → MayCarry is_told (since told n) p → MayCarry is_told (since still m) (now m)
+pub carries_then : {is_told : Bool} (told still : List BegunEvent) (n m : ℕ) (now : ℕ → Option Pipe) (p : Option Pipe) → m ≡ n → still ≡ told → now n ≡ p → MayCarry is_told (since told n) p → MayCarry is_told (since still m) (now m)
 carries_then {is_told} told still n m now p is same here may =
     subst (λ (k : ℕ). MayCarry is_told (since still k) (now k)) (sym is)
-    (subst (λ (bs : List Begun). MayCarry is_told (since bs n) (now n)) (sym same)
+    (subst (λ (bs : List BegunEvent). MayCarry is_told (since bs n) (now n)) (sym same)
     (subst (λ (q : Option Pipe). MayCarry is_told (since told n) q) (sym here) may))
 
 -- ---- A connection of a player
 
-pub unasked_at : {E S : Type 0} {is_told : Bool} (links : List (Seated E S)) (place n : ℕ) (x d : Seated E S) (told : List Begun) (pipes : ℕ → Option Pipe)
+pub unasked_at : {E S : Type 0} {is_told : Bool} (links : List (Seated E S)) (place n : ℕ) (x d : Seated E S) (told : List BegunEvent) (pipes : ℕ → Option Pipe)
     → IsJustTold is_told told pipes → LiveAreSound links pipes → place < length links → slice_index_or links place d ≡ x → x.link.is_cut ≡ false → n ≡ suc place → IsUnasked is_told told pipes n
 unasked_at {E} {S} links place n x d told pipes just sound within at live is =
     let lives = ap (λ (y : Seated E S). y.link.is_cut) at ∙ live in

@@ -11,7 +11,7 @@ use Rattle.tds_world.specs.World.{World}
 use Rattle.tds_play.specs.declared.link.EventDone.{EventDone}
 use Rattle.tds_play.specs.declared.player.Player.{Player}
 use Rattle.tds_play.specs.Failures.{FailsOn, LiveAreSound, all_known}
-use Rattle.tds_play.specs.Pipe.{AreFaithfulTo, AreSameBeyond, Begun, Pipe}
+use Rattle.tds_play.specs.Pipe.{AreFaithfulTo, AreSameBeyond, BegunEvent, Pipe}
 use Rattle.tds_play.specs.Player.{AreHeld, ModelGivesEach, RefinesEvent, RepresentsWorld, all_of}
 use Rattle.tds_play.specs.Reads.{AllRead, Answers as Answered, answers_then}
 use Rattle.tds_play.specs.Steps.{GrowsByOne}
@@ -20,7 +20,7 @@ use Rattle.tds_play.specs.Ties.{AreTied}
 -- What an event came to in a play, over a carrier that was told of these events, and is of no other one. It
 -- keeps what each event needs of the player.
 pub record HappensAs {E S : Type 0} (answers : E → Answers) (e : Event) (old new : Player E S)
-    (pipes pipes' : ℕ → Option Pipe) (told still : List Begun) (done : EventDone) : Type 0 where
+    (pipes pipes' : ℕ → Option Pipe) (told still : List BegunEvent) (done : EventDone) : Type 0 where
   pub tied : AreTied (all_of new) pipes'
   pub held : AreHeld new
   pub grows : GrowsByOne old new

@@ -19,16 +19,16 @@ pub record Pipe : Type 0 where
 
 -- An event of which a carrier was told: its number, and what there was of each connection then. What is said of
 -- these is said where the carrier is told at all.
-pub record Begun : Type 0 where
+pub record BegunEvent : Type 0 where
   pub event : ℕ
   pub pipes : ℕ → Option Pipe
 
 -- What there was of each connection when the newest of these events began: nothing, where none did.
-abbrev pub newest_of : (ℕ → Option Pipe) → List Begun → ℕ → Option Pipe
+abbrev pub newest_of : (ℕ → Option Pipe) → List BegunEvent → ℕ → Option Pipe
 newest_of pipes [] = pipes
 newest_of pipes (b ∷ bs) = newest_of b.pipes bs
 
-abbrev pub since : List Begun → ℕ → Option Pipe
+abbrev pub since : List BegunEvent → ℕ → Option Pipe
 since began = newest_of (λ n. None) began
 
 abbrev pub no_traffic : Traffic

@@ -1,7 +1,7 @@
 -- What a request of the player stands for in the model.
 use Rattle.std.specs.Prelude.{ℕ, ◌≡◌, List, [], ◌∷◌, Bool, Option, Some, None}
 use Rattle.tds_play.specs.declared.request.Record.{Record}
-use Rattle.tds_world.specs.Phase.{Settled, phase_of, status_of}
+use Rattle.tds_world.specs.Phase.{Settled, phase_of, request_status}
 use Rattle.tds_world.specs.Record as world
 
 -- A request that was asked on the connection of this number, which is cut or isn't.
@@ -9,7 +9,7 @@ pub record MatchesRecord (number : ℕ) (cut : Bool) (r : Record) (q : world.Rec
   pub lease : r.lease ≡ q.lease
   pub conn : q.conn ≡ number
   pub mark : r.mark ≡ q.asking.mark
-  pub status : r.status ≡ status_of cut q
+  pub status : r.status ≡ request_status cut q
   pub ran : r.ran ≡ q.ran
   pub tokens : r.tokens.items ≡ q.given
 

@@ -25,7 +25,7 @@ use Rattle.tds_play.specs.declared.player.Player.{Player}
 use Rattle.tds_play.specs.declared.seat.Held.{Held}
 use Rattle.tds_play.specs.Failures.{Fails, FailsAs, FailsNoMore, HasNoFailure, LiveAreSound, Open, calls_of}
 use Rattle.tds_play.specs.Noted.{asked_after, leases_after, tickets_after}
-use Rattle.tds_play.specs.Pipe.{AreFaithfulTo, AreSameBeyond, Begun, IsFaithful, Pipe, traffic}
+use Rattle.tds_play.specs.Pipe.{AreFaithfulTo, AreSameBeyond, BegunEvent, IsFaithful, Pipe, traffic}
 use Rattle.tds_play.specs.Player.{AreHeld, ModelGivesEach, RepresentsWorld, all_of}
 use Rattle.tds_play.specs.Plays.{IsReady, MayLose, RefinesAct, RepresentsConnection, acts_on, after, cut_where, loss_of}
 use Rattle.tds_play.specs.Pooled.{IsGone, numbers_kept, numbers_leased, seat_in}
@@ -81,7 +81,7 @@ pub record IsNoted {E S : Type 0} (e : Event) (conn : ℕ) (old new : Player E S
 -- What an event came to on the connection at a place, over a carrier that was told of these events, and is of
 -- no other one. The connection was the one, and is the other.
 pub record StepsAt {E S : Type 0} (answers : E → Answers) (e : Event) (place : ℕ) (old new : Player E S)
-    (pipes pipes' : ℕ → Option Pipe) (told still : List Begun) (done : EventDone) : Type 0 where
+    (pipes pipes' : ℕ → Option Pipe) (told still : List BegunEvent) (done : EventDone) : Type 0 where
   pub was : Held E S
   pub now : Held E S
   pub at : slice_get old.links.items place ≡ Some was
@@ -127,7 +127,7 @@ pub record ReusesAs {E S : Type 0} (conn lease : ℕ) (old new : Player E S) : T
 -- A connection of this number was opened, which the pool has, and whose holder is this lease. Where the carrier
 -- failed, the pool has lost it.
 pub record OpensAs {E S : Type 0} (conn lease : ℕ) (old new : Player E S) (pipes pipes' : ℕ → Option Pipe)
-    (told still : List Begun) (done : EventDone) : Type 0 where
+    (told still : List BegunEvent) (done : EventDone) : Type 0 where
   pub link : Link E S
   pub links : new.links.items ≡ old.links.items ++ record { link = link; holder = lease } ∷ []
   pub rest : new ≡ record old { links = new.links; pool = new.pool }
@@ -146,7 +146,7 @@ pub record OpensAs {E S : Type 0} (conn lease : ℕ) (old new : Player E S) (pip
 
 -- Connections were cut, over a carrier that was told of these events, and is of no other one: what each cut
 -- keeps.
-pub record CutsSome {E S : Type 0} (old new : Player E S) (pipes pipes' : ℕ → Option Pipe) (told still : List Begun)
+pub record CutsSome {E S : Type 0} (old new : Player E S) (pipes pipes' : ℕ → Option Pipe) (told still : List BegunEvent)
     : Type 0 where
   pub tied : AreTied (all_of new) pipes'
   pub held : AreHeld new

@@ -4,7 +4,7 @@ use Rattle.std.specs.Prelude.{ℕ, suc, ◌+◌, ◌≡◌, ◌≤◌, ◌<◌, 
 use Rattle.tds_packet.specs.declared.kind.Direction.{Direction}
 use Rattle.tds_packet.specs.declared.kind.Direction.TheVariants.{ToServer, ToClient}
 use Rattle.tds_play.specs.Failures.{HasNoFailure}
-use Rattle.tds_play.specs.Pipe.{Begun, Pipe, AreSame, since, traffic, IsFaithful, IsOpen}
+use Rattle.tds_play.specs.Pipe.{BegunEvent, Pipe, AreSame, since, traffic, IsFaithful, IsOpen}
 use Rattle.tds_play.specs.declared.link.Link.{Link}
 use Rattle.tds_play.specs.Seats.{Seated}
 
@@ -24,7 +24,7 @@ pub record IsTied {E S : Type 0} (link : Link E S) (pipe : Option Pipe) : Type 0
 -- knows of it, nothing changes at the carrier on the other ones, and it is told of no other event. Where what
 -- came then is the first of what was handed over, it was so before.
 pub record KeepsTies {E S : Type 0} (number : ℕ) (link : Link E S) (before after : ℕ → Option Pipe)
-    (told still : List Begun) : Type 0 where
+    (told still : List BegunEvent) : Type 0 where
   pub tied : IsTied link (after number)
   pub others : AreSame before after number
   pub begun : still ≡ told
@@ -32,17 +32,17 @@ pub record KeepsTies {E S : Type 0} (number : ℕ) (link : Link E S) (before aft
 
 -- The connection of this number was opened: what it was before is forgotten.
 pub record OpensTies {E S : Type 0} (number : ℕ) (link : Link E S) (before after : ℕ → Option Pipe)
-    (told still : List Begun) : Type 0 where
+    (told still : List BegunEvent) : Type 0 where
   pub tied : IsTied link (after number)
   pub others : AreSame before after number
   pub begun : still ≡ told
 
 -- Since a carrier was told of an event nothing was asked of it.
-abbrev pub IsJustTold : Bool → List Begun → (ℕ → Option Pipe) → Type 0
+abbrev pub IsJustTold : Bool → List BegunEvent → (ℕ → Option Pipe) → Type 0
 IsJustTold is_told told pipes = (n : ℕ) → is_told ≡ true → since told n ≡ pipes n
 
 -- An event comes to the connection of this number, of which nothing was asked since, and where no call ever failed.
-pub record IsUnasked (is_told : Bool) (told : List Begun) (pipes : ℕ → Option Pipe) (number : ℕ) : Type 0 where
+pub record IsUnasked (is_told : Bool) (told : List BegunEvent) (pipes : ℕ → Option Pipe) (number : ℕ) : Type 0 where
   pub since_then : is_told ≡ true → since told number ≡ pipes number
   pub unfailed : HasNoFailure (pipes number)
 

@@ -1,7 +1,7 @@
 //! What carries the bytes of each connection.
 ghost use Rattle.std.specs.Prelude.{Bool, true, false, [], ◌∷◌, ◌≡◌, ◌≢◌, ◌++◌, ◌≤◌, ◌<◌, ◌+◌, ℕ, List, length, drop, take, Option, Some, Err, IfOk, OnOk};
 ghost use Rattle.tds_packet.specs.declared.kind.Direction.{Direction};
-ghost use Rattle.tds_play.specs.Pipe.{Begun, Pipe, Changes, new_pipe, sent_on, carried_on, stuck_on, cut_pipe, since, traffic, IsOpen, IsUncut, MayCarry, MaySend};
+ghost use Rattle.tds_play.specs.Pipe.{BegunEvent, Pipe, Changes, new_pipe, sent_on, carried_on, stuck_on, cut_pipe, since, traffic, IsOpen, IsUncut, MayCarry, MaySend};
 ghost use Rattle.tds_play.specs.declared.carrier.CarrierError.TheVariants.{Lost, Memory};
 
 use std::alloc::AllocError;

@@ -6,14 +6,14 @@ use Rattle.tds_pool.specs.declared.lease.Lease.{Lease}
 use Rattle.tds_pool.specs.declared.lease.Ticket.{Ticket}
 use Rattle.tds_pool.specs.declared.lease.Turn.{Turn}
 use Rattle.tds_pool.specs.declared.seat.Place.{Place}
-use Rattle.tds_pool.specs.Connections.{Connection, numbered, changed, taken_out, next_turn, same_turn}
+use Rattle.tds_pool.specs.Connections.{Connection, numbered, changed_in, taken_out, next_turn, same_turn}
 use Rattle.tds_pool.specs.Calls.{only, lent_to, kept_for, is_leased, is_kept, new_connection}
 use Rattle.tds_pool.specs.History.{Seen, Move, Changes, Ends, TakesOut, Opens, moved, behind, AreOf}
 use Rattle.tds_pool.proofs.Turns.{same_is}
 
 -- ---- All connections of a pool are its own
 
-own_changed : (name n : ℕ) (f : Connection → Connection) (cs : List Connection) → ((c : Connection) → (f c).turn.pool ≡ c.turn.pool) → AreOf name cs → AreOf name (changed n f cs)
+own_changed : (name n : ℕ) (f : Connection → Connection) (cs : List Connection) → ((c : Connection) → (f c).turn.pool ≡ c.turn.pool) → AreOf name cs → AreOf name (changed_in n f cs)
 own_changed name n f [] keeps own = tt
 own_changed name n f (c ∷ cs) keeps own = (by (eqb c.number n), own_changed name n f cs keeps own.1) where
   by : (b : Bool) → (cond b (f c) c).turn.pool ≡ name

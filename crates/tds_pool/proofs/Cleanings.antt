@@ -15,14 +15,14 @@ use Rattle.tds_packet.specs.Resets.{header_descriptor, strongest}
 use Rattle.tds_packet.specs.declared.status.Reset.{Reset}
 use Rattle.tds_packet.specs.declared.status.Reset.TheVariants.{Full, KeepTransaction}
 use Rattle.tds_request.specs.declared.request.Request.{Request}
-use Rattle.tds_request.specs.Layout.{spelling}
+use Rattle.tds_request.specs.Layout.{request_spelling}
 use Rattle.tds_token.specs.Contents.{Contents, contents_of}
 use Rattle.tds_pool.specs.declared.lease.Lease.{Lease}
 use Rattle.tds_pool.specs.declared.lease.Ticket.{Ticket}
 use Rattle.tds_pool.specs.declared.lease.Turn.{Turn}
 use Rattle.tds_pool.specs.declared.seat.Place.{Place}
 use Rattle.tds_pool.specs.declared.seat.Place.TheVariants as places
-use Rattle.tds_pool.specs.Connections.{Connection, numbered, changed, at_place, with_client, taken_out, next_turn, same_turn}
+use Rattle.tds_pool.specs.Connections.{Connection, numbered, changed_in, at_place, with_client, taken_out, next_turn, same_turn}
 use Rattle.tds_pool.specs.Calls.{only, lent_to, kept_for, is_leased, is_kept, is_free, is_held, is_idle, is_draining, is_cleaning, is_lendable, lent_again, put_back, rested, rests_at, settled, cancels, cancelled_and_settled, session_behind, refuses_keep, refuses_resume, free_one, held_one, closed_for, refuses_clean, asks_reset, behind_refusal, new_connection, cleaned_to, looked_at_clean, rests_clean, is_clean}
 use Rattle.tds_pool.specs.History.{Seen}
 use Rattle.tds_pool.specs.Cleaning.{Packet, Call, LendsAgain, LendsNew, Uses, Carries, Moves, Keeps, Resumes, GivesBack, Abandons, TakesBack, LooksAtDrained, Loses, Closes, Cleans, CleansNot, LooksAtCleaned, behind_packet, behind_packets, where_some, with_these, called, is_cleaned, while_cleaned, IsBehind, carried, Out, In, behind_sent, behind_taken, is_cancelling}
@@ -166,13 +166,13 @@ module _ (n : ℕ) (start : ClientSession) (p : Seen) (c : Connection) (used : n
   packet_moves m packet =
       by_number _ n m
       (λ is e. record { used = used; behind = subst (λ o. IfSome o (IsBehind start)) (sym (here is)) (still start (f c) (record { place = i.place; packets = packet ∷ i.packets; asked = ap (behind_packet packet) i.asked })) })
-      (λ e. as_it_was (changed m f p.connections) (changed_other m n f p.connections (λ d. refl) (eqb-false n m e)))
+      (λ e. as_it_was (changed_in m f p.connections) (changed_other m n f p.connections (λ d. refl) (eqb-false n m e)))
     where
       f : Connection → Connection
       f d = record d { client = behind_packet packet d.client }
 
-      here : n ≡ m → numbered n (changed m f p.connections) ≡ Some (f c)
-      here is = ap (λ (k : ℕ). numbered n (changed k f p.connections)) (sym is) ∙ changed_here n f p.connections (λ d. refl) ∙ ap (option_map f) at
+      here : n ≡ m → numbered n (changed_in m f p.connections) ≡ Some (f c)
+      here is = ap (λ (k : ℕ). numbered n (changed_in k f p.connections)) (sym is) ∙ changed_here n f p.connections (λ d. refl) ∙ ap (option_map f) at
 
   loses : (m : ℕ) → Next n start (called (Loses m) p)
   loses m =
@@ -245,12 +245,12 @@ module _ (n : ℕ) (start : ClientSession) (p : Seen) (c : Connection) (used : n
   next (Closes m) = as_it_was _ (closed_aside n (free_one m p.connections) p.connections (aside_only (λ (d : Connection). is_free d.place) n m p.connections c at (ap is_free i.place)))
   next (Cleans m request) =
       unless_here m _
-      (λ is. ap (λ o. numbered n (where_some (refuses_clean o) p.connections (changed m (λ (d : Connection). record d { place = places.Cleaning; client = asks_reset d.client request }) p.connections))) (freeless m is))
-      (λ other. or_second n (refuses_clean (free_one m p.connections)) (changed m (λ (d : Connection). record d { place = places.Cleaning; client = asks_reset d.client request }) p.connections) p.connections (changed_other m n (λ (d : Connection). record d { place = places.Cleaning; client = asks_reset d.client request }) p.connections (λ d. refl) other))
+      (λ is. ap (λ o. numbered n (where_some (refuses_clean o) p.connections (changed_in m (λ (d : Connection). record d { place = places.Cleaning; client = asks_reset d.client request }) p.connections))) (freeless m is))
+      (λ other. or_second n (refuses_clean (free_one m p.connections)) (changed_in m (λ (d : Connection). record d { place = places.Cleaning; client = asks_reset d.client request }) p.connections) p.connections (changed_other m n (λ (d : Connection). record d { place = places.Cleaning; client = asks_reset d.client request }) p.connections (λ d. refl) other))
   next (CleansNot m refusal) =
       unless_here m _
-      (λ is. ap (λ o. numbered n (where_some o (changed m (λ (d : Connection). record d { client = behind_refusal refusal d.client }) p.connections) p.connections)) (freeless m is))
-      (λ other. first_or n (free_one m p.connections) (changed m (λ (d : Connection). record d { client = behind_refusal refusal d.client }) p.connections) p.connections (changed_other m n (λ (d : Connection). record d { client = behind_refusal refusal d.client }) p.connections (λ d. refl) other))
+      (λ is. ap (λ o. numbered n (where_some o (changed_in m (λ (d : Connection). record d { client = behind_refusal refusal d.client }) p.connections) p.connections)) (freeless m is))
+      (λ other. first_or n (free_one m p.connections) (changed_in m (λ (d : Connection). record d { client = behind_refusal refusal d.client }) p.connections) p.connections (changed_other m n (λ (d : Connection). record d { client = behind_refusal refusal d.client }) p.connections (λ d. refl) other))
   next (LooksAtCleaned m) = looks m
 
 -- ---- Some calls
@@ -330,7 +330,7 @@ none_is (Some x) h = absurd (cc)
 pub alike_once_clean : (s : ClientSession) (request : Request) → is_clean s ≡ true → message_of (marked s Full).heard request ≡ message_of s.heard request
 alike_once_clean s request h =
     let both = both_hold (is_none s.heard.mark) (eqb s.heard.descriptor 0) h in
-    ap (λ (d : ℕ). spelling d request) (by s.heard.mark s.heard.descriptor (none_is s.heard.mark both.0) (eqb-true s.heard.descriptor 0 both.1)) where
+    ap (λ (d : ℕ). request_spelling d request) (by s.heard.mark s.heard.descriptor (none_is s.heard.mark both.0) (eqb-true s.heard.descriptor 0 both.1)) where
       by : (mark : Option Reset) (d : ℕ) → mark ≡ None → d ≡ 0 → header_descriptor (strongest (Some Full) mark) d ≡ header_descriptor mark d
       by None d is zero = sym zero
       by (Some reset) d is zero = absurd (cc)

@@ -11,7 +11,7 @@ use Rattle.tds_pool.specs.declared.lease.Lease.{Lease}
 use Rattle.tds_pool.specs.declared.lease.Ticket.{Ticket}
 use Rattle.tds_pool.specs.declared.seat.Place.{Place}
 use Rattle.tds_pool.specs.declared.seat.Place.TheVariants as places
-use Rattle.tds_pool.specs.Connections.{Connection, numbered, changed, at_place, ended_at, with_client, taken_out, next_turn}
+use Rattle.tds_pool.specs.Connections.{Connection, numbered, changed_in, at_place, lending_ended_at, with_client, taken_out, next_turn}
 use Rattle.tds_pool.specs.Calls.{only, lent_to, kept_for, is_lent_for, is_kept_for, is_draining, lent_again, put_back, rested, rests_at, abandoned, drained, given_back, cancelled_and_settled, session_behind, new_connection, free_one, closed, closed_for, taken_back, held_one, cleaning, not_cleaned, asks_reset, behind_refusal, cleaned_to, looked_at_clean, rests_clean, is_cleaning, cleaned}
 use Rattle.tds_client.specs.Sending.{cancelled}
 use Rattle.tds_pool.specs.History.{Seen, Move, Changes, Ends, TakesOut, Opens, moved, behind, AreBehind}
@@ -24,10 +24,10 @@ record IsOut (number : ℕ) (p : Seen) : Type 0 where
   out : numbered number p.connections ≡ None
 
 out_where_changed : (n m : ℕ) (f : Connection → Connection) (cs : List Connection) → ((c : Connection) → (f c).number ≡ c.number)
-    → numbered m cs ≡ None → numbered m (changed n f cs) ≡ None
+    → numbered m cs ≡ None → numbered m (changed_in n f cs) ≡ None
 out_where_changed n m f cs keeps out =
     by_number _ m n
-    (λ is e. ap (λ (k : ℕ). numbered k (changed n f cs)) is ∙ changed_here n f cs keeps ∙ ap (λ (k : ℕ). option_map f (numbered k cs)) (sym is) ∙ ap (option_map f) out)
+    (λ is e. ap (λ (k : ℕ). numbered k (changed_in n f cs)) is ∙ changed_here n f cs keeps ∙ ap (λ (k : ℕ). option_map f (numbered k cs)) (sym is) ∙ ap (option_map f) out)
     (λ e. changed_other n m f cs keeps (eqb-false m n e) ∙ out)
 
 out_where_taken : (n m : ℕ) (cs : List Connection) → numbered m cs ≡ None → numbered m (taken_out n cs) ≡ None
@@ -74,7 +74,7 @@ none p = record { moves = []; so = refl }
 places_one : (number : ℕ) (place : Place) (p : Seen) → AreBehind p (at_place number place p.connections)
 places_one number place p = record { moves = Changes number (λ c. place) (λ c. c.client) ∷ []; so = refl }
 
-ends_one : (number : ℕ) (place : Place) (p : Seen) → AreBehind p (ended_at number place p.connections)
+ends_one : (number : ℕ) (place : Place) (p : Seen) → AreBehind p (lending_ended_at number place p.connections)
 ends_one number place p = record { moves = Ends number (λ c. place) ∷ []; so = refl }
 
 pub changes_client : (number : ℕ) (client : ClientSession) (p : Seen) → AreBehind p (with_client number client p.connections)

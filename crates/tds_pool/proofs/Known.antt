@@ -8,7 +8,7 @@ use Rattle.tds_pool.specs.declared.lease.Lease.{Lease}
 use Rattle.tds_pool.specs.declared.lease.Turn.{Turn}
 use Rattle.tds_pool.specs.declared.seat.Place.{Place}
 use Rattle.tds_pool.specs.declared.seat.Place.TheVariants as places
-use Rattle.tds_pool.specs.Connections.{Connection, numbered, changed, first_turn, same_turn}
+use Rattle.tds_pool.specs.Connections.{Connection, numbered, changed_in, first_turn, same_turn}
 use Rattle.tds_pool.specs.Calls.{only, lent_to, lent_again, lent_next, is_leased, is_free, is_idle, is_lendable, is_lent_for, new_connection}
 use Rattle.tds_pool.proofs.Others.{changed_here, added_here}
 use Rattle.tds_pool.proofs.Over.{elsewhere}
@@ -31,7 +31,7 @@ pub known_again : (c : Connection) (reset : Reset) (cs : List Connection) → nu
     → IsSome (lent_to (lease_of c.key c.number c.turn) (lent_again c.number reset cs))
 known_again c reset cs is =
     let f : Connection → Connection = λ (d : Connection). record d { place = places.Leased; client = marked d.client reset } in
-    let here : numbered c.number (changed c.number f cs) ≡ Some (f c) = changed_here c.number f cs (λ d. refl) ∙ ap (option_map f) is in
+    let here : numbered c.number (changed_in c.number f cs) ≡ Some (f c) = changed_here c.number f cs (λ d. refl) ∙ ap (option_map f) is in
     subst (λ o. IsSome (only (λ (d : Connection). (d.key == c.key) && is_lent_for c.turn d.turn d.place) o)) (sym here) (stands (f c) refl)
 
 pub known_new : (pool number key size : ℕ) (cs : List Connection) → numbered number cs ≡ None

@@ -4,7 +4,7 @@ use Rattle.std.proofs.Math.Dec.{eqb}
 use Rattle.std.proofs.lemmas.Bool.{eq-eqb}
 use Rattle.std.proofs.lemmas.Bool.Decides.{eqb_tells}
 use Rattle.std.specs.Prelude.{◌≢◌, option_map}
-use Rattle.tds_pool.specs.Connections.{Connection, changed, numbered, taken_out}
+use Rattle.tds_pool.specs.Connections.{Connection, changed_in, numbered, taken_out}
 use Rattle.tds_pool.proofs.Seats.{taken, passed}
 
 -- A connection of that number, or not.
@@ -29,31 +29,31 @@ first_not : (c : Connection) (cs : List Connection) (n : ℕ) → eqb c.number n
 first_not c cs n e = passed (eqb c.number n) (Some c) (numbered n cs) e
 
 pub changed_here : (n : ℕ) (f : Connection → Connection) (cs : List Connection) → ((c : Connection) → (f c).number ≡ c.number)
-    → numbered n (changed n f cs) ≡ option_map f (numbered n cs)
+    → numbered n (changed_in n f cs) ≡ option_map f (numbered n cs)
 changed_here n f [] keeps = refl
 changed_here n f (c ∷ cs) keeps =
     by_number _ c.number n
     (λ is e.
-    first_is (cond (eqb c.number n) (f c) c) (changed n f cs) n (ap (λ (m : ℕ). eqb m n) (either_number (eqb c.number n) f c keeps) ∙ e)
+    first_is (cond (eqb c.number n) (f c) c) (changed_in n f cs) n (ap (λ (m : ℕ). eqb m n) (either_number (eqb c.number n) f c keeps) ∙ e)
     ∙ ap Some (taken (eqb c.number n) (f c) c e)
     ∙ sym (ap (option_map f) (first_is c cs n e)))
     (λ e.
-    first_not (cond (eqb c.number n) (f c) c) (changed n f cs) n (ap (λ (m : ℕ). eqb m n) (either_number (eqb c.number n) f c keeps) ∙ e)
+    first_not (cond (eqb c.number n) (f c) c) (changed_in n f cs) n (ap (λ (m : ℕ). eqb m n) (either_number (eqb c.number n) f c keeps) ∙ e)
     ∙ changed_here n f cs keeps
     ∙ sym (ap (option_map f) (first_not c cs n e)))
 
 pub changed_other : (n m : ℕ) (f : Connection → Connection) (cs : List Connection) → ((c : Connection) → (f c).number ≡ c.number) → m ≢ n
-    → numbered m (changed n f cs) ≡ numbered m cs
+    → numbered m (changed_in n f cs) ≡ numbered m cs
 changed_other n m f [] keeps other = refl
 changed_other n m f (c ∷ cs) keeps other =
     let number : (cond (eqb c.number n) (f c) c).number ≡ c.number = either_number (eqb c.number n) f c keeps in
     by_number _ c.number m
     (λ is e.
-    first_is (cond (eqb c.number n) (f c) c) (changed n f cs) m (ap (λ (k : ℕ). eqb k m) number ∙ e)
+    first_is (cond (eqb c.number n) (f c) c) (changed_in n f cs) m (ap (λ (k : ℕ). eqb k m) number ∙ e)
     ∙ ap Some (passed (eqb c.number n) (f c) c (unlike c.number m n is (λ same. other (sym same))))
     ∙ sym (first_is c cs m e))
     (λ e.
-    first_not (cond (eqb c.number n) (f c) c) (changed n f cs) m (ap (λ (k : ℕ). eqb k m) number ∙ e)
+    first_not (cond (eqb c.number n) (f c) c) (changed_in n f cs) m (ap (λ (k : ℕ). eqb k m) number ∙ e)
     ∙ changed_other n m f cs keeps other
     ∙ sym (first_not c cs m e))
 

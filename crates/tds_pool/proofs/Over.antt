@@ -12,7 +12,7 @@ use Rattle.tds_pool.specs.declared.lease.Ticket.{Ticket}
 use Rattle.tds_pool.specs.declared.lease.Turn.{Turn}
 use Rattle.tds_pool.specs.declared.seat.Place.{Place}
 use Rattle.tds_pool.specs.declared.seat.Place.TheVariants as places
-use Rattle.tds_pool.specs.Connections.{Connection, numbered, changed, ended_at, taken_out, next_turn, same_turn}
+use Rattle.tds_pool.specs.Connections.{Connection, numbered, changed_in, lending_ended_at, taken_out, next_turn, same_turn}
 use Rattle.tds_pool.specs.Calls.{only, lent_to, kept_for, is_leased, is_kept, is_free, is_held, is_idle, is_cleaning, is_lendable, lent_next, put_back, rested, rests_at, settled, cancels, cancelled_and_settled, session_behind, given_back, abandoned, taken_back, new_connection, cleaned, cleaned_to, looked_at_clean, rests_clean, is_clean}
 use Rattle.tds_pool.specs.History.{Seen, Move, Changes, Ends, TakesOut, Opens, moved, behind, IsOver}
 use Rattle.tds_pool.proofs.Others.{by_number, changed_here, changed_other, taken_other, added_other}
@@ -30,10 +30,10 @@ later_mapped turn f grows None h = tt
 later_mapped turn f grows (Some c) h = le_trans h (grows c)
 
 later_changed : (n m turn : ℕ) (f : Connection → Connection) (cs : List Connection) → ((c : Connection) → (f c).number ≡ c.number) → ((c : Connection) → c.turn.count ≤ (f c).turn.count)
-    → Later turn (numbered m cs) → Later turn (numbered m (changed n f cs))
+    → Later turn (numbered m cs) → Later turn (numbered m (changed_in n f cs))
 later_changed n m turn f cs keeps grows h =
     by_number _ m n
-    (λ is e. subst (Later turn) (sym (ap (λ (k : ℕ). numbered k (changed n f cs)) is ∙ changed_here n f cs keeps ∙ ap (λ (k : ℕ). option_map f (numbered k cs)) (sym is))) (later_mapped turn f grows (numbered m cs) h))
+    (λ is e. subst (Later turn) (sym (ap (λ (k : ℕ). numbered k (changed_in n f cs)) is ∙ changed_here n f cs keeps ∙ ap (λ (k : ℕ). option_map f (numbered k cs)) (sym is))) (later_mapped turn f grows (numbered m cs) h))
     (λ e. subst (Later turn) (sym (changed_other n m f cs keeps (eqb-false m n e))) h)
 
 later_taken : (n m turn : ℕ) (cs : List Connection) → Later turn (numbered m cs) → Later turn (numbered m (taken_out n cs))
@@ -110,7 +110,7 @@ ended_mapped : (turn : Turn) (place : Place) (o : Option Connection) → turn.co
 ended_mapped turn place None more h = tt
 ended_mapped turn place (Some c) more h = next_later turn.count c.turn h more
 
-ends_over : (n : ℕ) (turn : Turn) (place : Place) (cs : List Connection) → turn.count < 18446744073709551615 → Reached n turn cs → IsOver n turn (ended_at n place cs)
+ends_over : (n : ℕ) (turn : Turn) (place : Place) (cs : List Connection) → turn.count < 18446744073709551615 → Reached n turn cs → IsOver n turn (lending_ended_at n place cs)
 ends_over n turn place cs more h = subst (Later turn.count) (sym (changed_here n (λ (c : Connection). record c { place = place; turn = next_turn c.turn }) cs (λ c. refl))) (ended_mapped turn place (numbered n cs) more h)
 
 rested_over : (n : ℕ) (turn : Turn) (o : Option Place) (cs : List Connection) → turn.count < 18446744073709551615 → Reached n turn cs → IsOver n turn (rested n o cs).connections
@@ -165,8 +165,8 @@ cancelled_over : (n : ℕ) (turn : Turn) (cs : List Connection) (c : Connection)
 cancelled_over n turn cs c more is e =
     let f : Connection → Connection = λ (d : Connection). record d { client = session_behind (cancelled c.client) c.client } in
     let number : c.number ≡ n = numbered_has n cs c is in
-    let reached : Reached n turn (changed n f cs) = subst (λ o. IfSome o (λ (d : Connection). turn.count ≤ d.turn.count)) (sym (changed_here n f cs (λ d. refl))) (reached_mapped turn f (λ d. same_count d.turn.count) (numbered n cs) (is_reached n turn cs c is e)) in
-    subst (λ m. IsOver n turn (settled m (cancels m c.client cs)).connections) (sym number) (settled_over n turn (changed n f cs) more reached)
+    let reached : Reached n turn (changed_in n f cs) = subst (λ o. IfSome o (λ (d : Connection). turn.count ≤ d.turn.count)) (sym (changed_here n f cs (λ d. refl))) (reached_mapped turn f (λ d. same_count d.turn.count) (numbered n cs) (is_reached n turn cs c is e)) in
+    subst (λ m. IsOver n turn (settled m (cancels m c.client cs)).connections) (sym number) (settled_over n turn (changed_in n f cs) more reached)
 
 pub given_over : (lease : Lease) (cs : List Connection) → IsSome (lent_to lease cs) → lease.turn.count < 18446744073709551615 → IsOver lease.number lease.turn (given_back lease cs).connections
 given_over lease cs known more = by (numbered lease.number cs) refl known where

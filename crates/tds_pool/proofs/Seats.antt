@@ -11,7 +11,7 @@ use Rattle.tds_pool.specs.declared.seat.Seat.{Seat}
 use Rattle.tds_pool.specs.declared.lease.Turn.{Turn}
 use Rattle.tds_pool.specs.declared.seat.Place.{Place}
 use Rattle.tds_pool.specs.Calls.{only, standing}
-use Rattle.tds_pool.specs.Connections.{PoolState, Connection, shown, connections, numbered, changed, taken_out, with_client, number_under, connection_of, seat_or_none, reseated, Agree, IsPool}
+use Rattle.tds_pool.specs.Connections.{PoolState, Connection, shown, connections, numbered, changed_in, taken_out, with_client, number_under, connection_of, seat_or_none, reseated, Agree, IsPool}
 use Rattle.tds_client.specs.Session.{ClientSession}
 use Rattle.tds_pool.specs.Lends.{with_client_under, with_client_numbered, key_or_zero}
 use Rattle.tds_numbers.specs.Table.{key_of, key_at, number_at}
@@ -149,16 +149,16 @@ module _ (p : PoolState) (pool : IsPool p) (t : Slab Seat) (key : ℕ) (old new 
           (λ x. x.0)
           (eqb_tells e.number old.number)
 
-  all_reseated : (es : List Entry) → Agree p.seats es → map (shown t) es ≡ changed old.number f (map (shown p.seats) es)
+  all_reseated : (es : List Entry) → Agree p.seats es → map (shown t) es ≡ changed_in old.number f (map (shown p.seats) es)
   all_reseated [] is = refl
   all_reseated (e ∷ es) is = ap (λ c. c ∷ map (shown t) es) (entry_reseated e is.0) ∙ ap (λ cs. cond (eqb e.number old.number) (f (shown p.seats e)) (shown p.seats e) ∷ cs) (all_reseated es is.1)
 
-  connections_moved : map (shown t) p.entries ≡ changed old.number f (connections p)
+  connections_moved : map (shown t) p.entries ≡ changed_in old.number f (connections p)
   connections_moved = all_reseated p.entries pool.agree
 
 -- the same of a write under a key
 pub connections_reseated : (p : PoolState) → IsPool p → (key : ℕ) (old new : Seat) → get p.seats key ≡ Some old → (f : Connection → Connection) → f (connection_of old.number key old) ≡ connection_of old.number key new
-    → connections (reseated p key new) ≡ changed old.number f (connections p)
+    → connections (reseated p key new) ≡ changed_in old.number f (connections p)
 connections_reseated p pool key old new h f is_f = connections_moved p pool (with_value p.seats key new) key old new (written p.seats key old new h) h f is_f
 
 -- what stands at a place of the table is under its key

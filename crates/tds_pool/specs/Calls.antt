@@ -18,7 +18,7 @@ use Rattle.tds_pool.specs.declared.lease.Ticket.{Ticket}
 use Rattle.tds_pool.specs.declared.lease.Turn.{Turn}
 use Rattle.tds_pool.specs.declared.seat.Place.{Place}
 use Rattle.tds_pool.specs.declared.seat.Place.TheVariants as places
-use Rattle.tds_pool.specs.Connections.{Connection, numbered, changed, at_place, ended_at, with_client, taken_out, first_turn, same_turn}
+use Rattle.tds_pool.specs.Connections.{Connection, numbered, changed_in, at_place, lending_ended_at, with_client, taken_out, first_turn, same_turn}
 
 abbrev pub refusal_number : PoolRefusal → ℕ
 refusal_number refusals.AllInUse = 1
@@ -103,11 +103,11 @@ pub record Returned : Type 0 where
 
 abbrev pub rested : ℕ → Option Place → List Connection → Returned
 rested number None cs = record { answer = given.Closed number; connections = taken_out number cs }
-rested number (Some places.Draining) cs = record { answer = given.Draining number; connections = ended_at number places.Draining cs }
-rested number (Some places.Leased) cs = record { answer = given.Free number; connections = ended_at number places.Leased cs }
-rested number (Some places.Kept) cs = record { answer = given.Free number; connections = ended_at number places.Kept cs }
-rested number (Some places.Free) cs = record { answer = given.Free number; connections = ended_at number places.Free cs }
-rested number (Some places.Cleaning) cs = record { answer = given.Free number; connections = ended_at number places.Cleaning cs }
+rested number (Some places.Draining) cs = record { answer = given.Draining number; connections = lending_ended_at number places.Draining cs }
+rested number (Some places.Leased) cs = record { answer = given.Free number; connections = lending_ended_at number places.Leased cs }
+rested number (Some places.Kept) cs = record { answer = given.Free number; connections = lending_ended_at number places.Kept cs }
+rested number (Some places.Free) cs = record { answer = given.Free number; connections = lending_ended_at number places.Free cs }
+rested number (Some places.Cleaning) cs = record { answer = given.Free number; connections = lending_ended_at number places.Cleaning cs }
 
 -- nobody holds this connection any more; where there is none, nothing changes
 abbrev pub put_back : Option Connection → List Connection → Returned
@@ -157,7 +157,7 @@ refuses_resume (Some c) = unless_idle c.client.stage
 -- a connection is lent again, its client marked for a reset
 abbrev pub lent_again : ℕ → Reset → List Connection → List Connection
 lent_again number reset cs =
-    changed number (λ (c : Connection). record c { place = places.Leased; client = marked c.client reset }) cs
+    changed_in number (λ (c : Connection). record c { place = places.Leased; client = marked c.client reset }) cs
 
 -- ---- A connection that nobody holds any more
 
@@ -297,7 +297,7 @@ asks_reset s request = sending.started (marked s Full) request
 -- a connection is being cleaned
 abbrev pub cleaning : ℕ → Request → List Connection → List Connection
 cleaning number request cs =
-    changed number (λ (c : Connection). record c { place = places.Cleaning; client = asks_reset c.client request }) cs
+    changed_in number (λ (c : Connection). record c { place = places.Cleaning; client = asks_reset c.client request }) cs
 
 -- behind a refusal the client is as it was, but where memory was wanting it is marked for a full reset, as the next lease
 -- marks it too
@@ -306,7 +306,7 @@ behind_refusal refusals.Memory s = marked s Full
 behind_refusal _ s = s
 
 abbrev pub not_cleaned : PoolRefusal → ℕ → List Connection → List Connection
-not_cleaned refusal number cs = changed number (λ (c : Connection). record c { client = behind_refusal refusal c.client }) cs
+not_cleaned refusal number cs = changed_in number (λ (c : Connection). record c { client = behind_refusal refusal c.client }) cs
 
 -- whether a client has heard that its reset was done, and is in no transaction
 abbrev pub is_clean : ClientSession → Bool

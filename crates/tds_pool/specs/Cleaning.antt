@@ -12,7 +12,7 @@ use Rattle.tds_pool.specs.declared.answers.PoolRefusal.{PoolRefusal}
 use Rattle.tds_pool.specs.declared.lease.Lease.{Lease}
 use Rattle.tds_pool.specs.declared.lease.Ticket.{Ticket}
 use Rattle.tds_pool.specs.declared.seat.Place.TheVariants.{Free, Kept}
-use Rattle.tds_pool.specs.Connections.{Connection, numbered, changed, at_place, with_client, taken_out}
+use Rattle.tds_pool.specs.Connections.{Connection, numbered, changed_in, at_place, with_client, taken_out}
 use Rattle.tds_pool.specs.Calls.{only, lent_to, kept_for, is_lendable, is_cleaning, is_idle, is_clean, lent_again, refuses_keep, refuses_resume, given_back, abandoned, drained, closed, taken_back, free_one, refuses_clean, cleaning, not_cleaned, cleaned}
 use Rattle.tds_pool.specs.History.{Seen, Opens, moved}
 
@@ -56,7 +56,7 @@ behind_packets [] s = s
 behind_packets (packet ∷ before) s = behind_packet packet (behind_packets before s)
 
 abbrev pub carries : ℕ → Packet → List Connection → List Connection
-carries number packet cs = changed number (λ (c : Connection). record c { client = behind_packet packet c.client }) cs
+carries number packet cs = changed_in number (λ (c : Connection). record c { client = behind_packet packet c.client }) cs
 
 -- ---- Calls
 

@@ -67,19 +67,19 @@ abbrev pub numbered : ℕ → List Connection → Option Connection
 numbered number cs = find (λ (c : Connection). c.number == number) cs
 
 -- one of them that was changed, and the others as they are
-abbrev pub changed : ℕ → (Connection → Connection) → List Connection → List Connection
-changed number f cs = map (λ (c : Connection). if c.number == number then f c else c) cs
+abbrev pub changed_in : ℕ → (Connection → Connection) → List Connection → List Connection
+changed_in number f cs = map (λ (c : Connection). if c.number == number then f c else c) cs
 
 -- it stands elsewhere, or its client is another
 abbrev pub at_place : ℕ → Place → List Connection → List Connection
-at_place number place cs = changed number (λ (c : Connection). record c { place = place }) cs
+at_place number place cs = changed_in number (λ (c : Connection). record c { place = place }) cs
 
 abbrev pub with_client : ℕ → ClientSession → List Connection → List Connection
-with_client number client cs = changed number (λ (c : Connection). record c { client = client }) cs
+with_client number client cs = changed_in number (λ (c : Connection). record c { client = client }) cs
 
 -- a lending of it ends, and it stands elsewhere
-abbrev pub ended_at : ℕ → Place → List Connection → List Connection
-ended_at number place cs = changed number (λ (c : Connection). record c { place = place; turn = next_turn c.turn }) cs
+abbrev pub lending_ended_at : ℕ → Place → List Connection → List Connection
+lending_ended_at number place cs = changed_in number (λ (c : Connection). record c { place = place; turn = next_turn c.turn }) cs
 
 -- it is taken out
 abbrev pub taken_out : ℕ → List Connection → List Connection

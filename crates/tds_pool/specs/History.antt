@@ -3,7 +3,7 @@ use Rattle.std.specs.Prelude.{◌≡◌, ℕ, suc, ◌<◌, IfSome, List, [], �
 use Rattle.tds_client.specs.Session.{ClientSession}
 use Rattle.tds_pool.specs.declared.lease.Turn.{Turn}
 use Rattle.tds_pool.specs.declared.seat.Place.{Place}
-use Rattle.tds_pool.specs.Connections.{Connection, numbered, changed, taken_out, next_turn}
+use Rattle.tds_pool.specs.Connections.{Connection, numbered, changed_in, taken_out, next_turn}
 use Rattle.tds_pool.specs.Calls.{new_connection}
 
 -- A pool as who uses it sees it: its name, the last number that was used, and the connections.
@@ -25,9 +25,9 @@ pub data Move : Type 0 where
 
 abbrev pub moved : Move → Seen → Seen
 moved (Changes number place client) p =
-    record p { connections = changed number (λ (c : Connection). record c { place = place c; client = client c }) p.connections }
+    record p { connections = changed_in number (λ (c : Connection). record c { place = place c; client = client c }) p.connections }
 moved (Ends number place) p =
-    record p { connections = changed number (λ (c : Connection). record c { place = place c; turn = next_turn c.turn }) p.connections }
+    record p { connections = changed_in number (λ (c : Connection). record c { place = place c; turn = next_turn c.turn }) p.connections }
 moved (TakesOut number) p = record p { connections = taken_out number p.connections }
 moved (Opens key size) p =
     record p { last = suc p.last; connections = p.connections ++ new_connection p.name (suc p.last) key size ∷ [] }

@@ -11,7 +11,7 @@ ghost use Rattle.tds_pool.specs.declared.lease.Turn.{Turn};
 ghost use Rattle.tds_pool.specs.declared.seat.Place.TheVariants as places;
 ghost use Rattle.tds_pool.specs.declared.answers.GivenBack.TheVariants as given;
 ghost use Rattle.tds_request.specs.declared.request.Request.{Request};
-ghost use Rattle.tds_pool.specs.Connections.{Connection, changed, numbered, at_place, with_client, taken_out, first_turn};
+ghost use Rattle.tds_pool.specs.Connections.{Connection, changed_in, numbered, at_place, with_client, taken_out, first_turn};
 ghost use Rattle.tds_pool.specs.Calls.{lent_to, kept_for, lent_next, lent_again, is_free, is_idle, given_back, abandoned, drained, closed, new_connection, taken_back, is_cleaning, cleaned, cleaning, not_cleaned, asks_reset, is_clean};
 ghost use Rattle.tds_pool.specs.Cleaning.{Call, Packet, IsBehind, behind_packets, is_cancelling, while_cleaned};
 ghost use Rattle.tds_pool.specs.declared.answers.PoolRefusal.{PoolRefusal};
@@ -36,10 +36,10 @@ pub fn lent_were_idle()
 pub fn one_changes()
     ensures here { (number : ℕ) (f : Connection → Connection) (cs : List Connection)
         → ((c : Connection) → (f c).number ≡ c.number)
-        → numbered number (changed number f cs) ≡ option_map f (numbered number cs) }
+        → numbered number (changed_in number f cs) ≡ option_map f (numbered number cs) }
     ensures others { (number other : ℕ) (f : Connection → Connection) (cs : List Connection)
         → ((c : Connection) → (f c).number ≡ c.number) → other ≢ number
-        → numbered other (changed number f cs) ≡ numbered other cs }
+        → numbered other (changed_in number f cs) ≡ numbered other cs }
 {}
 
 /// A connection that is taken out is gone, and the others stay.

@@ -14,16 +14,16 @@ use Rattle.tds_relay.specs.Pool as pool
 use Rattle.tds_relay.specs.Pool.{Action, Pool}
 
 -- The next request on a connection begins a session; or, where it is to keep its transaction, resets at least all else.
-abbrev pub Resets : Reset → Option Seat → Type 0
-Resets reset None = ⊥
-Resets Full (Some c) = begins_anew c.line ≡ true
-Resets KeepTransaction (Some c) = (begins_anew c.line ≡ true) ⊎ (is_some c.line.heard.mark ≡ true)
+abbrev pub ResetsNext : Reset → Option Seat → Type 0
+ResetsNext reset None = ⊥
+ResetsNext Full (Some c) = begins_anew c.line ≡ true
+ResetsNext KeepTransaction (Some c) = (begins_anew c.line ≡ true) ⊎ (is_some c.line.heard.mark ≡ true)
 
 -- on the connection that an application holds, where its request asks for one
 abbrev pub ResetsFor : Option Reset → Option Hold → Pool → Type 0
 ResetsFor None held d = Unit {0}
 ResetsFor (Some reset) None d = Unit {0}
-ResetsFor (Some reset) (Some hold) d = Resets reset (seat_numbered hold.number d.service.seats)
+ResetsFor (Some reset) (Some hold) d = ResetsNext reset (seat_numbered hold.number d.service.seats)
 
 -- where a request is asked
 abbrev pub WhereAsked : Action → Type 0 → Type 0

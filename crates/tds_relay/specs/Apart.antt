@@ -1,6 +1,6 @@
 -- What a call leaves as it was: the ends of all applications but one, or of all but those that wait for a connection.
 use Rattle.std.specs.Prelude.{◌≡◌, ◌≢◌, ◌++◌, ℕ, false, List, Option, Some}
-use Rattle.tds_relay.specs.Core.{Ends, Core, end_at, holder, is_in}
+use Rattle.tds_relay.specs.Core.{EndList, Core, end_at, holder, is_in}
 
 -- The end of each other application is as it was, and whoever waited waits.
 pub record Alone (key : ℕ) (old new : Core) : Type 0 where
@@ -12,7 +12,7 @@ abbrev pub UnlessServed : Core → Core → Type 0
 UnlessServed old new = (key : ℕ) → is_in key old.pool.line ≡ false → end_at new.ends key ≡ end_at old.ends key
 
 -- Of those who wait the first ones wait no more: the end of each other application is as it was.
-pub record LendsInTurn (line : List ℕ) (ends : Ends) (new : Core) : Type 0 where
+pub record LendsInTurn (line : List ℕ) (ends : EndList) (new : Core) : Type 0 where
   pub lent : List ℕ
   pub are : line ≡ lent ++ new.pool.line
   pub apart : (key : ℕ) → is_in key lent ≡ false → end_at new.ends key ≡ end_at ends key
@@ -24,7 +24,7 @@ pub record AloneWho (who : Option ℕ) (old new : Core) : Type 0 where
 
 -- First something is done for this one, if there is one, and then those who wait are lent connections, in turn.
 pub record LendsAfter (who : Option ℕ) (old new : Core) : Type 0 where
-  pub ends : Ends
+  pub ends : EndList
   pub others : (key : ℕ) → who ≢ Some key → end_at ends key ≡ end_at old.ends key
   pub lends : LendsInTurn old.pool.line ends new
 

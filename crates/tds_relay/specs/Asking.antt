@@ -21,11 +21,11 @@ use Rattle.tds_relay.specs.Taking.{IsDeaf, Tells}
 -- ---- On its connection
 
 -- where the line of a connection is that is lent by this lease
-abbrev pub stage_by : Service → ℕ → Option line.Stage
+abbrev pub stage_by : Service → ℕ → Option line.LineStage
 stage_by s lease = option_map (λ (c : Seat). c.line.stage) (find_by (has_lease lease) s.seats)
 
 -- A request is being sent there; or all of it was, where it is whole.
-abbrev pub IsSent : Bool → Option line.Stage → Type 0
+abbrev pub IsSent : Bool → Option line.LineStage → Type 0
 IsSent whole (Some (line.Sending begun)) = whole ≡ false
 IsSent whole (Some line.Reading) = whole ≡ true
 IsSent whole _ = ⊥
@@ -62,13 +62,13 @@ pub data IsUnderway (whole : Bool) (links : List Link) (key : ℕ) (h : Core) : 
 -- ---- Behind each piece
 
 -- what is said of a piece
-abbrev pub said_in : Result Fed FrontFault → Said
-said_in (Ok fed) = fed.said
-said_in (Err fault) = said.Nothing
+abbrev pub said_of_piece : Result Fed FrontFault → Said
+said_of_piece (Ok fed) = fed.said
+said_of_piece (Err fault) = said.Nothing
 
 abbrev pub said_of : List ℕ → Option End → Said
 said_of bytes None = said.Nothing
-said_of bytes (Some (Open front withdrawn asks)) = said_in (fed front bytes).brings
+said_of bytes (Some (Open front withdrawn asks)) = said_of_piece (fed front bytes).brings
 said_of bytes (Some (Over why)) = said.Nothing
 
 -- where by it a request begins or goes on, or ends
@@ -95,13 +95,13 @@ AreObeyed P key h (Takes other bytes ∷ steps) =
 AreObeyed P key h (step ∷ steps) = AreObeyed P key (after h step) steps
 
 -- An application's bytes are taken, up to these, and behind each piece its request is underway.
-pub record Asks (key : ℕ) (old : Machine) (bytes left : List ℕ) (links : List Link) (new : Machine) : Type 0 where
+pub record AsksByBytes (key : ℕ) (old : Machine) (bytes left : List ℕ) (links : List Link) (new : Machine) : Type 0 where
   pub tells : Tells key old bytes left new
   pub obeyed : AreObeyed (λ whole. IsUnderway whole links key) key old tells.steps
 
 -- Whatever was taken before, these bytes are taken behind it, up to these.
 abbrev pub AsksOn : ℕ → List ℕ → List ℕ → List Link → List Link → Machine → Machine → Type 0
-AsksOn key left rest links next old new = (first : Machine) (bytes : List ℕ) → Asks key first bytes left links old → Asks key first bytes rest next new
+AsksOn key left rest links next old new = (first : Machine) (bytes : List ℕ) → AsksByBytes key first bytes left links old → AsksByBytes key first bytes rest next new
 
 -- ---- As the code has it
 

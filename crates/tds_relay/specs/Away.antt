@@ -2,7 +2,7 @@
 use Rattle.std.specs.Prelude.{◌≡◌, ℕ, ◌==◌, List, [], ◌∷◌, filter, None}
 use Rattle.tds_relay.specs.Behind.{events_along}
 use Rattle.tds_relay.specs.Pool.{Pool, Event, Sharing, find_key, turn}
-use Rattle.tds_relay.specs.Giving.{Visit, machine_in, moves_in}
+use Rattle.tds_relay.specs.Giving.{Visit, machine_at_visit, moves_in}
 use Rattle.tds_relay.specs.Core.{new_core}
 use Rattle.tds_relay.specs.Promises.{comes_to_wait}
 
@@ -21,4 +21,4 @@ abbrev pub done_before : {sharing : Sharing} {key : ℕ} → Visit sharing key �
 done_before {sharing} v = events_along (new_core sharing) (moves_in v.before)
 
 abbrev pub done_since : {sharing : Sharing} {key : ℕ} → Visit sharing key → List Event
-done_since v = events_along (machine_in v).core (moves_in v.since)
+done_since v = events_along (machine_at_visit v).core (moves_in v.since)

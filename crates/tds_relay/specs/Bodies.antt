@@ -10,7 +10,7 @@ use Rattle.tds_front.specs.declared.front.Said.{Said}
 use Rattle.tds_front.specs.declared.front.Said.TheVariants as said
 use Rattle.tds_front.specs.Bytes.{fed}
 use Rattle.tds_service.specs.declared.service.Service as services
-use Rattle.tds_service.specs.Table.{Moves, client_of}
+use Rattle.tds_service.specs.Table.{TurnsInto, client_of}
 use Rattle.tds_service.specs.Ties.{cancel_out}
 use Rattle.tds_relay.specs.declared.application.Application.{Application}
 use Rattle.tds_relay.specs.declared.application.Asking.{Asking}
@@ -121,9 +121,9 @@ pub data Halts : Body → Body → Type 0 where
   ByClosing : {b : Body} → Halts b Closed
 
 -- A request of packets of this type begins, with nothing of its body; or its application is to be closed.
-pub data Begins (kind : Kind) : Body → Type 0 where
-  Asks : (message : MessageKind) → packets_are message ≡ kind → Begins kind (Kept message [] false)
-  Refuses : Begins kind Closed
+pub data BeginsBody (kind : Kind) : Body → Type 0 where
+  Asks : (message : MessageKind) → packets_are message ≡ kind → BeginsBody kind (Kept message [] false)
+  Refuses : BeginsBody kind Closed
 
 -- ---- Piece by piece
 
@@ -134,7 +134,7 @@ last_of count bytes = drop (length bytes - count) bytes
 -- What becomes of a body by bytes that are taken of its application, of which this is said.
 abbrev pub Becomes : Said → List ℕ → Body → Body → Type 0
 Becomes said.Nothing taken old new = new ≡ old
-Becomes (said.Begin kind reset) taken old new = Begins kind new
+Becomes (said.Begin kind reset) taken old new = BeginsBody kind new
 Becomes (said.Body count) taken old new = Grows false (last_of count taken) old new
 Becomes (said.End count) taken old new = Grows true (last_of count taken) old new
 Becomes (said.Forget gone) taken old new = new ≡ Nowhere
@@ -214,7 +214,7 @@ GoesFrom old new = PutsFrom old.1 old.0 new
 
 -- where a request begins
 abbrev pub BeginsFrom : Kind → BodyAndWaits → BodyAndWaits → Type 0
-BeginsFrom kind old new = (mid : Body) × Begins kind mid × PutsFrom old.1 mid new
+BeginsFrom kind old new = (mid : Body) × BeginsBody kind mid × PutsFrom old.1 mid new
 
 -- where these bytes of it have come
 abbrev pub GrowsFrom : Bool → List ℕ → BodyAndWaits → BodyAndWaits → Type 0
@@ -306,7 +306,7 @@ pub record ClientPuts (whole : Bool) (more : List ℕ) (key : ℕ) (old new : po
   pub same : new.holds.items ≡ old.holds.items
   pub from : ClientSession
   pub to : ClientSession
-  pub moves : Moves hold.lease old.service new.service from to
+  pub moves : TurnsInto hold.lease old.service new.service from to
   pub out : List ℕ
   pub put_is : ArePut whole more from to out
   pub appended : after ≡ before ++ out
@@ -318,7 +318,7 @@ pub record ClientStops (key : ℕ) (old new : pools.Pool) (before after : List �
   pub same : new.holds.items ≡ old.holds.items
   pub from : ClientSession
   pub to : ClientSession
-  pub moves : Moves hold.lease old.service new.service from to
+  pub moves : TurnsInto hold.lease old.service new.service from to
   pub appended : after ≡ before ++ cancel_out from.stage
 
 -- Something was put on the connection of this number, behind what waited there, and the pool and what is asked are as they were; or the

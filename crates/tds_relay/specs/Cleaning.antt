@@ -22,11 +22,11 @@ use Rattle.tds_relay.specs.Bodies.{ArePut}
 use Rattle.tds_relay.specs.Closings.{IsWaiting, Register, Settings, register_in}
 use Rattle.tds_relay.specs.Few.{has_seat}
 use Rattle.tds_relay.specs.Pool.{Brings, Leaves, Pool, Way, find_key, next, turn}
-use Rattle.tds_relay.specs.Queues.{Queue, fits, nothing}
+use Rattle.tds_relay.specs.Queues.{Queue, fits, empty_queue}
 use Rattle.tds_relay.specs.Lent.{HasClosed, IsMade}
 use Rattle.tds_relay.specs.Reads.{CalledAt, bytes_on, open_at, open_waits, queue_on, reader_at, seen_at, waits_on}
 use Rattle.tds_relay.specs.Core.{holder}
-use Rattle.tds_relay.specs.Ties.{GoesOn, pool_in}
+use Rattle.tds_relay.specs.Ties.{LedOn, pool_in}
 
 -- ---- What a cleaning says
 
@@ -162,7 +162,7 @@ pub record IsGivenUp (key number : ℕ) (old new : Pool) : Type 0 where
   pub gives : Bool
   pub way : Way
   pub lost : has_seat number (turn old (Leaves key gives way)).pool.service ≡ false
-  pub goes : GoesOn (turn old (Leaves key gives way)).pool new
+  pub goes : LedOn (turn old (Leaves key gives way)).pool new
 
 -- So it is with what this application held; or what goes out there doesn't fit.
 abbrev pub CannotClean : ℕ → Hold → code.Relay → code.Relay → Type 0
@@ -191,7 +191,7 @@ CountsSinceEnd key was old new = (hold : Hold) → find_key key old.pool.holds.i
 
 -- A cleaning doesn't fit where nothing waits, behind packets of this size.
 abbrev pub IsTooLong : ℕ → Type 0
-IsTooLong size = (out : List ℕ) × IsCleaning text_of_cleaning out × (fits (nothing size) out ≡ false)
+IsTooLong size = (out : List ℕ) × IsCleaning text_of_cleaning out × (fits (empty_queue size) out ≡ false)
 
 -- Nothing is counted; or one more was counted as closed instead, and the connection of this number is there no more.
 abbrev pub CountsLost : ℕ → code.Relay → code.Relay → Type 0

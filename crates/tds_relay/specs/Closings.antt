@@ -9,7 +9,7 @@ use Rattle.tds_relay.specs.declared.order.Order.{Order}
 use Rattle.tds_relay.specs.declared.order.Order.TheVariants as orders
 use Rattle.tds_relay.specs.declared.relay.Relay as code
 use Rattle.tds_relay.specs.Fronts.{ends_in}
-use Rattle.tds_relay.specs.Core.{End, Ends, Open, Over, end_at, is_in}
+use Rattle.tds_relay.specs.Core.{End, EndList, Open, Over, end_at, is_in}
 use Rattle.tds_relay.specs.Ordering.{IsOrdered, StayOrdered}
 use Rattle.tds_relay.specs.Queues.{HasAll, Queue, Queues, names_of, queue_at, queues_in}
 use Rattle.tds_relay.specs.Reads.{Seen, seen_at}
@@ -28,7 +28,7 @@ pub record KeptBeside : Type 0 where
 
 -- The ends of all applications, and what waits for them, by their keys; the connections; what is ordered; and what is kept beside that.
 pub record Register : Type 0 where
-  pub ends : Ends
+  pub ends : EndList
   pub queues : Queues
   pub links : List Link
   pub orders : List Order
@@ -144,8 +144,8 @@ IsNoRequest _ = ⊥
 
 -- ---- Whom it may close
 
-abbrev pub Nobody : ℕ → Type 0
-Nobody other = ⊥
+abbrev pub NoKey : ℕ → Type 0
+NoKey other = ⊥
 
 abbrev pub Itself : ℕ → ℕ → Type 0
 Itself key other = other ≡ key

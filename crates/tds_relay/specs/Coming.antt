@@ -6,9 +6,9 @@ use Rattle.tds_relay.specs.Bodies.{Astray, Body, Closed, Going, Kept, Nowhere, S
 use Rattle.tds_relay.specs.Pool.{owes_reset, whose}
 use Rattle.tds_relay.specs.Fronts.{core_in, machine_in}
 use Rattle.tds_relay.specs.Handing.{PassesAs}
-use Rattle.tds_relay.specs.Core.{Core, done_by, holder, is_in, what_in}
+use Rattle.tds_relay.specs.Core.{Core, dones_of_part, holder, is_in, what_in}
 use Rattle.tds_relay.specs.Machine.{Machine, Hands, Step, acknowledges, after}
-use Rattle.tds_relay.specs.Reads.{Comes, MayBegin, StaysAt, Streams, answer_at, if_open, open_answer, open_at}
+use Rattle.tds_relay.specs.Reads.{BytesCome, MayBegin, StaysAt, ReadsPackets, answer_at, if_open, open_answer, open_at}
 use Rattle.tds_relay.specs.Sparing.{IsUnkept}
 use Rattle.tds_relay.specs.Ties.{IsReached, pool_in}
 use Rattle.tds_relay.specs.declared.application.Application.{Application}
@@ -83,12 +83,12 @@ abbrev pub AreSetAnew : Machine → List Step → Option Answer → Option Answe
 AreSetAnew h [] had now = StaysAt had now
 AreSetAnew h (Hands number header content part way manner ∷ steps) had now =
     (from : Answer) × (next : Answer) × (behind : Option Answer) × StaysAt had (Some from) × PassesAs (owes_reset number h.core.pool) from header content part manner next
-    × BeginsIf (acknowledges_to (whose h.core.pool number) (what_in (done_by h.core.pool number part))) (Some next) behind × AreSetAnew (after h (Hands number header content part way manner)) steps behind now
+    × BeginsIf (acknowledges_to (whose h.core.pool number) (what_in (dones_of_part h.core.pool number part))) (Some next) behind × AreSetAnew (after h (Hands number header content part way manner)) steps behind now
 AreSetAnew h (step ∷ steps) had now = AreSetAnew (after h step) steps had now
 
 -- Bytes were heard up to these, and the packets among them handed on so.
 pub record StreamsAnew (number : ℕ) (first : Option Answer) (had : Option Reading) (old : Machine) (from : services.Service) (bytes left : List ℕ) (last : Option Answer) (now : Option Reading) (new : Machine) (to : services.Service) : Type 0 where
-  pub streams : Streams number had old from bytes left now new to
+  pub streams : ReadsPackets number had old from bytes left now new to
   pub anew : AreSetAnew old streams.steps first last
 
 -- Whatever was heard before, these bytes are heard behind it so; and where this acknowledges something the next message may begin.
@@ -107,7 +107,7 @@ BeginsLent number old new had now = StaysAt had now ⊎ (IsLentSince number old 
 
 -- In a call all of them are, and then those who wait are served: a message may begin anew there alone, where one is lent a connection.
 pub record ComesAnew (number : ℕ) (bytes : List ℕ) (old new : code.Relay) : Type 0 where
-  pub comes : Comes number (open_at number old.links.items) (machine_in old) old.pool.service bytes (open_at number new.links.items) (machine_in new) new.pool.service
+  pub comes : BytesCome number (open_at number old.links.items) (machine_in old) old.pool.service bytes (open_at number new.links.items) (machine_in new) new.pool.service
   pub behind : Option Answer
   pub anew : AreSetAnew (machine_in old) comes.streams.streams.steps (answer_at number old.links.items) behind
   pub begins : IsReached (pool_in old.pool) → BeginsLent number comes.mid.core (core_in new) (if_open comes.left behind) (open_answer number new.links.items)

@@ -38,24 +38,24 @@ pub data End : Type 0 where
   -- nothing more is taken of it, and it is to be closed: for this, where it did what the protocol doesn't allow
   Over : (why : Option FrontFault) → End
 
-abbrev pub Ends : Type 0
-Ends = List (Option End)
+abbrev pub EndList : Type 0
+EndList = List (Option End)
 
-abbrev pub end_at : Ends → ℕ → Option End
+abbrev pub end_at : EndList → ℕ → Option End
 end_at ends key = slice_index_or ends key None
 
 -- that of one application changes so, if there is this application
-abbrev pub change_end : ℕ → (End → End) → Ends → Ends
+abbrev pub change_end : ℕ → (End → End) → EndList → EndList
 change_end key by ends = slice_set ends key (option_map by (end_at ends key))
 
-abbrev pub change_whose : Option ℕ → (End → End) → Ends → Ends
+abbrev pub change_whose : Option ℕ → (End → End) → EndList → EndList
 change_whose None by ends = ends
 change_whose (Some key) by ends = change_end key by ends
 
 -- Who holds which connection, and the ends.
 pub record Core : Type 0 where
   pub pool : Pool
-  pub ends : Ends
+  pub ends : EndList
 
 abbrev pub new_core : Sharing → Core
 new_core sharing = record { pool = new_pool sharing; ends = [] }
@@ -80,27 +80,27 @@ lets_go (Open front withdrawn asks) = Open front false asks
 lets_go (Over why) = Over why
 
 -- something of its request has gone on, where packets went out
-abbrev pub goes_on : List Packet → End → End
-goes_on [] end = end
-goes_on (packet ∷ packets) end = move_stage rules.went_on end
+abbrev pub end_goes_on : List Packet → End → End
+end_goes_on [] end = end
+end_goes_on (packet ∷ packets) end = move_stage rules.request_went_on end
 
 -- The acknowledgement is the end's, or that of what was taken back.
-abbrev pub acknowledged : End → End
-acknowledged (Open front true asks) = Open front false asks
-acknowledged (Open front false asks) = move_stage rules.acknowledged (Open front false asks)
-acknowledged (Over why) = Over why
+abbrev pub end_acknowledged : End → End
+end_acknowledged (Open front true asks) = Open front false asks
+end_acknowledged (Open front false asks) = move_stage rules.acknowledged (Open front false asks)
+end_acknowledged (Over why) = Over why
 
 -- A packet of its answer has come: it is told of the reset by now that its request asked for. Of what it took back it hears nothing.
-abbrev pub hears : End → End
-hears (Open front withdrawn asks) = Open front withdrawn (if withdrawn then asks else None)
-hears (Over why) = Over why
+abbrev pub end_hears : End → End
+end_hears (Open front withdrawn asks) = Open front withdrawn (if withdrawn then asks else None)
+end_hears (Over why) = Over why
 
 -- this came of a packet on its connection
-abbrev pub told : What → End → End
-told whats.Goes end = hears end
-told whats.Finished end = move_stage rules.answered (hears end)
-told whats.Acknowledged end = acknowledged (hears end)
-told whats.Closed end = closes end
+abbrev pub end_told : What → End → End
+end_told whats.Goes end = end_hears end
+end_told whats.Finished end = move_stage rules.answered (end_hears end)
+end_told whats.Acknowledged end = end_acknowledged (end_hears end)
+end_told whats.Closed end = closes end
 
 -- ---- What came, as the service answers it
 
@@ -114,8 +114,8 @@ abbrev pub what_in : List (Done Token) → What
 what_in [] = whats.Goes
 what_in (d ∷ ds) = what_of d.answer
 
-abbrev pub done_by : Pool → ℕ → Part Token → List (Done Token)
-done_by d number part = (step d.service (calls.Came number part)).dones
+abbrev pub dones_of_part : Pool → ℕ → Part Token → List (Done Token)
+dones_of_part d number part = (step d.service (calls.Came number part)).dones
 
 -- ---- Bytes of an application
 
@@ -172,7 +172,7 @@ pub data Move : Type 0 where
   -- an application is to be closed
   Closes : (key : ℕ) → Move
   -- one has come, with which these are the ends; one is there no more
-  Enters : (key : ℕ) (ends : Ends) → Move
+  Enters : (key : ℕ) (ends : EndList) → Move
   Quits : (key : ℕ) (gives : Bool) (way : Way) → Move
 
 -- what is done at the pool
@@ -199,13 +199,13 @@ sent_by d event = sent_along d.service (turn d event).calls
 abbrev pub holder : Pool → ℕ → Option ℕ
 holder d number = key_of (find_number number d.holds)
 
-abbrev pub ends_behind : Core → Move → Ends
+abbrev pub ends_behind : Core → Move → EndList
 ends_behind h (Does event) = h.ends
-ends_behind h (Sends key action) = change_end key (goes_on (sent_by h.pool (pool.Does key action))) h.ends
+ends_behind h (Sends key action) = change_end key (end_goes_on (sent_by h.pool (pool.Does key action))) h.ends
 ends_behind h (LetsGo key parks gives way) = change_end key lets_go h.ends
 ends_behind h (Loses number) = change_whose (holder h.pool number) closes h.ends
 ends_behind h (Replaces number) = change_whose (holder h.pool number) lets_go h.ends
-ends_behind h (Comes number part way) = change_whose (whose h.pool number) (told (what_in (done_by h.pool number part))) h.ends
+ends_behind h (Comes number part way) = change_whose (whose h.pool number) (end_told (what_in (dones_of_part h.pool number part))) h.ends
 ends_behind h (Feeds key bytes) = change_end key (feeds bytes) h.ends
 ends_behind h (Closes key) = change_end key closes h.ends
 ends_behind h (Enters key ends) = ends
@@ -236,9 +236,9 @@ IsBegun (stages.Underway gone) = Unit {0}
 IsBegun stages.Stopping = ⊥
 IsBegun (stages.Broken fault) = ⊥
 
-abbrev pub IsWhole : Stage → Type 0
-IsWhole (stages.Underway gone) = Unit {0}
-IsWhole _ = ⊥
+abbrev pub HasWholeRequest : Stage → Type 0
+HasWholeRequest (stages.Underway gone) = Unit {0}
+HasWholeRequest _ = ⊥
 
 -- where its end is open
 abbrev pub IfOpen : (Stage → Type 0) → Option End → Type 0
@@ -284,13 +284,13 @@ abbrev pub is_in : ℕ → List ℕ → Bool
 is_in key [] = false
 is_in key (k ∷ ks) = (k == key) || is_in key ks
 
-abbrev pub IsThere : Option End → Type 0
-IsThere None = ⊥
-IsThere (Some end) = Unit {0}
+abbrev pub IsEndThere : Option End → Type 0
+IsEndThere None = ⊥
+IsEndThere (Some end) = Unit {0}
 
 -- It is there, holds no connection, and waits for none.
-pub record IsAway (h : Core) (key : ℕ) : Type 0 where
-  pub there : IsThere (end_at h.ends key)
+pub record IsThereAndAway (h : Core) (key : ℕ) : Type 0 where
+  pub there : IsEndThere (end_at h.ends key)
   pub holds : find_key key h.pool.holds ≡ None
   pub waits : is_in key h.pool.line ≡ false
 
@@ -298,7 +298,7 @@ pub record IsAway (h : Core) (key : ℕ) : Type 0 where
 abbrev pub MayDo : Action → Option End → Type 0
 MayDo pool.Asks end = IfOpen IsBegun end
 MayDo (pool.Puts count) end = IfOpen IsBegun end
-MayDo (pool.Ends count) end = IfOpen IsWhole end
+MayDo (pool.Ends count) end = IfOpen HasWholeRequest end
 MayDo pool.Stops end = IfOpen IsHere end
 
 abbrev pub IsPut : Action → Type 0
@@ -316,7 +316,7 @@ IsNotPut pool.Stops = Unit {0}
 -- Nobody waits who has begun no request, holds a connection, or waits already; who waits does so until it asks nothing. A request is asked
 -- where its reset is done. Who keeps a transaction by another lease asks for the reset that does so. What else moves an end isn't done alone.
 abbrev pub MayDoAlone : Core → Event → Type 0
-MayDoAlone h (pool.Waits key) = IsAway h key × IfOpen IsBegun (end_at h.ends key)
+MayDoAlone h (pool.Waits key) = IsThereAndAway h key × IfOpen IsBegun (end_at h.ends key)
 MayDoAlone h (pool.Unwaits key) = IfOpen AsksNothing (end_at h.ends key)
 MayDoAlone h pool.Serves = Unit {0}
 MayDoAlone h (pool.Brings gives way) = Unit {0}
@@ -332,7 +332,7 @@ IfWhose P None = Unit {0}
 IfWhose P (Some key) = P key
 
 -- It has come by a key that nobody had, and has said nothing yet; the others are as they were.
-pub record HasEntered (key : ℕ) (old new : Ends) : Type 0 where
+pub record HasEntered (key : ℕ) (old new : EndList) : Type 0 where
   pub was_free : end_at old key ≡ None
   pub size : ℕ
   pub begins : end_at new key ≡ Some (Open (new_front size) false None)

@@ -12,7 +12,7 @@ use Rattle.tds_service.specs.Line as line
 use Rattle.tds_relay.specs.declared.pool.coming.Heard.{Heard}
 use Rattle.tds_relay.specs.declared.fault.Refused.{Refused}
 use Rattle.tds_relay.specs.Pool.{fault_on}
-use Rattle.tds_relay.specs.Core.{End, Open, Over, done_by, end_at}
+use Rattle.tds_relay.specs.Core.{End, Open, Over, dones_of_part, end_at}
 use Rattle.tds_relay.specs.Machine.{Machine, Step, Hands, Takes, after, after_all}
 
 -- ---- Of an application
@@ -52,7 +52,7 @@ AnswersFault fault [] = ⊥
 AnswersFault fault (done ∷ dones) = done.answer ≡ line.Fault fault
 
 abbrev pub BreaksOn : ℕ → ListenFault → Machine → Step → Type 0
-BreaksOn number fault h (Hands other header content part way manner) = (other ≡ number) × AnswersFault fault (done_by h.core.pool other part)
+BreaksOn number fault h (Hands other header content part way manner) = (other ≡ number) × AnswersFault fault (dones_of_part h.core.pool other part)
 BreaksOn number fault h step = ⊥
 
 abbrev pub BreaksOnAlong : ℕ → ListenFault → Machine → List Step → Type 0

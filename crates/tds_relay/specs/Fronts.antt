@@ -17,19 +17,19 @@ use Rattle.tds_relay.specs.declared.pool.coming.What.{What}
 use Rattle.tds_relay.specs.declared.relay.Relay as code
 use Rattle.tds_relay.specs.Pool as pool
 use Rattle.tds_relay.specs.Pool.{Pool, Way}
-use Rattle.tds_relay.specs.Core.{End, Open, Over, Ends, Core, Feeds, IsBegun, IsWhole, LetsGo, Moves, asks_by, change_whose, end_at, move_stage, moved, told, what_in}
+use Rattle.tds_relay.specs.Core.{End, Open, Over, EndList, Core, Feeds, IsBegun, HasWholeRequest, LetsGo, Moves, asks_by, change_whose, end_at, move_stage, moved, end_told, what_in}
 use Rattle.tds_relay.specs.Machine.{Machine}
 use Rattle.tds_relay.specs.Queues.{Queues, acknowledgement, give, queues_in}
 use Rattle.tds_relay.specs.Taking.{IsDeaf}
 use Rattle.tds_relay.specs.Ties.{Application as ByApplication, Cause, Turns, pool_in}
 
-abbrev pub end_of : Application → End
-end_of a = if a.is_over then Over a.fault else Open a.front a.is_withdrawn a.reset
+abbrev pub own_end : Application → End
+own_end a = if a.is_over then Over a.fault else Open a.front a.is_withdrawn a.reset
 
-abbrev pub ends_in : Slab Application → Ends
-ends_in s = map (option_map end_of) s.slots
+abbrev pub ends_in : Slab Application → EndList
+ends_in s = map (option_map own_end) s.slots
 
-abbrev pub core_of_ends : Pool → Ends → Core
+abbrev pub core_of_ends : Pool → EndList → Core
 core_of_ends d ends = record { pool = d; ends = ends }
 
 abbrev pub core_of : pools.Pool → Slab Application → Core
@@ -39,7 +39,7 @@ abbrev pub core_in : code.Relay → Core
 core_in r = core_of r.pool r.applications
 
 -- with what waits for each application
-abbrev pub machine_with : Pool → Ends → Queues → Machine
+abbrev pub machine_with : Pool → EndList → Queues → Machine
 machine_with d ends queues = record { core = core_of_ends d ends; queues = queues }
 
 abbrev pub machine_of : pools.Pool → Slab Application → Machine
@@ -56,21 +56,21 @@ IsWhat None what dones = Unit {0}
 IsWhat (Some key) what dones = what ≡ what_in dones
 
 -- what is heard is told to the application's end
-abbrev pub told_by : Option Heard → Ends → Ends
+abbrev pub told_by : Option Heard → EndList → EndList
 told_by None ends = ends
-told_by (Some heard) ends = change_whose heard.key (told heard.what) ends
+told_by (Some heard) ends = change_whose heard.key (end_told heard.what) ends
 
 -- ---- What is put
 
 -- what must be so of the stage where bytes of a request are put, or also its end
 abbrev pub puts : Bool → Stage → Type 0
 puts false stage = IsBegun stage
-puts true stage = IsWhole stage
+puts true stage = HasWholeRequest stage
 
 -- something of a request has gone on, where there are bytes
 abbrev pub goes_by : List ℕ → End → End
 goes_by [] end = end
-goes_by (byte ∷ bytes) end = move_stage rules.went_on end
+goes_by (byte ∷ bytes) end = move_stage rules.request_went_on end
 
 -- Bytes were put, and then its end, or that alone wasn't.
 pub record PutsOn (key : ℕ) (old new : Pool) (before after : List ℕ) (ends : Bool) : Type 0 where
@@ -92,7 +92,7 @@ withdraws (Open front withdrawn asks) = Open front true asks
 withdraws (Over why) = Over why
 
 -- Bytes of an application were taken, of which this was said: its end was before them, and is as they lead.
-pub record IsFed (key : ℕ) (before now : Ends) (bytes : List ℕ) (answer : Said) : Type 0 where
+pub record IsFed (key : ℕ) (before now : EndList) (bytes : List ℕ) (answer : Said) : Type 0 where
   pub front : Front
   pub withdrawn : Bool
   pub asks : Option Reset
@@ -134,7 +134,7 @@ pub record ClosesInstead (key : ℕ) (answer : Said) (old new : Core) : Type 0 w
   pub nothing : (queues : Queues) → given_by key answer queues ≡ queues
 
 -- So it is from where it was before it was fed.
-abbrev pub FedOn : ℕ → Said → Pool → Ends → Core → Type 0
+abbrev pub FedOn : ℕ → Said → Pool → EndList → Core → Type 0
 FedOn key answer d now new =
-    (before : Ends) (bytes : List ℕ) → IsFed key before now bytes answer
+    (before : EndList) (bytes : List ℕ) → IsFed key before now bytes answer
     → TakesBetween key (core_of_ends d before) bytes new ⊎ ClosesInstead key answer (core_of_ends d before) new

@@ -4,10 +4,10 @@ use Rattle.tds_packet.specs.declared.header.Header.{Header}
 use Rattle.tds_packet.specs.Reading.{joined}
 use Rattle.tds_wire.specs.declared.features.Features.{Features}
 use Rattle.tds_front.specs.Passing.{towards}
-use Rattle.tds_front.specs.Serving.{Happening, Comes, Goes, Closes, Reply, Tokens, Ends, Acknowledges}
+use Rattle.tds_front.specs.Serving.{Happening, Comes, Goes, Closes, ServerReply, Tokens, Ends, Acknowledges}
 use Rattle.tds_front.specs.declared.stage.Stage.TheVariants as stages
 use Rattle.tds_relay.specs.Behind.{events_along, passed}
-use Rattle.tds_relay.specs.Cutting.{ends_in}
+use Rattle.tds_relay.specs.Cutting.{is_last_packet}
 use Rattle.tds_relay.specs.Pool.{Event, Sharing, whose}
 use Rattle.tds_relay.specs.Fronting.{AnswersOnce, done_on}
 use Rattle.tds_relay.specs.Core as core
@@ -88,7 +88,7 @@ IsKept key h steps =
 -- An application comes, behind these steps, and these are the steps since.
 pub record Visit (sharing : Sharing) (key : ℕ) : Type 0 where
   pub before : List Step
-  pub ends : core.Ends
+  pub ends : core.EndList
   pub queues : Queues
   pub since : List Step
   pub may : MayAll (new_machine sharing) (before ++ Admits key ends queues ∷ since)
@@ -103,18 +103,18 @@ pub record ReadVisit (sharing : Sharing) (key : ℕ) : Type 0 where
   pub read : AllReadAnew most features (new_machine sharing) (visit.before ++ Admits key visit.ends visit.queues ∷ visit.since)
 
 -- where it has come
-abbrev pub machine_in : {sharing : Sharing} {key : ℕ} → Visit sharing key → Machine
-machine_in {sharing} {key} v = after_all (new_machine sharing) (v.before ++ Admits key v.ends v.queues ∷ [])
+abbrev pub machine_at_visit : {sharing : Sharing} {key : ℕ} → Visit sharing key → Machine
+machine_at_visit {sharing} {key} v = after_all (new_machine sharing) (v.before ++ Admits key v.ends v.queues ∷ [])
 
 abbrev pub given_in : {sharing : Sharing} {key : ℕ} → Visit sharing key → List Given
-given_in {sharing} {key} v = given_all key (machine_in v) v.since
+given_in {sharing} {key} v = given_all key (machine_at_visit v) v.since
 
-abbrev pub sent_in : {sharing : Sharing} {key : ℕ} → Visit sharing key → List ℕ
-sent_in {sharing} {key} v = sent_all key (machine_in v) v.since
+abbrev pub sent_in_visit : {sharing : Sharing} {key : ℕ} → Visit sharing key → List ℕ
+sent_in_visit {sharing} {key} v = sent_all key (machine_at_visit v) v.since
 
 -- what waits for it at last
 abbrev pub waits_in : {sharing : Sharing} {key : ℕ} → Visit sharing key → Option Queue
-waits_in {sharing} {key} v = queue_at (after_all (machine_in v) v.since).queues key
+waits_in {sharing} {key} v = queue_at (after_all (machine_at_visit v) v.since).queues key
 
 abbrev pub moves_in : List Step → List Move
 moves_in [] = []
@@ -122,7 +122,7 @@ moves_in (step ∷ steps) = moves_of step ++ moves_in steps
 
 -- what passes between it and its end (tds_front, Passing)
 abbrev pub happens_in : {sharing : Sharing} {key : ℕ} → Visit sharing key → List Happening
-happens_in {sharing} {key} v = towards None stages.Quiet (passed key (machine_in v).core (moves_in v.since))
+happens_in {sharing} {key} v = towards None stages.Quiet (passed key (machine_at_visit v).core (moves_in v.since))
 
 -- All that is done at the pool, also before it came. Each server answers each request once at most, also behind an attention.
 abbrev pub done_in : {sharing : Sharing} {key : ℕ} → Visit sharing key → List Event
@@ -138,12 +138,12 @@ pub record IsPacketOf (ends : Bool) (pieces : Given) : Type 0 where
   pub header : Header
   pub content : List ℕ
   pub manner : Manner
-  pub ends_is : ends_in header ≡ ends
+  pub ends_is : is_last_packet header ≡ ends
   pub right : IsRight header content manner
   pub are : handed manner header content ≡ Some pieces
 
 -- An acknowledgement may be the end's own.
-abbrev pub IsSaid : Reply → Given → Type 0
+abbrev pub IsSaid : ServerReply → Given → Type 0
 IsSaid Tokens pieces = IsPacketOf false pieces
 IsSaid Ends pieces = IsPacketOf true pieces
 IsSaid Acknowledges pieces = IsPacketOf true pieces ⊎ (pieces ≡ acknowledgement ∷ [])

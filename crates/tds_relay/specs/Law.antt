@@ -17,8 +17,8 @@ use Rattle.tds_relay.specs.declared.order.Order.TheVariants as orders
 use Rattle.tds_relay.specs.Pool as pool
 use Rattle.tds_relay.specs.Pool.{Sharing, Wrong, find_key, hearing, owes_reset}
 use Rattle.tds_relay.specs.Places.{HasNoTransaction, open_on}
-use Rattle.tds_relay.specs.Giving.{Visit, machine_in}
-use Rattle.tds_relay.specs.Core.{Core, Move, Does, LetsGo, Loses, Replaces, Comes, Quits, AsksFor, IfOpen, IsHere, Open, done_by, end_at, moved}
+use Rattle.tds_relay.specs.Giving.{Visit, machine_at_visit}
+use Rattle.tds_relay.specs.Core.{Core, Move, Does, LetsGo, Loses, Replaces, Comes, Quits, AsksFor, IfOpen, IsHere, Open, dones_of_part, end_at, moved}
 
 -- ---- (1) What leaves
 
@@ -44,7 +44,7 @@ Parts Asks key hold h (LetsGo other parks gives way) = (other ≡ key) × PartsF
 Parts Asks key hold h (Replaces number) = (number ≡ hold.number) × PartsFor Asks key h
 Parts Asks key hold h (Quits other gives way) = other ≡ key
 Parts Asks key hold h (Loses number) = number ≡ hold.number
-Parts Asks key hold h (Comes number part way) = (number ≡ hold.number) × (hearing (done_by h.pool number part) ≡ Wrong)
+Parts Asks key hold h (Comes number part way) = (number ≡ hold.number) × (hearing (dones_of_part h.pool number part) ≡ Wrong)
 Parts Asks key hold h move = ⊥
 
 -- By what the relay has of its end.
@@ -78,7 +78,7 @@ KeepsTransaction key h move =
 
 -- where a visit's steps have led
 abbrev pub core_behind : {sharing : Sharing} {key : ℕ} → Visit sharing key → Core
-core_behind {sharing} {key} v = (after_all (machine_in v) v.since).core
+core_behind {sharing} {key} v = (after_all (machine_at_visit v) v.since).core
 
 -- The last request that has begun by its own bytes asks for this reset, and it has neither been told of it nor taken the request back; or it
 -- is to be closed.

@@ -13,7 +13,7 @@ use Rattle.tds_relay.specs.Fronts.{ends_in}
 use Rattle.tds_relay.specs.Pool.{find_key, find_number, key_of, without_number}
 use Rattle.tds_relay.specs.Core.{end_at, holder, is_in}
 use Rattle.tds_relay.specs.Reads.{StaysAt, answer_at, carried_there, link_at, waits_on}
-use Rattle.tds_relay.specs.Sparing.{Held, held_at}
+use Rattle.tds_relay.specs.Sparing.{HeldConnection, held_at}
 use Rattle.tds_relay.specs.Taking.{IsDeaf}
 use Rattle.tds_relay.specs.Ties.{pool_in}
 
@@ -74,7 +74,7 @@ KeepsWaits number old new = (carried_there number new ≡ None) ⊎ (carried_the
 -- Nothing is put, and no message begins anew, on the connection that somebody holds who waits for none, but on these; and where nobody held one,
 -- only where somebody does now.
 pub record PutsOnly (But : ℕ → Type 0) (old new : code.Relay) : Type 0 where
-  pub held : (key : ℕ) (at : Held) → is_in key (pool_in old.pool).line ≡ false → held_at key old.pool ≡ Some at → But at.0 ⊎ KeepsWaits at.0 old.links.items new.links.items
+  pub held : (key : ℕ) (at : HeldConnection) → is_in key (pool_in old.pool).line ≡ false → held_at key old.pool ≡ Some at → But at.0 ⊎ KeepsWaits at.0 old.links.items new.links.items
   pub free : (number : ℕ) → holder (pool_in old.pool) number ≡ None
       → But number ⊎ (KeepsWaits number old.links.items new.links.items ⊎ IsSome (holder (pool_in new.pool) number))
 

@@ -9,7 +9,7 @@ use Rattle.tds_front.specs.declared.front.Said.{Said}
 use Rattle.tds_front.specs.declared.front.Said.TheVariants as said
 use Rattle.tds_front.specs.Bytes.{fed}
 use Rattle.tds_wire.specs.declared.told.Token.{Token}
-use Rattle.tds_wire.specs.Reading.{Reading}
+use Rattle.tds_wire.specs.Reading.{Parser}
 use Rattle.tds_token.specs.declared.env_change.EnvChange.TheVariants as changes
 use Rattle.tds_client.specs.declared.sign.Sign.{Sign}
 use Rattle.tds_client.specs.declared.sign.Sign.TheVariants as signs
@@ -17,12 +17,12 @@ use Rattle.tds_service.specs.Parts.{Item, Part}
 use Rattle.tds_relay.specs.declared.pool.coming.What.{What}
 use Rattle.tds_relay.specs.declared.pool.coming.What.TheVariants as whats
 use Rattle.tds_relay.specs.declared.link.Answer.{Answer}
-use Rattle.tds_relay.specs.Cutting.{IsCut, ends_in}
+use Rattle.tds_relay.specs.Cutting.{IsCut, is_last_packet}
 use Rattle.tds_relay.specs.Pool.{Sharing, Way, owes_reset, whose}
 use Rattle.tds_relay.specs.Core as core
-use Rattle.tds_relay.specs.Core.{End, Open, Over, Ends, Core, Move, CausesMove, HasEntered, IsQuiet, MayMove, done_by, end_at, moved_all, new_core, what_in}
+use Rattle.tds_relay.specs.Core.{End, Open, Over, EndList, Core, Move, CausesMove, HasEntered, IsQuiet, MayMove, dones_of_part, end_at, moved_all, new_core, what_in}
 use Rattle.tds_relay.specs.Queues as waiting
-use Rattle.tds_relay.specs.Queues.{Queue, Queues, acknowledgement, change, news, put, without_first}
+use Rattle.tds_relay.specs.Queues.{Queue, Queues, acknowledgement, change, news, put_behind, without_first}
 use Rattle.tds_relay.specs.Promises.{Each, one_if}
 use Rattle.tds_relay.specs.Ties.{Cause, Neither, part_on}
 
@@ -50,7 +50,7 @@ pub data Step : Type 0 where
   -- an application is sent so many of the bytes that wait for it
   Writes : (key count : ℕ) → Step
   -- one has come, with which these are the ends, and this waits; one is there no more
-  Admits : (key : ℕ) (ends : Ends) (queues : Queues) → Step
+  Admits : (key : ℕ) (ends : EndList) (queues : Queues) → Step
   Removes : (key : ℕ) (gives : Bool) (way : Way) → Step
 
 -- ---- What each is, and does
@@ -90,19 +90,19 @@ owed bytes (Some (Over why)) = None
 -- these pieces are put behind what waits, one after the other
 abbrev pub put_all : List (List ℕ) → Queue → Queue
 put_all [] p = p
-put_all (piece ∷ pieces) p = put_all pieces (put piece p)
+put_all (piece ∷ pieces) p = put_all pieces (put_behind piece p)
 
 abbrev pub put_some : Option (List (List ℕ)) → Queue → Queue
 put_some None p = p
 put_some (Some pieces) p = put_all pieces p
 
-abbrev pub change_whose : Option ℕ → (Queue → Queue) → Queues → Queues
-change_whose None by queues = queues
-change_whose (Some key) by queues = change key by queues
+abbrev pub change_whose_queue : Option ℕ → (Queue → Queue) → Queues → Queues
+change_whose_queue None by queues = queues
+change_whose_queue (Some key) by queues = change key by queues
 
 abbrev pub queues_behind : Machine → Step → Queues
 queues_behind h (Makes move) = h.queues
-queues_behind h (Hands number header content part way manner) = change_whose (whose h.core.pool number) (put_some (handed manner header content)) h.queues
+queues_behind h (Hands number header content part way manner) = change_whose_queue (whose h.core.pool number) (put_some (handed manner header content)) h.queues
 queues_behind h (Takes key bytes) = change key (put_some (owed bytes (end_at h.core.ends key))) h.queues
 queues_behind h (Writes key count) = change key (without_first count) h.queues
 queues_behind h (Admits key ends queues) = queues
@@ -118,17 +118,17 @@ after_all h (step ∷ steps) = after_all (after h step) steps
 -- ---- When each may be
 
 -- behind it its connection is closed
-abbrev pub closes : What → Bool
-closes whats.Goes = false
-closes whats.Finished = false
-closes whats.Acknowledged = false
-closes whats.Closed = true
+abbrev pub closes_connection : What → Bool
+closes_connection whats.Goes = false
+closes_connection whats.Finished = false
+closes_connection whats.Acknowledged = false
+closes_connection whats.Closed = true
 
 -- Whether an application's end says a packet by which this came: not where it is to be closed, or has taken its request back; nor where the
 -- connection is closed behind it.
 abbrev pub is_said : What → Option End → Bool
 is_said what None = false
-is_said what (Some (Open front withdrawn asks)) = not withdrawn && not (closes what)
+is_said what (Some (Open front withdrawn asks)) = not withdrawn && not (closes_connection what)
 is_said what (Some (Over why)) = false
 
 -- It is handed on exactly where it is.
@@ -137,7 +137,7 @@ IsHanded true Withheld = ⊥
 IsHanded true manner = Unit {0}
 IsHanded false manner = manner ≡ Withheld
 
-abbrev pub end_whose : Option ℕ → Ends → Option End
+abbrev pub end_whose : Option ℕ → EndList → Option End
 end_whose None ends = None
 end_whose (Some key) ends = end_at ends key
 
@@ -191,19 +191,19 @@ IsTold owed hears Withheld part = Unit {0}
 -- else never.
 pub record MayHand (h : Machine) (number : ℕ) (header : Header) (content : List ℕ) (part : Part Token) (manner : Manner) : Type 0 where
   pub counted : header.length ≡ 8 + length content
-  pub parser : Option Reading
-  pub part_is : part ≡ part_on parser content (ends_in header)
+  pub parser : Option Parser
+  pub part_is : part ≡ part_on parser content (is_last_packet header)
   pub has_parser : (key : ℕ) → whose h.core.pool number ≡ Some key → IsSome parser
   pub right : IsRight header content manner
-  pub handed_on : IsHanded (is_said (what_in (done_by h.core.pool number part)) (end_whose (whose h.core.pool number) h.core.ends)) manner
-  pub told : IsTold (owes_reset number h.core.pool) (hears_of_reset (what_in (done_by h.core.pool number part)) (end_whose (whose h.core.pool number) h.core.ends)) manner part
+  pub handed_on : IsHanded (is_said (what_in (dones_of_part h.core.pool number part)) (end_whose (whose h.core.pool number) h.core.ends)) manner
+  pub told : IsTold (owes_reset number h.core.pool) (hears_of_reset (what_in (dones_of_part h.core.pool number part)) (end_whose (whose h.core.pool number) h.core.ends)) manner part
 
 abbrev pub MayStep : Machine → Step → Type 0
 MayStep h (Makes move) = MayMove h.core move × IsQuiet move
 MayStep h (Hands number header content part way manner) = MayHand h number header content part manner
 MayStep h (Takes key bytes) = Unit {0}
 MayStep h (Writes key count) = Unit {0}
-MayStep h (Admits key ends queues) = HasEntered key h.core.ends ends × (size : ℕ) × (tag : ℕ) × waiting.Enters size tag key h.queues queues
+MayStep h (Admits key ends queues) = HasEntered key h.core.ends ends × (size : ℕ) × (tag : ℕ) × waiting.EntersQueues size tag key h.queues queues
 MayStep h (Removes key gives way) = Unit {0}
 
 abbrev pub MayAll : Machine → List Step → Type 0

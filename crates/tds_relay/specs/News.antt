@@ -50,10 +50,10 @@ known_after before [] = before
 known_after before (byte ∷ bytes) = known_after (known_by before byte) bytes
 
 -- what of these bytes of one token goes on
-abbrev pub goes_on : Known → List ℕ → List ℕ
-goes_on before [] = []
-goes_on before (byte ∷ bytes) = let_on before byte (known_by before byte) ++ goes_on (known_by before byte) bytes
+abbrev pub bytes_going_on : Known → List ℕ → List ℕ
+bytes_going_on before [] = []
+bytes_going_on before (byte ∷ bytes) = let_on before byte (known_by before byte) ++ bytes_going_on (known_by before byte) bytes
 
 -- the same, and with the token's end what was held back
 abbrev pub goes_on_to_end : Known → List ℕ → List ℕ
-goes_on_to_end before bytes = goes_on before bytes ++ held (known_after before bytes)
+goes_on_to_end before bytes = bytes_going_on before bytes ++ held (known_after before bytes)

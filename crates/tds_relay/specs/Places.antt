@@ -18,8 +18,8 @@ abbrev pub held_by : Pool → ℕ → Option ℕ
 held_by d key = option_map (λ (h : Hold). h.number) (find_key key d.holds)
 
 -- the application that holds the connection of this number, and where it is in the service
-abbrev pub holder : Pool → ℕ → Option ℕ
-holder d number = key_of (find_number number d.holds)
+abbrev pub holder_of_number : Pool → ℕ → Option ℕ
+holder_of_number d number = key_of (find_number number d.holds)
 
 abbrev pub seated : Pool → ℕ → Option calls.Place
 seated d number = option_map (λ (c : Seat). c.place) (seat_numbered number d.service.seats)

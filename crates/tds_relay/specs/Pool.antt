@@ -10,7 +10,7 @@ use Rattle.tds_relay.specs.declared.fault.Broken.{Broken}
 use Rattle.tds_service.specs.Line as line
 use Rattle.tds_service.specs.History.{Done}
 use Rattle.tds_service.specs.Service as calls
-use Rattle.tds_service.specs.Service.{Seat, Service, Call, Reply, Step, Unknown, AllInUse, NotNow, No, NoMemory, Lent, Ticket, Did, Back, Place, Leased, Cleaning, Kept, Free, Draining, step, service_after, new_service, lease_at, seat_numbered}
+use Rattle.tds_service.specs.Service.{Seat, Service, Call, Reply, ServiceStep, Unknown, AllInUse, NotNow, No, NoMemory, Lent, Ticket, Did, Back, Place, Leased, Cleaning, Kept, Free, Draining, step, service_after, new_service, lease_at, seat_numbered}
 
 -- For how long an application keeps what it is lent; which one holds which connection, by which lease; whose requests wait for one, the
 -- first one first; which connection was the last that broke the rules, and how; and how much was asked of the server for applications.
@@ -62,7 +62,7 @@ pub data Event : Type 0 where
   Loses : (number : ℕ) → Event
 
 -- What is left behind an event, and the calls of the service that were made.
-pub record Turn : Type 0 where
+pub record PoolTurn : Type 0 where
   pub pool : Pool
   pub calls : List (Call Token)
 
@@ -92,11 +92,11 @@ without key keys = filter (λ (k : ℕ). not (k == key)) keys
 abbrev pub holding : ℕ → ℕ → ℕ → Hold
 holding key lease number = record { key = key; lease = lease; number = number }
 
-abbrev pub moves : Pool → List Hold → List ℕ → List (Call Token) → Turn
+abbrev pub moves : Pool → List Hold → List ℕ → List (Call Token) → PoolTurn
 moves d holds line calls = record { pool = record { mode = d.mode; service = service_after d.service calls; holds = holds; line = line; broken = d.broken; figures = d.figures }; calls = calls }
 
-abbrev pub rests : Pool → Turn
-rests d = moves d d.holds d.line []
+abbrev pub pool_rests : Pool → PoolTurn
+pool_rests d = moves d d.holds d.line []
 
 -- ---- A connection that nobody holds is cleaned: by a request of the relay's own, which asks for a reset
 
@@ -161,7 +161,7 @@ abbrev pub hearing : List (Done Token) → Hearing
 hearing [] = Goes
 hearing (done ∷ dones) = hearing_of done.answer
 
-abbrev pub comes_by : Pool → calls.Call Token → Service → ℕ → Way → Option ℕ → Hearing → Turn
+abbrev pub comes_by : Pool → calls.Call Token → Service → ℕ → Way → Option ℕ → Hearing → PoolTurn
 comes_by d call s number way lease Goes = moves d d.holds d.line (call ∷ [])
 comes_by d call s number way lease Settled = moves d d.holds d.line (call ∷ settles d.holds s number way lease)
 comes_by d call s number way lease Wrong = moves d (without_number number d.holds) d.line (call ∷ calls.Lost number ∷ [])
@@ -175,11 +175,11 @@ abbrev pub last_broken : ℕ → List (Done Token) → Option Broken → Option 
 last_broken number [] had = had
 last_broken number (done ∷ dones) had = broken_of number done.answer had
 
-abbrev pub with_broken : ℕ → List (Done Token) → Turn → Turn
+abbrev pub with_broken : ℕ → List (Done Token) → PoolTurn → PoolTurn
 with_broken number dones t = record { pool = record t.pool { broken = last_broken number dones t.pool.broken }; calls = t.calls }
 
-abbrev pub comes : Pool → ℕ → Part Token → Way → Turn
-comes d number part way =
+abbrev pub packet_comes : Pool → ℕ → Part Token → Way → PoolTurn
+packet_comes d number part way =
     let heard = step {T = Token} d.service (calls.Came number part) in
     with_broken number heard.dones (comes_by d (calls.Came number part) heard.service number way (lease_at (seat_numbered number d.service.seats)) (hearing heard.dones))
 
@@ -225,19 +225,19 @@ abbrev pub ticket_in : Reply → Option ℕ
 ticket_in (Ticket ticket) = Some ticket
 ticket_in _ = None
 
-abbrev pub serves_by : Pool → ℕ → List ℕ → Option Loan → Turn
-serves_by d key others None = rests d
+abbrev pub serves_by : Pool → ℕ → List ℕ → Option Loan → PoolTurn
+serves_by d key others None = pool_rests d
 serves_by d key others (Some lent) = moves d (d.holds ++ holding key lent.lease lent.number ∷ []) others (calls.Lease ∷ [])
 
-abbrev pub serves : Pool → List ℕ → Turn
-serves d [] = rests d
+abbrev pub serves : Pool → List ℕ → PoolTurn
+serves d [] = pool_rests d
 serves d (key ∷ others) = serves_by d key others (lent_in (step {T = Token} d.service calls.Lease).reply)
 
-abbrev pub brings_by : Pool → Service → Bool → Way → Option Loan → Turn
-brings_by d s gives way None = rests d
+abbrev pub brings_by : Pool → Service → Bool → Way → Option Loan → PoolTurn
+brings_by d s gives way None = pool_rests d
 brings_by d s gives way (Some lent) = moves d d.holds d.line (calls.Lease ∷ releasing s lent.lease lent.number gives way)
 
-abbrev pub brings : Pool → Bool → Way → Turn
+abbrev pub brings : Pool → Bool → Way → PoolTurn
 brings d gives way =
     let lent = step {T = Token} d.service calls.Lease in
     brings_by d lent.service gives way (lent_in lent.reply)
@@ -268,45 +268,45 @@ figures_behind (Puts count) dones f = f
 figures_behind (Ends count) dones f = f
 figures_behind Stops dones f = tallied_by dones f
 
-abbrev pub with_figures : Figures → Turn → Turn
+abbrev pub with_figures : Figures → PoolTurn → PoolTurn
 with_figures f t = record { pool = record t.pool { figures = f }; calls = t.calls }
 
-abbrev pub does : Pool → Action → Option Hold → Turn
-does d action None = rests d
-does d action (Some h) =
+abbrev pub holder_does : Pool → Action → Option Hold → PoolTurn
+holder_does d action None = pool_rests d
+holder_does d action (Some h) =
     with_figures (figures_behind action (step {T = Token} d.service (call_of h.lease action)).dones d.figures) (moves d d.holds d.line (call_of h.lease action ∷ []))
 
-abbrev pub leaves : Pool → ℕ → Bool → Way → Option Hold → Turn
+abbrev pub leaves : Pool → ℕ → Bool → Way → Option Hold → PoolTurn
 leaves d key gives way None = moves d d.holds (without key d.line) []
 leaves d key gives way (Some h) = moves d (without_lease h.lease d.holds) (without key d.line) (releasing d.service h.lease h.number gives way)
 
 -- A connection with an open transaction is lent to the same application by another lease, with a reset that keeps the transaction. Where
 -- memory is refused to that, it is closed.
-abbrev pub renews_by : Pool → Hold → ℕ → Option Loan → Bool → Turn
+abbrev pub renews_by : Pool → Hold → ℕ → Option Loan → Bool → PoolTurn
 renews_by d h ticket lent false = moves d (without_number h.number d.holds) d.line (calls.Keep h.lease ∷ calls.Lost h.number ∷ [])
 renews_by d h ticket None true = moves d (without_number h.number d.holds) d.line (calls.Keep h.lease ∷ calls.Lost h.number ∷ [])
 renews_by d h ticket (Some lent) true =
     moves d (without_lease h.lease d.holds ++ holding h.key lent.lease lent.number ∷ []) d.line (calls.Keep h.lease ∷ calls.Resume ticket ∷ [])
 
-abbrev pub keeps_by : Pool → Hold → Bool → Service → Option ℕ → Turn
-keeps_by d h resumes s None = rests d
+abbrev pub keeps_by : Pool → Hold → Bool → Service → Option ℕ → PoolTurn
+keeps_by d h resumes s None = pool_rests d
 keeps_by d h resumes s (Some ticket) = renews_by d h ticket (lent_in (step {T = Token} s (calls.Resume ticket)).reply) resumes
 
-abbrev pub renews : Pool → Bool → Option Hold → Turn
-renews d resumes None = rests d
+abbrev pub renews : Pool → Bool → Option Hold → PoolTurn
+renews d resumes None = pool_rests d
 renews d resumes (Some h) =
     let kept = step {T = Token} d.service (calls.Keep h.lease) in
     keeps_by d h resumes kept.service (ticket_in kept.reply)
 
-abbrev pub turn : Pool → Event → Turn
+abbrev pub turn : Pool → Event → PoolTurn
 turn d (Waits key) = moves d d.holds (d.line ++ key ∷ []) []
 turn d (Unwaits key) = moves d d.holds (without key d.line) []
 turn d Serves = serves d d.line
 turn d (Brings gives way) = brings d gives way
-turn d (Does key action) = does d action (find_key key d.holds)
+turn d (Does key action) = holder_does d action (find_key key d.holds)
 turn d (Leaves key gives way) = leaves d key gives way (find_key key d.holds)
 turn d (Renews key resumes) = renews d resumes (find_key key d.holds)
-turn d (Comes number part way) = comes d number part way
+turn d (Comes number part way) = packet_comes d number part way
 turn d (Loses number) = moves d (without_number number d.holds) d.line (calls.Lost number ∷ [])
 
 abbrev pub pool_after : Pool → List Event → Pool

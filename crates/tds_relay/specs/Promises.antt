@@ -3,7 +3,7 @@ use Rattle.std.specs.Prelude.{◌≡◌, ◌⊎◌, ◌<◌, ◌+◌, ℕ, ◌==
 use Rattle.tds_relay.specs.declared.pool.Hold.{Hold}
 use Rattle.tds_wire.specs.declared.told.Token.{Token}
 use Rattle.tds_service.specs.Line as line
-use Rattle.tds_service.specs.Line.{Line, Stage}
+use Rattle.tds_service.specs.Line.{Line, LineStage}
 use Rattle.tds_service.specs.Promises.{attentions}
 use Rattle.tds_service.specs.Service as calls
 use Rattle.tds_service.specs.Service.{Call, Place, Leased, Cleaning, Kept, Free, Draining, Seat, Reply, Lent, is_clean, seat_numbered, on, step, steps}
@@ -51,7 +51,7 @@ pub record Holds (d : Pool) (key number : ℕ) : Type 0 where
   pub lent : seat.place ≡ Leased hold.lease
 
 -- Something of a request is out there, and neither its whole answer has come nor was it cancelled.
-abbrev pub IsOut : Stage → Type 0
+abbrev pub IsOut : LineStage → Type 0
 IsOut (line.Sending true) = Unit {0}
 IsOut line.Reading = Unit {0}
 IsOut _ = ⊥

@@ -15,8 +15,8 @@ pub record Queue : Type 0 where
   pub is_full : Bool
 
 -- nothing waits, for nobody yet
-abbrev pub nothing : ℕ → Queue
-nothing size = record { tag = None; size = size; bytes = []; is_full = false }
+abbrev pub empty_queue : ℕ → Queue
+empty_queue size = record { tag = None; size = size; bytes = []; is_full = false }
 
 -- it is called so
 abbrev pub tagged : ℕ → Queue → Queue
@@ -31,8 +31,8 @@ abbrev pub HasAll : Option Queue → Type 0
 HasAll queue = option_map (λ (p : Queue). p.is_full) queue ≡ Some false
 
 -- these bytes are put behind those that wait, all of them or none
-unfoldable pub put : List ℕ → Queue → Queue
-put bytes p =
+unfoldable pub put_behind : List ℕ → Queue → Queue
+put_behind bytes p =
     if fits p bytes then record { tag = p.tag; size = p.size; bytes = p.bytes ++ bytes; is_full = false }
     else record { tag = p.tag; size = p.size; bytes = p.bytes; is_full = true }
 
@@ -54,12 +54,12 @@ change key by queues = slice_set queues key (option_map by (queue_at queues key)
 
 -- these bytes are for this application
 abbrev pub give : ℕ → List ℕ → Queues → Queues
-give key bytes queues = change key (put bytes) queues
+give key bytes queues = change key (put_behind bytes) queues
 
 -- An application has come by a key that nobody had, and is called so: nothing waits for it, and for the others what did.
-pub record Enters (size tag key : ℕ) (old new : Queues) : Type 0 where
+pub record EntersQueues (size tag key : ℕ) (old new : Queues) : Type 0 where
   pub was_free : queue_at old key ≡ None
-  pub nothing_waits : queue_at new key ≡ Some (tagged tag (nothing size))
+  pub nothing_waits : queue_at new key ≡ Some (tagged tag (empty_queue size))
   pub others_stay : (other : ℕ) → other ≢ key → queue_at new other ≡ queue_at old other
 
 -- ---- What the relay says itself
@@ -78,7 +78,7 @@ news =
 
 -- it is put there, where it is told
 abbrev pub put_news : Bool → Queue → Queue
-put_news true p = put news p
+put_news true p = put_behind news p
 put_news false p = p
 
 -- ---- As the code has them

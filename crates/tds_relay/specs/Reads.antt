@@ -148,13 +148,13 @@ CalledAt None new = IsCalled false None new
 CalledAt (Some old) new = IsCalled old.1 old.2 new
 
 -- Wherever it was so on one, it is.
-abbrev pub Sees : List Link → List Link → Type 0
-Sees old new = (number : ℕ) (had : Option Seen) → StaysAt had (seen_at number old) → StaysAt had (seen_at number new)
+abbrev pub HoldsOnLinks : List Link → List Link → Type 0
+HoldsOnLinks old new = (number : ℕ) (had : Option Seen) → StaysAt had (seen_at number old) → StaysAt had (seen_at number new)
 
 -- And what waited on one waits there still, which is as full, and no more are there; what is known of a message stays, or the next one begins.
-pub record Stays (old new : List Link) : Type 0 where
+pub record LinksStay (old new : List Link) : Type 0 where
   pub few : length new ≤ length old
-  pub seen : Sees old new
+  pub seen : HoldsOnLinks old new
   pub fills : (number : ℕ) → FillsAt (waits_on number old) (waits_on number new)
   pub begins : (number : ℕ) → MayBegin (answer_at number old) (answer_at number new)
   pub fullness : (number : ℕ) → StaysAt (fullness_at number old) (fullness_at number new)
@@ -217,10 +217,10 @@ OpensFirst (Some number) old new = (other : ℕ) → IfSome (open_at other new) 
 -- ---- Packets that are handed on
 
 -- those that come by steps, as they came, also those that are withheld
-abbrev pub packets_of : List Step → List (List ℕ)
-packets_of [] = []
-packets_of (Hands number header content part way manner ∷ steps) = (header_bytes header ++ content) ∷ packets_of steps
-packets_of (step ∷ steps) = packets_of steps
+abbrev pub packets_in_steps : List Step → List (List ℕ)
+packets_in_steps [] = []
+packets_in_steps (Hands number header content part way manner ∷ steps) = (header_bytes header ++ content) ∷ packets_in_steps steps
+packets_in_steps (step ∷ steps) = packets_in_steps steps
 
 -- What stands behind them is less than one, and the reader has it; or the connection is lost.
 abbrev pub Holds : Reading → List ℕ → Option Reading → Type 0
@@ -228,7 +228,7 @@ Holds r rest None = Unit {0}
 Holds r rest (Some now) = (now ≡ with_taken r rest) × IsLess r rest
 
 -- What the reader had, and these bytes behind it, are these packets and what stands behind them.
-pub record Reads (r : Reading) (bytes : List ℕ) (packets : List (List ℕ)) (now : Option Reading) : Type 0 where
+pub record ReaderTakes (r : Reading) (bytes : List ℕ) (packets : List (List ℕ)) (now : Option Reading) : Type 0 where
   pub rest : List ℕ
   pub each : AllByRecursion (IsOnePacket r) packets
   pub are : r.taken ++ bytes ≡ joined packets ++ rest
@@ -237,20 +237,20 @@ pub record Reads (r : Reading) (bytes : List ℕ) (packets : List (List ℕ)) (n
 -- On a connection that isn't open nothing comes. A reader that has less than a packet has so behind each call.
 abbrev pub ReadsBy : Option Reading → List ℕ → List (List ℕ) → Option Reading → Type 0
 ReadsBy None bytes packets now = (packets ≡ []) × (now ≡ None)
-ReadsBy (Some r) bytes packets now = IsLess r r.taken → Reads r bytes packets now
+ReadsBy (Some r) bytes packets now = IsLess r r.taken → ReaderTakes r bytes packets now
 
 -- ---- In a call
 
 -- These bytes were heard, up to these: the packets among them come, in order, by steps that this connection causes. Each is read from where
 -- the one before has left its connection's parser.
-pub record Streams (number : ℕ) (had : Option Reading) (old : Machine) (from : services.Service) (bytes left : List ℕ) (now : Option Reading) (new : Machine) (to : services.Service) : Type 0 where
+pub record ReadsPackets (number : ℕ) (had : Option Reading) (old : Machine) (from : services.Service) (bytes left : List ℕ) (now : Option Reading) (new : Machine) (to : services.Service) : Type 0 where
   pub steps : List Step
   pub heard : List ℕ
   pub are : after_all old steps ≡ new
   pub may : MayAll old steps
   pub caused : Each (CausesStep (Connection number)) steps
   pub bytes_are : bytes ≡ heard ++ left
-  pub reads : ReadsBy had heard (packets_of steps) now
+  pub reads : ReadsBy had heard (packets_in_steps steps) now
   pub walks : Walks from old steps to
 
 -- Behind each call less than a packet is there, where the connection is open.
@@ -261,7 +261,7 @@ IsLessAt (Some r) = IsLess r r.taken
 -- All of them; also where the connection is lost among them, whose bytes are nothing from there on.
 pub record StreamsAll (number : ℕ) (had : Option Reading) (old : Machine) (from : services.Service) (bytes : List ℕ) (now : Option Reading) (new : Machine) (to : services.Service) : Type 0 where
   pub left : List ℕ
-  pub streams : Streams number had old from bytes left now new to
+  pub streams : ReadsPackets number had old from bytes left now new to
   pub all : left ≡ []
 
 -- A header that no packet has loses its connection.
@@ -271,7 +271,7 @@ if_heard (Some heard) now = now
 
 -- Bytes that come are heard, and then those who wait are served, by which nothing comes: the connection has just what was left of them,
 -- or isn't open.
-pub record Comes (number : ℕ) (had : Option Reading) (old : Machine) (from : services.Service) (bytes : List ℕ) (now : Option Reading) (new : Machine) (to : services.Service) : Type 0 where
+pub record BytesCome (number : ℕ) (had : Option Reading) (old : Machine) (from : services.Service) (bytes : List ℕ) (now : Option Reading) (new : Machine) (to : services.Service) : Type 0 where
   pub mid : Machine
   pub left : Option Reading
   pub at : services.Service
@@ -285,49 +285,49 @@ pub record Comes (number : ℕ) (had : Option Reading) (old : Machine) (from : s
 
 -- What a call says of the connection of a number, which is open before it and behind it: from what its reader had to what it has, and from
 -- where its parser stood to where it stands. Bytes come on the connection; or it is left so by another call.
-pub data Call (number : ℕ) : Type 0 where
-  Came : (had now : Reading) (bytes : List ℕ) (old new : Machine) (from to : services.Service) → Comes number (Some had) old from bytes (Some now) new to → Call number
-  Another : (had now : Reading) (from to : services.Service) → StaysAt (Some had) (Some now) → AllStand from to → Call number
+pub data CallOn (number : ℕ) : Type 0 where
+  Came : (had now : Reading) (bytes : List ℕ) (old new : Machine) (from to : services.Service) → BytesCome number (Some had) old from bytes (Some now) new to → CallOn number
+  Another : (had now : Reading) (from to : services.Service) → StaysAt (Some had) (Some now) → AllStand from to → CallOn number
 
-abbrev pub had_before : {number : ℕ} → Call number → Reading
+abbrev pub had_before : {number : ℕ} → CallOn number → Reading
 had_before (Came had now bytes old new from to comes) = had
 had_before (Another had now from to stays stand) = had
 
-abbrev pub has_behind : {number : ℕ} → Call number → Reading
+abbrev pub has_behind : {number : ℕ} → CallOn number → Reading
 has_behind (Came had now bytes old new from to comes) = now
 has_behind (Another had now from to stays stand) = now
 
 -- They follow each other, from this reader to this one.
-abbrev pub Follow : {number : ℕ} → Reading → List (Call number) → Reading → Type 0
+abbrev pub Follow : {number : ℕ} → Reading → List (CallOn number) → Reading → Type 0
 Follow had [] now = had ≡ now
 Follow had (call ∷ calls) now = (had ≡ had_before call) × Follow (has_behind call) calls now
 
 -- the bytes that come in them
-abbrev pub bytes_in : {number : ℕ} → List (Call number) → List ℕ
+abbrev pub bytes_in : {number : ℕ} → List (CallOn number) → List ℕ
 bytes_in [] = []
 bytes_in (Came had now bytes old new from to comes ∷ calls) = bytes ++ bytes_in calls
 bytes_in (Another had now from to stays stand ∷ calls) = bytes_in calls
 
 -- the packets that come by their steps
-abbrev pub packets_in : {number : ℕ} → List (Call number) → List (List ℕ)
+abbrev pub packets_in : {number : ℕ} → List (CallOn number) → List (List ℕ)
 packets_in [] = []
-packets_in (Came had now bytes old new from to comes ∷ calls) = packets_of comes.streams.streams.steps ++ packets_in calls
+packets_in (Came had now bytes old new from to comes ∷ calls) = packets_in_steps comes.streams.streams.steps ++ packets_in calls
 packets_in (Another had now from to stays stand ∷ calls) = packets_in calls
 
 -- They follow each other from this service to this one.
-abbrev pub FollowAt : {number : ℕ} → services.Service → List (Call number) → services.Service → Type 0
+abbrev pub FollowAt : {number : ℕ} → services.Service → List (CallOn number) → services.Service → Type 0
 FollowAt from [] to = from ≡ to
 FollowAt from (Came had now bytes old new before behind comes ∷ calls) to = (from ≡ before) × FollowAt behind calls to
 FollowAt from (Another had now before behind stays stand ∷ calls) to = (from ≡ before) × FollowAt behind calls to
 
 -- where the connection's parser stands behind them
-abbrev pub stands_in : {number : ℕ} → parsers.Reading → List (Call number) → parsers.Reading
+abbrev pub stands_in : {number : ℕ} → parsers.Parser → List (CallOn number) → parsers.Parser
 stands_in r [] = r
 stands_in {number} r (Came had now bytes old new from to comes ∷ calls) = stands_in (stands_behind number r old comes.streams.streams.steps) calls
 stands_in r (Another had now from to stays stand ∷ calls) = stands_in r calls
 
 -- Each packet in them is read from where the one before has left it.
-abbrev pub AreReadIn : {number : ℕ} → parsers.Reading → List (Call number) → Type 0
+abbrev pub AreReadIn : {number : ℕ} → parsers.Parser → List (CallOn number) → Type 0
 AreReadIn r [] = Unit {0}
 AreReadIn {number} r (Came had now bytes old new from to comes ∷ calls) =
     AreRead number r old comes.streams.streams.steps × AreReadIn (stands_behind number r old comes.streams.streams.steps) calls

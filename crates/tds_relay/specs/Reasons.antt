@@ -17,7 +17,7 @@ use Rattle.tds_service.specs.declared.refusal.Refusal.{Refusal}
 use Rattle.tds_service.specs.declared.refusal.Refusal.TheVariants as refusals
 use Rattle.tds_service.specs.Service as calls
 use Rattle.tds_service.specs.Service.{Call}
-use Rattle.tds_service.specs.Table.{Answers, Opens, Refuses, reading_on, service_in}
+use Rattle.tds_service.specs.Table.{Answers, BeginsMessage, Denies, reading_on, service_in}
 use Rattle.tds_client.specs.declared.message.MessageKind.{MessageKind}
 use Rattle.tds_client.specs.Streams.{packets_are}
 use Rattle.tds_client.specs.declared.state.Cancelled.{Cancelled}
@@ -39,12 +39,12 @@ use Rattle.tds_relay.specs.Closings.{IsNoRequest, IsWho}
 use Rattle.tds_relay.specs.Pool as pool
 use Rattle.tds_relay.specs.Pool.{Pool, find_key, turn}
 use Rattle.tds_relay.specs.Fronts.{ends_in, machine_in}
-use Rattle.tds_relay.specs.Core.{AsksFor, End, Ends, IfOpen, IfOpenAsks, Open, Over, asks_by, end_at, holder}
+use Rattle.tds_relay.specs.Core.{AsksFor, End, EndList, IfOpen, IfOpenAsks, Open, Over, asks_by, end_at, holder}
 use Rattle.tds_relay.specs.Handing.{HearsBy, IsNothing}
 use Rattle.tds_relay.specs.Machine.{Machine}
 use Rattle.tds_relay.specs.Places.{HasNoTransaction, open_on}
 use Rattle.tds_relay.specs.Queues.{Queue, Queues, acknowledgement, fits, give, queue_at, queue_in, queues_in}
-use Rattle.tds_relay.specs.Reads.{Stays, link_at, open_at}
+use Rattle.tds_relay.specs.Reads.{LinksStay, link_at, open_at}
 use Rattle.tds_relay.specs.Sparing.{IsKept, MayKeep}
 use Rattle.tds_relay.specs.Taking.{IsDeaf}
 use Rattle.tds_relay.specs.Ties.{Leaving, Turns, pool_in}
@@ -63,7 +63,7 @@ pub record RefusesThere (call : ℕ → ℕ → Call Token) (key : ℕ) (d : poo
   pub its : find_key key d.holds.items ≡ Some hold
   pub refusal : Refusal
   pub reason : IsReason refusal
-  pub refuses : (count : ℕ) → Refuses (call hold.lease count) (service_in d.service) refusal
+  pub refuses : (count : ℕ) → Denies (call hold.lease count) (service_in d.service) refusal
 
 -- It holds none.
 abbrev pub IsUnheld : ℕ → pools.Pool → Type 0
@@ -105,7 +105,7 @@ pub record IsReadyThere (key : ℕ) (end : Option End) (d : pools.Pool) (links :
 -- That is refused; or it is asked, and what was kept of it isn't put.
 pub data CannotAsk (kind : MessageKind) (bytes : List ℕ) (whole : Bool) (key : ℕ) (end : Option End) (d : pools.Pool) (links : List Link) : Type 0 where
   Unasked : RefusesThere (λ lease count. calls.Ask lease) key d → CannotAsk kind bytes whole key end d links
-  Unput : (hold : Hold) → find_key key d.holds.items ≡ Some hold → (mid : pools.Pool) → Turns (pool.Does key pool.Asks) (pool_in d) (pool_in mid) [] [] → Opens kind hold.lease d.service mid.service
+  Unput : (hold : Hold) → find_key key d.holds.items ≡ Some hold → (mid : pools.Pool) → Turns (pool.Does key pool.Asks) (pool_in d) (pool_in mid) [] [] → BeginsMessage kind hold.lease d.service mid.service
       → CannotPut whole bytes key end mid links → CannotAsk kind bytes whole key end d links
 
 -- That is ready for it, and it isn't asked there.
@@ -275,11 +275,11 @@ ItselfFor key Reason other = (other ≡ key) × Reason
 -- ---- By what is heard of a packet
 
 -- What this application took back is acknowledged, unless it is to be closed.
-abbrev pub HasTakenBack : Option ℕ → Ends → Type 0
+abbrev pub HasTakenBack : Option ℕ → EndList → Type 0
 HasTakenBack key ends = (whose : ℕ) × (key ≡ Some whose) × (IsTakenBack (end_at ends whose) ⊎ IsDeaf (end_at ends whose))
 
 -- Whoever is handed it is closed where more would wait for it than may, or its connection is closed for what the server said there.
-abbrev pub LosesBy : What → Option ℕ → Ends → Queues → ℕ → Type 0
+abbrev pub LosesBy : What → Option ℕ → EndList → Queues → ℕ → Type 0
 LosesBy whats.Goes key ends queues other = (key ≡ Some other) × IsOverfull (queue_at queues other)
 LosesBy whats.Finished key ends queues other = (key ≡ Some other) × IsOverfull (queue_at queues other)
 LosesBy whats.Acknowledged key ends queues other = (key ≡ Some other) × IsOverfull (queue_at queues other)
@@ -296,7 +296,7 @@ CannotResume key end d links body =
     ((¬ AsksFor KeepTransaction end) × IsTurnedAway key end d links body) ⊎ (AsksFor KeepTransaction end × IsUnrenewed (CannotMove key end (pool_in d)) key end d links body)
 
 -- This one was told so, and what it asks doesn't go on. Or it holds none, or another holds the connection of this number: to these no call leads.
-abbrev pub ResumesNot : ℕ → Option ℕ → Ends → pools.Pool → List Link → Body → ℕ → Type 0
+abbrev pub ResumesNot : ℕ → Option ℕ → EndList → pools.Pool → List Link → Body → ℕ → Type 0
 ResumesNot number key ends d links body other =
     ((key ≡ Some other) × (IsUnheld other d ⊎ CannotResume other (end_at ends other) d links body)) ⊎ ((key ≢ Some other) × IsWho (holder (pool_in d) number) other)
 
@@ -304,7 +304,7 @@ abbrev pub ResumesNotAt : ℕ → ℕ → code.Relay → ℕ → Type 0
 ResumesNotAt number key r other = ResumesNot number (Some key) (ends_in r.applications) r.pool r.links.items (body_of other r) other
 
 -- So is who holds it, where a header isn't one.
-abbrev pub LosesFor : ℕ → Option Heard → Pool → Ends → Queues → ℕ → Type 0
+abbrev pub LosesFor : ℕ → Option Heard → Pool → EndList → Queues → ℕ → Type 0
 LosesFor number None d ends queues other = IsWho (holder d number) other
 LosesFor number (Some heard) d ends queues other = LosesBy heard.what heard.key ends queues other
 

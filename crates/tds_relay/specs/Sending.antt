@@ -7,16 +7,16 @@ use Rattle.tds_relay.specs.Ordering.{IsOrdered}
 use Rattle.tds_relay.specs.Reads.{bytes_on, link_at}
 
 -- its name, once there is one, and what waits there
-abbrev pub Sending : Type 0
-Sending = Option ℕ × List ℕ
+abbrev pub NamedWaiting : Type 0
+NamedWaiting = Option ℕ × List ℕ
 
-abbrev pub sending_of : Link → Sending
+abbrev pub sending_of : Link → NamedWaiting
 sending_of l = (l.tag, bytes_on l)
 
-abbrev pub sending_at : ℕ → List Link → Option Sending
+abbrev pub sending_at : ℕ → List Link → Option NamedWaiting
 sending_at number ls = option_map sending_of (link_at number ls)
 
-abbrev pub name_in : Option Sending → Option ℕ
+abbrev pub name_in : Option NamedWaiting → Option ℕ
 name_in None = None
 name_in (Some s) = s.0
 
@@ -30,6 +30,6 @@ IsToWrite None all = Unit {0}
 IsToWrite (Some tag) all = IsOrdered (orders.Write tag) all
 
 -- Nothing waits there, or this is ordered.
-abbrev pub IsWritten : Option Sending → List Order → Type 0
+abbrev pub IsWritten : Option NamedWaiting → List Order → Type 0
 IsWritten None all = Unit {0}
 IsWritten (Some s) all = (s.1 ≡ []) ⊎ IsToWrite s.0 all

@@ -26,16 +26,16 @@ use Rattle.tds_relay.specs.TokenParsers.{IsLed}
 -- ---- At a pool
 
 -- the connection that is held, by its number, and its client
-abbrev pub Held : Type 0
-Held = ℕ × ClientSession
+abbrev pub HeldConnection : Type 0
+HeldConnection = ℕ × ClientSession
 
-abbrev pub held_by : services.Service → Option Hold → Option Held
-held_by s None = None
-held_by s (Some hold) = option_map (λ (client : ClientSession). let held : Held = (hold.number, client) in held) (client_of hold.lease s)
+abbrev pub held_with_client : services.Service → Option Hold → Option HeldConnection
+held_with_client s None = None
+held_with_client s (Some hold) = option_map (λ (client : ClientSession). let held : HeldConnection = (hold.number, client) in held) (client_of hold.lease s)
 
 -- what this application holds
-abbrev pub held_at : ℕ → pools.Pool → Option Held
-held_at key d = held_by d.service (find_key key d.holds.items)
+abbrev pub held_at : ℕ → pools.Pool → Option HeldConnection
+held_at key d = held_with_client d.service (find_key key d.holds.items)
 
 -- It holds what it held; where that was nothing, nothing is said.
 abbrev pub HoldsOn : ℕ → pools.Pool → pools.Pool → Type 0

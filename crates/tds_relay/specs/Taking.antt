@@ -19,15 +19,15 @@ abbrev pub count_by : Result Fed FrontFault → List ℕ → ℕ
 count_by (Ok fed) bytes = fed.count
 count_by (Err fault) bytes = length bytes
 
-abbrev pub left_by : List ℕ → Option End → List ℕ
-left_by bytes (Some (Open front withdrawn asks)) = drop (count_by (fed front bytes).brings bytes) bytes
-left_by bytes end = bytes
+abbrev pub bytes_left_by : List ℕ → Option End → List ℕ
+bytes_left_by bytes (Some (Open front withdrawn asks)) = drop (count_by (fed front bytes).brings bytes) bytes
+bytes_left_by bytes end = bytes
 
 -- Steps take these bytes, each what the one before has left, up to these.
 abbrev pub AreTaken : ℕ → Machine → List Step → List ℕ → List ℕ → Type 0
 AreTaken key h [] bytes left = bytes ≡ left
 AreTaken key h (Takes other more ∷ steps) bytes left =
-    (other ≡ key) × (more ≡ bytes) × AreTaken key (after h (Takes other more)) steps (left_by bytes (end_at h.core.ends key)) left
+    (other ≡ key) × (more ≡ bytes) × AreTaken key (after h (Takes other more)) steps (bytes_left_by bytes (end_at h.core.ends key)) left
 AreTaken key h (step ∷ steps) bytes left = AreTaken key (after h step) steps bytes left
 
 -- By steps that it causes an application's bytes were taken, up to these; or it is to be closed.

@@ -1,7 +1,7 @@
 -- The pool of the code, as the machine's.
 use Rattle.std.specs.Prelude.{◌≡◌, ◌<◌, ℕ, Bool, true, false, List, [], ◌∷◌, ◌++◌, Option, Some, None}
 use Rattle.tds_wire.specs.declared.told.Token.{Token}
-use Rattle.tds_wire.specs.Reading.{Reading}
+use Rattle.tds_wire.specs.Reading.{Parser}
 use Rattle.tds_service.specs.Parts as parts
 use Rattle.tds_service.specs.Parts.{Part}
 use Rattle.tds_service.specs.Line.{Packet}
@@ -109,16 +109,16 @@ abbrev pub IsReached : Pool → Type 0
 IsReached d = (sharing : Sharing) × (events : List Event) × (pool_after (new_pool sharing) events ≡ d)
 
 -- Wherever a pool was reached from, this one is.
-abbrev pub Goes : Cause → Pool → Pool → Type 0
-Goes by old new = (from : Pool) → Reaches by from old → Reaches by from new
+abbrev pub LedTo : Cause → Pool → Pool → Type 0
+LedTo by old new = (from : Pool) → Reaches by from old → Reaches by from new
 
 -- The same, whoever caused it.
-abbrev pub GoesOn : Pool → Pool → Type 0
-GoesOn old new = (by : Cause) → Goes by old new
+abbrev pub LedOn : Pool → Pool → Type 0
+LedOn old new = (by : Cause) → LedTo by old new
 
 -- An application let its connection go first, or waits no more.
 abbrev pub Leaving : ℕ → Pool → Pool → Type 0
-Leaving key old new = (gives : Bool) × (way : Way) × GoesOn (turn old (Leaves key gives way)).pool new
+Leaving key old new = (gives : Bool) × (way : Way) × LedOn (turn old (Leaves key gives way)).pool new
 
 abbrev pub lost_by : Service → ℕ → Service
 lost_by s number = (step {T = Token} s (calls.Lost number)).service
@@ -139,6 +139,6 @@ Serving d (Some served) =
     × ((step {T = Token} d.service calls.Lease).reply ≡ Lent served.hold.lease served.hold.number served.had)
 
 -- The part that a packet's data are, by where its connection's parser stands.
-abbrev pub part_on : Option Reading → List ℕ → Bool → Part Token
+abbrev pub part_on : Option Parser → List ℕ → Bool → Part Token
 part_on None bytes ends = record { items = []; close = parts.Goes }
 part_on (Some r) bytes ends = packet_part r bytes ends

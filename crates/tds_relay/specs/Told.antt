@@ -15,7 +15,7 @@ use Rattle.tds_relay.specs.declared.relay.places.PlaceOn.{PlaceOn}
 use Rattle.tds_relay.specs.declared.relay.places.PlaceOn.TheVariants as on
 use Rattle.tds_relay.specs.Pool.{Pool, owes_reset}
 use Rattle.tds_relay.specs.News.{holds_back}
-use Rattle.tds_relay.specs.Places.{held_by, holder, seated}
+use Rattle.tds_relay.specs.Places.{held_by, holder_of_number, seated}
 use Rattle.tds_relay.specs.Reads.{link_at, waits_on}
 use Rattle.tds_relay.specs.declared.application.TheConstants.{MOST_HELD}
 use Rattle.tds_relay.specs.declared.outgoing.TheConstants.{ACKNOWLEDGED, ATTENTION, BESIDE, PIECE}
@@ -73,7 +73,7 @@ connection_place (Some true) (Some key) seat = Some (on.Held key)
 connection_place (Some true) None seat = option_map nobodys_place seat
 
 abbrev pub place_on : Pool → List Link → ℕ → Option PlaceOn
-place_on d ls number = connection_place (has_login number ls) (holder d number) (seated d number)
+place_on d ls number = connection_place (has_login number ls) (holder_of_number d number) (seated d number)
 
 -- ---- How much of an application may be read, so that all of it fits
 
@@ -139,7 +139,7 @@ room_for number l (Some key) r = room_held l (owes_reset number (pool_in r.pool)
 
 abbrev pub room_from : ℕ → Option Link → code.Relay → ℕ
 room_from number None r = 0
-room_from number (Some l) r = room_for number l (holder (pool_in r.pool) number) r
+room_from number (Some l) r = room_for number l (holder_of_number (pool_in r.pool) number) r
 
 abbrev pub room_there : ℕ → code.Relay → ℕ
 room_there number r = room_from number (link_at number r.links.items) r
@@ -162,7 +162,7 @@ held_name key r = option_and_then (λ (number : ℕ). name_on number r.links.ite
 
 -- Where more may wait on a connection, the application that holds it may be read again.
 abbrev pub holder_name : ℕ → code.Relay → Option ℕ
-holder_name number r = option_and_then (λ (key : ℕ). name_of (get r.applications key)) (holder (pool_in r.pool) number)
+holder_name number r = option_and_then (λ (key : ℕ). name_of (get r.applications key)) (holder_of_number (pool_in r.pool) number)
 
 -- There is a connection of this number.
 abbrev pub is_there : ℕ → List Link → Bool

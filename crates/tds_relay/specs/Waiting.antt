@@ -16,10 +16,10 @@ use Rattle.tds_relay.specs.declared.link.Link.{Link}
 use Rattle.tds_relay.specs.Bodies.{Body, Kept, body_of, last_of, Carries, HeedsAll, standing_in}
 use Rattle.tds_relay.specs.Closings.{IsWho, IsWaiting}
 use Rattle.tds_relay.specs.Pool.{find_key, Sharing, without}
-use Rattle.tds_relay.specs.Fronts.{end_of, ends_in, told_by, MovedOn, core_in, machine_in}
+use Rattle.tds_relay.specs.Fronts.{own_end, ends_in, told_by, MovedOn, core_in, machine_in}
 use Rattle.tds_relay.specs.Queues.{queues_in}
 use Rattle.tds_relay.specs.Core.{AsksFor, IfOpen, IsBegun, end_at, holder, is_in}
-use Rattle.tds_relay.specs.Reads.{open_at, opened_at, queue_on, Opens, OpensOne, OpensOthers, Stays, StreamsAll, answer_at}
+use Rattle.tds_relay.specs.Reads.{open_at, opened_at, queue_on, Opens, OpensOne, OpensOthers, LinksStay, StreamsAll, answer_at}
 use Rattle.tds_relay.specs.Reasons.{HasNoRoom, HasTakenBack, IsLeftOpen, IsTurnedAway, IsTurnedAwayAt, IsUnheld, LosesFor, ResumesNot, GivesReason, IsReadyThere, ItselfFor, LosesOn}
 use Rattle.tds_relay.specs.Sparing.{IsHeldBack, IsUnkept, AllGo, IsKept}
 use Rattle.tds_relay.specs.Taking.{IsDeaf}
@@ -53,7 +53,7 @@ IsNotAcknowledged (Some heard) = heard.what ≢ whats.Acknowledged
 abbrev pub KeepsInLine : Bool → List ℕ → Option Application → Body → Type 0
 KeepsInLine whole more None new = Unit {0}
 KeepsInLine whole more (Some a) new =
-    a.is_over ≡ false → length more ≤ room_to_keep a → (kind : MessageKind) (was : Bool) → a.asking ≡ asking.Waits kind was → IfOpen IsBegun (Some (end_of a))
+    a.is_over ≡ false → length more ≤ room_to_keep a → (kind : MessageKind) (was : Bool) → a.asking ≡ asking.Waits kind was → IfOpen IsBegun (Some (own_end a))
     → new ≡ Kept kind (a.held.items ++ more) whole
 
 -- So are those of one that goes on or ends, by what is said of them.
@@ -130,11 +130,11 @@ pub record IsLentAfter (by : Cause) (line : List ℕ) (Links : List Link → Lis
 
 -- behind an application that lets its connection go
 abbrev pub IsLentByParting : Cause → ℕ → code.Relay → ℕ → Type 0
-IsLentByParting by key r other = IsLentAfter by (without key r.pool.line.items) Stays (λ number. holder (pool_in r.pool) number ≡ Some key) r other
+IsLentByParting by key r other = IsLentAfter by (without key r.pool.line.items) LinksStay (λ number. holder (pool_in r.pool) number ≡ Some key) r other
 
 -- Who holds a connection that is lost is closed; or one that waits is lent one in vain behind that.
 abbrev pub LosesOrLends : ℕ → code.Relay → ℕ → Type 0
-LosesOrLends number r other = IsWho (holder (pool_in r.pool) number) other ⊎ IsLentAfter Neither r.pool.line.items Stays (λ n. n ≡ number) r other
+LosesOrLends number r other = IsWho (holder (pool_in r.pool) number) other ⊎ IsLentAfter Neither r.pool.line.items LinksStay (λ n. n ≡ number) r other
 
 -- Who holds one that opens is turned away there; or one that waits is lent one in vain behind that.
 abbrev pub OpensOrLends : ℕ → code.Relay → ℕ → Type 0
@@ -152,7 +152,7 @@ IsRightlyKept key r = IsKept (body_of key r) → ¬ IsReadyThere key (end_at (en
 pub record IsTakenTo (key : ℕ) (bytes left : List ℕ) (r mid : code.Relay) : Type 0 where
   pub carries : Carries key (machine_in r) bytes left (body_of key r) (body_of key mid) (machine_in mid)
   pub heeds : HeedsAll key (machine_in r) bytes left (standing_in key r) (standing_in key mid) (machine_in mid)
-  pub stays : Stays r.links.items mid.links.items
+  pub stays : LinksStay r.links.items mid.links.items
   pub aside : IsReached (pool_in r.pool) → OthersKeepAt key r mid
   pub right : IsRightlyKept key r → IsRightlyKept key mid
 

@@ -6,7 +6,7 @@ use Rattle.tds_relay.specs.declared.pool.coming.Heard.{Heard}
 use Rattle.tds_relay.specs.declared.order.Order.{Order}
 use Rattle.tds_relay.specs.declared.order.Order.TheVariants as orders
 use Rattle.tds_relay.specs.Fronts.{ends_in}
-use Rattle.tds_relay.specs.Core.{Ends, end_at}
+use Rattle.tds_relay.specs.Core.{EndList, end_at}
 use Rattle.tds_relay.specs.Machine.{is_said}
 use Rattle.tds_relay.specs.Queues.{HasAll, Queues, names_of, queue_at, queues_in}
 use Rattle.tds_relay.specs.Taking.{IsDeaf}
@@ -28,10 +28,10 @@ abbrev pub Wakes : Queues → Slab Application → List Order → Type 0
 Wakes old slab all = (key : ℕ) → (queue_at (queues_in slab) key ≡ queue_at old key) ⊎ IsWoken key slab all
 
 -- A packet by which this was heard is this application's, and is handed to it.
-abbrev pub HandsTo : Option Heard → ℕ → Ends → Type 0
+abbrev pub HandsTo : Option Heard → ℕ → EndList → Type 0
 HandsTo None key ends = ⊥
 HandsTo (Some heard) key ends = (heard.key ≡ Some key) × (is_said heard.what (end_at ends key) ≡ true)
 
 -- Nothing was put for another by it.
-abbrev pub PutsFor : Option Heard → Ends → Queues → Queues → Type 0
+abbrev pub PutsFor : Option Heard → EndList → Queues → Queues → Type 0
 PutsFor heard ends old new = (key : ℕ) → (queue_at new key ≡ queue_at old key) ⊎ HandsTo heard key ends

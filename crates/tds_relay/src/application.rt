@@ -60,11 +60,11 @@ impl Application {
     ghost use Rattle.tds_relay.specs.Bodies.{Body, Nowhere, body_in};
     ghost use Rattle.tds_relay.specs.Asking.{waits_in};
     ghost use Rattle.tds_relay.specs.Faults.{why_of};
-    ghost use Rattle.tds_relay.specs.Fronts.{end_of, puts, withdraws};
+    ghost use Rattle.tds_relay.specs.Fronts.{own_end, puts, withdraws};
     ghost use Rattle.tds_front.specs.Bytes.{fed, new_front};
-    ghost use Rattle.tds_relay.specs.Core.{AsksFor, IfOpen, IsHere, Open, acknowledged, asks_by, closes_for, hears, is_at_end, lets_go, move_stage};
+    ghost use Rattle.tds_relay.specs.Core.{AsksFor, IfOpen, IsHere, Open, end_acknowledged, asks_by, closes_for, end_hears, is_at_end, lets_go, move_stage};
     ghost use Rattle.tds_relay.specs.Machine.{hears_of_reset, is_said};
-    ghost use Rattle.tds_relay.specs.Queues.{tagged, nothing, queue_of};
+    ghost use Rattle.tds_relay.specs.Queues.{tagged, empty_queue, queue_of};
     ghost use Rattle.tds_relay.specs.Parking.{has_no_request};
     ghost use Rattle.tds_relay.specs.Places.{begun_more};
     ghost use Rattle.tds_relay.specs.Reasons.{HasGoneOut, IsUnbegun};
@@ -74,8 +74,8 @@ impl Application {
 
     pub(crate) fn new(alloc: Global, tag: usize, size: PacketSize) -> Application
         ensures size { result.out.size ≡ size }
-        ensures queue { queue_of result ≡ tagged tag (nothing size) }
-        ensures end { end_of result ≡ Open (new_front size) false None }
+        ensures queue { queue_of result ≡ tagged tag (empty_queue size) }
+        ensures end { own_end result ≡ Open (new_front size) false None }
         ensures nothing { ((goes : Body) → body_in (Some result) goes ≡ Nowhere)
             × (result.begun ≡ 0) }
     {
@@ -126,7 +126,7 @@ impl Application {
 
     /// Whether it waits with a request that asks for a reset but for the transaction.
     pub(crate) fn asks_to_keep(&self) -> bool
-        ensures asks { result ≡ true → AsksFor KeepTransaction (Some (end_of self.now)) }
+        ensures asks { result ≡ true → AsksFor KeepTransaction (Some (own_end self.now)) }
         ensures not { result ≡ false → (waits_in self.now.asking ≡ None)
             ⊎ (self.now.reset ≢ Some KeepTransaction) }
     {
@@ -171,7 +171,7 @@ impl Application {
         whole: bool,
     ) -> Result<bool, NoMemory>
         ensures queue { queue_of self.new ≡ queue_of self.old }
-        ensures end { end_of self.new ≡ end_of self.old }
+        ensures end { own_end self.new ≡ own_end self.old }
         ensures body { IfOk result (λ is. is ≡ true → (self.new.is_over ≡ self.old.is_over)
             × (self.new.held.items ≡ self.old.held.items ++ bytes.now)) }
         ensures asks { IfOk result (λ is. is ≡ true → self.new.asking ≡ Asking.Waits kind whole) }
@@ -188,7 +188,7 @@ impl Application {
     /// A packet of its answer has come: it is told of the reset that it asked for, unless it took that back.
     pub(crate) fn goes_on(&mut self)
         ensures queue { queue_of self.new ≡ queue_of self.old }
-        ensures end { end_of self.new ≡ hears (end_of self.old) }
+        ensures end { own_end self.new ≡ end_hears (own_end self.old) }
         ensures body { (goes : Body) → body_in (Some self.new) goes ≡ body_in (Some self.old) goes }
     {
         if !self.is_withdrawn {
@@ -199,7 +199,7 @@ impl Application {
     /// What goes on of its request is done. One that waits hasn't been asked, and stays.
     fn end_request(&mut self)
         ensures queue { queue_of self.new ≡ queue_of self.old }
-        ensures end { end_of self.new ≡ end_of self.old }
+        ensures end { own_end self.new ≡ own_end self.old }
         ensures body { IsDoneWith (Some self.old) (Some self.new) }
     {
         if matches!(self.asking, Asking::Goes) {
@@ -210,7 +210,7 @@ impl Application {
     /// Its request has its answer.
     pub(crate) fn answered(&mut self)
         ensures queue { queue_of self.new ≡ queue_of self.old }
-        ensures end { end_of self.new ≡ move_stage rules.answered (hears (end_of self.old)) }
+        ensures end { own_end self.new ≡ move_stage rules.answered (end_hears (own_end self.old)) }
         ensures body { IsDoneWith (Some self.old) (Some self.new) }
     {
         self.end_request();
@@ -221,9 +221,9 @@ impl Application {
     /// Its attention is acknowledged; or what it took back is (true), and its next request may go on.
     pub(crate) fn acknowledged(&mut self) -> bool
         ensures queue { queue_of self.new ≡ queue_of self.old }
-        ensures end { end_of self.new ≡ acknowledged (hears (end_of self.old)) }
+        ensures end { own_end self.new ≡ end_acknowledged (end_hears (own_end self.old)) }
         ensures body { IsDoneWith (Some self.old) (Some self.new) }
-        ensures silent { result ≡ true → is_said Acknowledged (Some (end_of self.old)) ≡ false }
+        ensures silent { result ≡ true → is_said Acknowledged (Some (own_end self.old)) ≡ false }
         ensures resumes { result ≡ true → self.old.is_withdrawn ≡ true }
     {
         if self.is_withdrawn {
@@ -239,7 +239,7 @@ impl Application {
     /// Something of its request has gone on.
     pub(crate) fn went_on(&mut self)
         ensures queue { queue_of self.new ≡ queue_of self.old }
-        ensures end { end_of self.new ≡ move_stage rules.went_on (end_of self.old) }
+        ensures end { own_end self.new ≡ move_stage rules.request_went_on (own_end self.old) }
         ensures body { (goes : Body) → body_in (Some self.new) goes ≡ body_in (Some self.old) goes }
     {
         self.front.went_on();
@@ -248,7 +248,7 @@ impl Application {
     /// It took its request back, of which something has gone on.
     pub(crate) fn withdraw(&mut self)
         ensures queue { queue_of self.new ≡ queue_of self.old }
-        ensures end { end_of self.new ≡ withdraws (end_of self.old) }
+        ensures end { own_end self.new ≡ withdraws (own_end self.old) }
         ensures body { (goes : Body) → body_in (Some self.new) goes ≡ body_in (Some self.old) goes }
     {
         self.is_withdrawn = true;
@@ -257,7 +257,7 @@ impl Application {
     /// Its connection is let go, and with it what it took back there.
     pub(crate) fn let_go(&mut self)
         ensures queue { queue_of self.new ≡ queue_of self.old }
-        ensures end { end_of self.new ≡ lets_go (end_of self.old) }
+        ensures end { own_end self.new ≡ lets_go (own_end self.old) }
         ensures body { (goes : Body) → body_in (Some self.new) goes ≡ body_in (Some self.old) goes }
     {
         self.is_withdrawn = false;
@@ -266,7 +266,7 @@ impl Application {
     /// Nothing more of it is taken, for this. Whoever is to be closed already is so for what was first.
     pub(crate) fn close(&mut self, why: Option<FrontFault>)
         ensures queue { queue_of self.new ≡ queue_of self.old }
-        ensures end { end_of self.new ≡ closes_for why (end_of self.old) }
+        ensures end { own_end self.new ≡ closes_for why (own_end self.old) }
         ensures tag { self.new.tag ≡ self.old.tag }
     {
         if !self.is_over {
@@ -277,7 +277,7 @@ impl Application {
 
     /// What it did that the protocol doesn't allow, where it is to be closed for that.
     pub(crate) fn fault(&self) -> Option<FrontFault>
-        ensures { result ≡ why_of (Some (end_of self.now)) }
+        ensures { result ≡ why_of (Some (own_end self.now)) }
     {
         if self.is_over { self.fault } else { None }
     }
@@ -291,8 +291,8 @@ impl Application {
 
     /// Whether bytes of its request may be put, and its end: one has begun, or is whole.
     pub(crate) fn may_put(&self, whole: bool) -> bool
-        ensures begun { result ≡ true → IfOpen (puts whole) (Some (end_of self.now)) }
-        ensures unbegun { result ≡ false → IfOpen (IsUnbegun whole) (Some (end_of self.now)) }
+        ensures begun { result ≡ true → IfOpen (puts whole) (Some (own_end self.now)) }
+        ensures unbegun { result ≡ false → IfOpen (IsUnbegun whole) (Some (own_end self.now)) }
     {
         match self.front.stage() {
             Stage::Quiet => false,
@@ -305,14 +305,14 @@ impl Application {
 
     /// Whether its request asks for a full reset, of which it hasn't been told.
     pub(crate) fn asks_full(&self) -> bool
-        ensures { result ≡ true → AsksFor Full (Some (end_of self.now)) }
+        ensures { result ≡ true → AsksFor Full (Some (own_end self.now)) }
     {
         matches!(self.reset, Some(Reset::Full))
     }
 
     /// Whether it asks for one that keeps its transaction.
     pub(crate) fn asks_kept(&self) -> bool
-        ensures asks { result ≡ true → AsksFor KeepTransaction (Some (end_of self.now)) }
+        ensures asks { result ≡ true → AsksFor KeepTransaction (Some (own_end self.now)) }
         ensures not { result ≡ false → self.now.reset ≢ Some KeepTransaction }
     {
         matches!(self.reset, Some(Reset::KeepTransaction))
@@ -320,8 +320,8 @@ impl Application {
 
     /// Whether nothing of its request has gone on, and no attention.
     pub(crate) fn has_nothing_out(&self) -> bool
-        ensures here { result ≡ true → IfOpen IsHere (Some (end_of self.now)) }
-        ensures out { result ≡ false → IfOpen HasGoneOut (Some (end_of self.now)) }
+        ensures here { result ≡ true → IfOpen IsHere (Some (own_end self.now)) }
+        ensures out { result ≡ false → IfOpen HasGoneOut (Some (own_end self.now)) }
     {
         match self.front.stage() {
             Stage::Quiet => true,
@@ -334,7 +334,7 @@ impl Application {
 
     /// Whether it asks nothing, took nothing back that isn't acknowledged, and was told of each reset.
     pub(crate) fn is_at_end(&self) -> bool
-        ensures { result ≡ is_at_end (Some (end_of self.now)) }
+        ensures { result ≡ is_at_end (Some (own_end self.now)) }
     {
         if self.is_over {
             return false;
@@ -358,8 +358,8 @@ impl Application {
     /// Whether it is told of a reset with a packet of which this came, if it hears that: its request asks for
     /// one, and this is the first one of its answer. What only acknowledges an attention is none.
     pub(crate) fn is_told(&self, what: What) -> bool
-        ensures { is_said Goes (Some (end_of self.now)) ≡ true
-            → result ≡ hears_of_reset what (Some (end_of self.now)) }
+        ensures { is_said Goes (Some (own_end self.now)) ≡ true
+            → result ≡ hears_of_reset what (Some (own_end self.now)) }
     {
         match what {
             What::Goes | What::Finished | What::Closed => self.reset.is_some(),
@@ -369,7 +369,7 @@ impl Application {
 
     /// Whether it hears what its connection answers: it isn't to be closed, and hasn't taken its request back.
     pub(crate) fn hears(&self) -> bool
-        ensures { result ≡ is_said Goes (Some (end_of self.now)) }
+        ensures { result ≡ is_said Goes (Some (own_end self.now)) }
     {
         !self.is_over && !self.is_withdrawn
     }
@@ -378,7 +378,7 @@ impl Application {
     pub(crate) fn take_held(&mut self, asking: Asking) -> Vec<u8>
         ensures held { result.items ≡ self.old.held.items }
         ensures queue { queue_of self.new ≡ queue_of self.old }
-        ensures end { end_of self.new ≡ end_of self.old }
+        ensures end { own_end self.new ≡ own_end self.old }
         ensures asking { self.new.asking ≡ asking }
         ensures body { (self.new.is_over ≡ self.old.is_over) × (self.new.held.items ≡ []) }
     {
@@ -389,7 +389,7 @@ impl Application {
     /// The same, where that is wanted no more.
     pub(crate) fn forget(&mut self, asking: Asking)
         ensures queue { queue_of self.new ≡ queue_of self.old }
-        ensures end { end_of self.new ≡ end_of self.old }
+        ensures end { own_end self.new ≡ own_end self.old }
         ensures asking { self.new.asking ≡ asking }
         ensures body { (self.new.is_over ≡ self.old.is_over) × (self.new.held.items ≡ []) }
     {

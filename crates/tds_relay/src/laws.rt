@@ -11,9 +11,9 @@ ghost use Rattle.tds_relay.specs.Promises.{NoneAstray, SaysOnce, TakesOne, comes
 ghost use Rattle.tds_front.specs.Exchanges.{place_after};
 ghost use Rattle.tds_front.specs.declared.fault.FrontFault.{FrontFault};
 ghost use Rattle.tds_front.specs.Serving.{IsLawful, Ready};
-ghost use Rattle.tds_front.specs.Passing.{EndsWhole, behind, towards};
+ghost use Rattle.tds_front.specs.Passing.{EndsWhole, happenings_of, towards};
 ghost use Rattle.tds_front.specs.declared.stage.Stage.TheVariants as stages;
-ghost use Rattle.tds_relay.specs.Asking.{Asks};
+ghost use Rattle.tds_relay.specs.Asking.{AsksByBytes};
 ghost use Rattle.tds_relay.specs.Away.{IsAway, WaitsAway, done_before, done_since};
 ghost use Rattle.tds_relay.specs.Behind.{AllAnswerOnce, Stay, passed_in};
 ghost use Rattle.tds_relay.specs.Bodies.{Carries, body_of};
@@ -26,15 +26,15 @@ ghost use Rattle.tds_relay.specs.Faults.{IsMet, IsMetOn};
 ghost use Rattle.tds_relay.specs.Fronting.{AnswersOnce, done_on, happened};
 ghost use Rattle.tds_relay.specs.Fronts.{machine_in};
 ghost use Rattle.tds_relay.specs.Giving.{AreSaid, Gives, IsFrontOf, IsKept, ServersAnswerOnce, StaysAll};
-ghost use Rattle.tds_relay.specs.Giving.{ReadVisit, Visit, given_in, happens_in, pieces_of, sent_in};
+ghost use Rattle.tds_relay.specs.Giving.{ReadVisit, Visit, given_in, happens_in, pieces_of, sent_in_visit};
 ghost use Rattle.tds_relay.specs.Giving.{waits_in};
 ghost use Rattle.tds_relay.specs.Machine.{Admits, Machine, IsLedTo, MayAll, Step, Steps};
 ghost use Rattle.tds_relay.specs.Machine.{new_machine};
-ghost use Rattle.tds_relay.specs.Core.{Ends};
+ghost use Rattle.tds_relay.specs.Core.{EndList};
 ghost use Rattle.tds_relay.specs.Law.{FollowOn, Wire, put_in, went_out};
 ghost use Rattle.tds_relay.specs.Queues.{Queues};
 ghost use Rattle.tds_packet.specs.Reading.{Reading, joined};
-ghost use Rattle.tds_relay.specs.Reads.{AreReadIn, Call, Comes, Follow, FollowAt, Reads, bytes_in};
+ghost use Rattle.tds_relay.specs.Reads.{AreReadIn, CallOn, BytesCome, Follow, FollowAt, ReaderTakes, bytes_in};
 ghost use Rattle.tds_relay.specs.Reads.{open_at, packets_in, stands_in};
 ghost use Rattle.tds_relay.specs.Taking.{Tells};
 ghost use Rattle.tds_relay.specs.Telling.{IsToldOnce, happens_to};
@@ -45,7 +45,7 @@ ghost use Rattle.tds_service.specs.declared.service.Service.{Service};
 ghost use Rattle.tds_wire.specs.declared.features.Features.{Features};
 ghost use Rattle.tds_wire.specs.Reading as parsers;
 ghost use Rattle.tds_relay.specs.Ties as causes;
-ghost use Rattle.tds_relay.specs.Ties.{Cause, Causes, Connection, Goes, IsNoConnection, IsReached};
+ghost use Rattle.tds_relay.specs.Ties.{Cause, Causes, Connection, LedTo, IsNoConnection, IsReached};
 ghost use Rattle.tds_relay.specs.Ties.{Owns, pool_in};
 
 use crate::reading::reads_packets;
@@ -144,7 +144,7 @@ pub fn bounds()
 /// any bytes. So where events led to the pool, they do again, and what is said here of pools holds behind any
 /// calls.
 pub fn any_bytes()
-    ensures { (by : Cause) (old new : Pool) → Goes by old new → IsReached old → IsReached new }
+    ensures { (by : Cause) (old new : Pool) → LedTo by old new → IsReached old → IsReached new }
 {}
 
 /// What a call does is steps that it causes, one after the other: how the ends of the applications move with the
@@ -180,7 +180,7 @@ pub fn bytes_that_came(relay: &mut Relay, key: usize, said: &[u8]) -> Result<(),
 /// one on which the server hasn't acknowledged yet what it took back; or the request was asked on the connection that
 /// it holds, and is being sent, and where all of it has come its end was sent. Or its application is to be closed.
 pub fn request_goes_on(relay: &mut Relay, key: usize, said: &[u8]) -> Result<(), NoMemory>
-    ensures { OnOk result (Asks key (machine_in relay.old) said.now []
+    ensures { OnOk result (AsksByBytes key (machine_in relay.old) said.now []
         relay.new.links.items (machine_in relay.new)) }
 {
     relay.said(key, said)
@@ -205,7 +205,7 @@ pub fn body_goes_on(relay: &mut Relay, key: usize, said: &[u8]) -> Result<(), No
 /// connection of its number that is open. For a reader that had less than a packet: each call leaves it so. On a
 /// connection that isn't open nothing comes.
 pub fn packets_that_came(relay: &mut Relay, number: u64, came: &[u8]) -> Result<(), NoMemory>
-    ensures { OnOk result (Comes number (open_at number relay.old.links.items)
+    ensures { OnOk result (BytesCome number (open_at number relay.old.links.items)
         (machine_in relay.old) relay.old.pool.service came.now
         (open_at number relay.new.links.items) (machine_in relay.new) relay.new.pool.service) }
 {
@@ -216,9 +216,9 @@ pub fn packets_that_came(relay: &mut Relay, number: u64, came: &[u8]) -> Result<
 /// that come by the calls' steps, whole and in order, and less than a packet, which its reader has at last. Each call
 /// leaves each other connection that is open with what its reader had: its own contract says so (`Opens`).
 pub fn packets_over_calls()
-    ensures packets { (number : ℕ) (calls : List (Call number)) (had now : Reading)
+    ensures packets { (number : ℕ) (calls : List (CallOn number)) (had now : Reading)
         → had.taken ≡ [] → Follow had calls now
-        → Reads had (bytes_in calls) (packets_in calls) (Some now) }
+        → ReaderTakes had (bytes_in calls) (packets_in calls) (Some now) }
     /// A connection's reader has nothing before it is opened.
     ensures unread { (l : Link) → l.is_open ≡ false → l.reader.taken ≡ [] }
 {
@@ -229,7 +229,7 @@ pub fn packets_over_calls()
 /// one before has left the parser, and each message anew, while the service has the connection. Each call leaves the
 /// parsers of all other connections where they stood: its own contract says so (`AllStand`).
 pub fn read_over_calls()
-    ensures { (number : ℕ) (calls : List (Call number)) (from to : Service) (r : parsers.Reading)
+    ensures { (number : ℕ) (calls : List (CallOn number)) (from to : Service) (r : parsers.Parser)
         → FollowAt from calls to → StandsAt number r from
         → AreReadIn r calls × StandsAt number (stands_in r calls) to }
 {}
@@ -264,11 +264,11 @@ pub fn read_from_new()
     /// and behind one by which bytes come.
     ensures came { (number : ℕ) (sharing : Sharing) (most : ℕ) (features : Features)
         (had now : Option Reading) (bytes : List ℕ) (old new : Machine) (from to : Service)
-        → Comes number had old from bytes now new to
+        → BytesCome number had old from bytes now new to
         → IsReadTo sharing most features old from → IsReadTo sharing most features new to }
     /// An application that has come by these steps, and is there still, makes a visit of them.
     ensures visit { (sharing : Sharing) (most key : ℕ) (features : Features) (h : Machine)
-        (s : Service) (before since : List Step) (ends : Ends) (queues : Queues)
+        (s : Service) (before since : List Step) (ends : EndList) (queues : Queues)
         (led : IsReadTo sharing most features h s)
         → led.steps ≡ before ++ Admits key ends queues ∷ since → StaysAll key since
         → (v : ReadVisit sharing key) × (v.visit.before ≡ before) × (v.visit.since ≡ since) }
@@ -279,7 +279,7 @@ pub fn read_from_new()
 /// most, also behind an attention.
 pub fn lawful_behind()
     ensures lawful { (sharing : Sharing) (key : ℕ) (s : Stay sharing key) → AllAnswerOnce s
-        → IsLawful Ready (behind stages.Quiet (passed_in s)) }
+        → IsLawful Ready (happenings_of stages.Quiet (passed_in s)) }
     /// The last of a request goes on there only where its end has come.
     ensures whole { (sharing : Sharing) (key : ℕ) (s : Stay sharing key) → AllAnswerOnce s
         → EndsWhole stages.Quiet (passed_in s) }
@@ -314,7 +314,7 @@ pub fn given_by_server()
     /// What it is sent, and then what waits for it, are these, in order, each whole; all of them, unless one
     /// didn't fit: then a front of them.
     ensures sent { (sharing : Sharing) (key : ℕ) (v : Visit sharing key)
-        → IsFrontOf (joined (pieces_of (given_in v))) (sent_in v) (waits_in v) }
+        → IsFrontOf (joined (pieces_of (given_in v))) (sent_in_visit v) (waits_in v) }
 {
     lawful_applications();
     each_alone::<Token>();

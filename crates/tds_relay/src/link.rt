@@ -82,12 +82,12 @@ impl Link {
 }
 
 impl Answer {
-    ghost use Rattle.tds_relay.specs.Cutting.{IsCutTo, IsCut, awaited, at_its_beginning, ends_in, known_behind};
+    ghost use Rattle.tds_relay.specs.Cutting.{IsCutTo, IsCut, awaited, at_its_beginning, is_last_packet, known_behind};
     ghost use Rattle.tds_relay.specs.Cutting.{left_of, passed_on};
     ghost use Rattle.tds_service.specs.Packets.{behind_packet};
-    ghost use Rattle.tds_wire.specs.Reading.{Reading};
+    ghost use Rattle.tds_wire.specs.Reading.{Parser};
     ghost use Rattle.tds_relay.specs.News.{held, holds_back, known_next};
-    ghost use Rattle.tds_relay.specs.Queues.{queue_in, put};
+    ghost use Rattle.tds_relay.specs.Queues.{queue_in, put_behind};
 
     /// Nothing has come of the message that comes next.
     pub(crate) fn restart(&mut self)
@@ -117,8 +117,8 @@ impl Answer {
     ) -> Result<(), NoMemory>
         ensures cut { OnOk result ((sent : List ℕ)
             × IsCut (awaited owed self.old) header bytes.now sent
-            × (queue_in on.new ≡ put sent (queue_in on.old))) }
-        ensures behind { OnOk result (IsCutTo (awaited owed self.old) (ends_in header)
+            × (queue_in on.new ≡ put_behind sent (queue_in on.old))) }
+        ensures behind { OnOk result (IsCutTo (awaited owed self.old) (is_last_packet header)
             bytes.now self.new) }
     {
         self.known.awaits(owed);
@@ -168,7 +168,7 @@ impl Answer {
             ≡ kept.old.items ++ (left_of self.old.known self.old.parser bytes.now).bytes) }
         ensures known { OnOk result (self.new.known
             ≡ (left_of self.old.known self.old.parser bytes.now).known) }
-        ensures stands { OnOk result ((next : Reading)
+        ensures stands { OnOk result ((next : Parser)
             → (left_of self.old.known self.old.parser bytes.now).stands ≡ Some next
             → self.new.parser ≡ next) }
         ensures size { self.new.size ≡ self.old.size }

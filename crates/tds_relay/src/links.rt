@@ -7,7 +7,7 @@ ghost use Rattle.tds_relay.specs.Lent.{KeepsAnswers};
 ghost use Rattle.tds_relay.specs.Linking.{ArePlaced};
 ghost use Rattle.tds_relay.specs.Queues.{without_first};
 ghost use Rattle.tds_relay.specs.Reads.{answer_at, link_at, queue_on};
-ghost use Rattle.tds_relay.specs.Reads.{Sees, Stays, named_seen, open_at, opened_at, opened_seen, place_of};
+ghost use Rattle.tds_relay.specs.Reads.{HoldsOnLinks, LinksStay, named_seen, open_at, opened_at, opened_seen, place_of};
 ghost use Rattle.tds_relay.specs.Reads.{seen_at, waits_on, without_link};
 ghost use Rattle.tds_relay.specs.Reasons.{HasNoRoom};
 ghost use Rattle.tds_relay.specs.Told.{is_there};
@@ -118,7 +118,7 @@ fn place_anew(list: &[Link], places: &mut Vec<Indexed<usize>>)
 /// changed.
 #[tactic(auto, using(crate::proofs::steps::Staying::stays_written, crate::proofs::steps::Staying::stays_refl))]
 pub(crate) fn append_to(links: &mut Links, number: u64, bytes: &[u8]) -> Result<bool, NoMemory>
-    ensures read { Stays links.old.items links.new.items }
+    ensures read { LinksStay links.old.items links.new.items }
     ensures others { (other : ℕ) → other ≢ number
         → waits_on other links.new.items ≡ waits_on other links.old.items }
     ensures queues { (other : ℕ) → other ≢ number
@@ -145,7 +145,7 @@ pub(crate) fn append_to(links: &mut Links, number: u64, bytes: &[u8]) -> Result<
 /// Nothing has come of the message that comes next on a connection, as far as news are cut out of it.
 #[tactic(auto, using(crate::proofs::steps::Staying::stays_written, crate::proofs::steps::Staying::stays_refl))]
 pub(crate) fn restart(links: &mut Links, number: u64)
-    ensures read { Stays links.old.items links.new.items }
+    ensures read { LinksStay links.old.items links.new.items }
     ensures waits { (other : ℕ)
         → waits_on other links.new.items ≡ waits_on other links.old.items }
     ensures queues { (other : ℕ)
@@ -184,7 +184,7 @@ pub(crate) fn set_tag(links: &mut Links, number: u64, tag: usize)
 /// So many bytes wait on a connection no more. False where it isn't there.
 #[tactic(auto, using(crate::proofs::steps::Staying::sees_written))]
 pub(crate) fn forget_sent(links: &mut Links, number: u64, count: usize) -> bool
-    ensures read { Sees links.old.items links.new.items }
+    ensures read { HoldsOnLinks links.old.items links.new.items }
     ensures answers { KeepsAnswers links.old.items links.new.items }
     ensures others { (other : ℕ) → other ≢ number
         → waits_on other links.new.items ≡ waits_on other links.old.items }

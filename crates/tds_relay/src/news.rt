@@ -1,7 +1,7 @@
 //! The news of a reset that no application asked for, cut out of an answer: the first one where the server owes
 //! it. Any other is the application's own (`sp_reset_connection`).
 ghost use Rattle.std.specs.Prelude.{◌≡◌, ◌++◌, OnOk};
-ghost use Rattle.tds_relay.specs.News.{awaiting, goes_on, held, known_after, known_by, known_next, let_on};
+ghost use Rattle.tds_relay.specs.News.{awaiting, bytes_going_on, held, known_after, known_by, known_next, let_on};
 
 use crate::NoMemory;
 
@@ -106,7 +106,7 @@ impl Known {
     /// Appends what goes on of these bytes of one token, the next ones.
     pub(crate) fn pass(&mut self, bytes: &[u8], kept: &mut Vec<u8>) -> Result<(), NoMemory>
         ensures goes_on { OnOk result (kept.new.items
-            ≡ kept.old.items ++ goes_on self.old bytes.now) }
+            ≡ kept.old.items ++ bytes_going_on self.old bytes.now) }
         ensures known { OnOk result (self.new ≡ known_after self.old bytes.now) }
     {
         for byte in bytes {

@@ -43,13 +43,13 @@ pub(crate) struct Outgoing {
 
 impl Outgoing {
     ghost use Rattle.tds_relay.specs.Bounds.{news_length, waiting_in};
-    ghost use Rattle.tds_relay.specs.Queues.{fits, nothing, queue_in, put, put_news, without_first};
+    ghost use Rattle.tds_relay.specs.Queues.{fits, empty_queue, queue_in, put_behind, put_news, without_first};
 
     pub(crate) fn new(alloc: Global, size: PacketSize) -> Outgoing
         ensures nothing { (result.bytes.items ≡ []) × (result.sent ≡ 0) }
         ensures size { result.size ≡ size }
         ensures open { result.is_full ≡ false }
-        ensures queue { queue_in result ≡ nothing size }
+        ensures queue { queue_in result ≡ empty_queue size }
     {
         Outgoing {
             alloc,
@@ -121,7 +121,7 @@ impl Outgoing {
         ensures size { self.new.size ≡ self.old.size }
         ensures more { OnOk result (self.new.is_full ≡ false
             → waiting_in self.new ≡ waiting_in self.old + length bytes.now) }
-        ensures queue { OnOk result (queue_in self.new ≡ put bytes.now (queue_in self.old)) }
+        ensures queue { OnOk result (queue_in self.new ≡ put_behind bytes.now (queue_in self.old)) }
         ensures kept { OnErr result (queue_in self.new ≡ queue_in self.old) }
     {
         if self.is_full || bytes.len() > self.room() {
@@ -144,7 +144,7 @@ impl Outgoing {
             → self.new.is_full ≡ false }
         ensures size { self.new.size ≡ self.old.size }
         ensures queue { OnOk result (queue_in self.new
-            ≡ put (header_bytes header ++ content.now) (queue_in self.old)) }
+            ≡ put_behind (header_bytes header ++ content.now) (queue_in self.old)) }
     {
         if self.is_full || usize::from(header.length) > self.room() {
             self.is_full = true;

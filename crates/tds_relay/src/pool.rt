@@ -5,7 +5,7 @@ ghost use Rattle.tds_service.specs.Service.{Seat, is_open, seat_numbered};
 ghost use Rattle.tds_service.specs.Sizes.{AllSized};
 ghost use Rattle.tds_service.specs.Table.{place_of};
 ghost use Rattle.tds_packet.specs.declared.status.Reset.TheVariants.{Full};
-ghost use Rattle.tds_relay.specs.Anew.{Resets};
+ghost use Rattle.tds_relay.specs.Anew.{ResetsNext};
 ghost use Rattle.tds_relay.specs.Pool.{Serves, Unwaits, Waits, find_key, find_number, key_of, new_pool};
 ghost use Rattle.tds_relay.specs.Pool.{fault_on, owes_reset};
 ghost use Rattle.tds_relay.specs.Few.{has_free};
@@ -250,9 +250,9 @@ impl Pool {
     /// Whether the next request on the connection of this number begins a session there.
     fn begins_anew(&self, number: u64) -> bool
         ensures anew { result ≡ true
-            → Resets Full (seat_numbered number (pool_in self.now).service.seats) }
+            → ResetsNext Full (seat_numbered number (pool_in self.now).service.seats) }
         ensures not_anew { result ≡ false
-            → ¬ Resets Full (seat_numbered number (pool_in self.now).service.seats) }
+            → ¬ ResetsNext Full (seat_numbered number (pool_in self.now).service.seats) }
     {
         match self.service.begins_anew_on(number) {
             Some(begins) => begins,
@@ -264,9 +264,9 @@ impl Pool {
     /// it, or the reset that keeps a transaction is asked for.
     pub fn resets_on(&self, number: u64, reset: Reset) -> bool
         ensures resets { result ≡ true
-            → Resets reset (seat_numbered number (pool_in self.now).service.seats) }
+            → ResetsNext reset (seat_numbered number (pool_in self.now).service.seats) }
         ensures resets_not { result ≡ false
-            → ¬ Resets reset (seat_numbered number (pool_in self.now).service.seats) }
+            → ¬ ResetsNext reset (seat_numbered number (pool_in self.now).service.seats) }
     {
         if self.begins_anew(number) {
             return true;

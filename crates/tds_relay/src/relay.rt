@@ -8,18 +8,18 @@ ghost use Rattle.tds_relay.specs.Apart.{SparesOthers};
 ghost use Rattle.tds_relay.specs.Asking.{IsUnderway};
 ghost use Rattle.tds_relay.specs.Bodies.{AskAsBefore, Nowhere, body_of};
 ghost use Rattle.tds_relay.specs.Bounds.{waiting_for};
-ghost use Rattle.tds_relay.specs.Closings.{ClosesOnly, Nobody, register_in};
+ghost use Rattle.tds_relay.specs.Closings.{ClosesOnly, NoKey, register_in};
 ghost use Rattle.tds_relay.specs.Pool.{find_key, find_number, key_of, new_pool};
 ghost use Rattle.tds_relay.specs.Fronts.{Moved, ends_in, core_in, machine_in};
-ghost use Rattle.tds_relay.specs.Core.{IfOpen, IsAway, IsBegun, IsHere, MayPart, change_end, end_at};
+ghost use Rattle.tds_relay.specs.Core.{IfOpen, IsThereAndAway, IsBegun, IsHere, MayPart, change_end, end_at};
 ghost use Rattle.tds_relay.specs.Core.{Open, lets_go};
 ghost use Rattle.tds_relay.specs.Machine.{Steps, new_machine};
-ghost use Rattle.tds_relay.specs.Places.{HasNoTransaction, begun_in, holder};
-ghost use Rattle.tds_relay.specs.Queues.{Enters, queues_in};
+ghost use Rattle.tds_relay.specs.Places.{HasNoTransaction, begun_in, holder_of_number};
+ghost use Rattle.tds_relay.specs.Queues.{EntersQueues, queues_in};
 ghost use Rattle.tds_relay.specs.Reads.{link_at, open_at, waits_on};
 ghost use Rattle.tds_relay.specs.Reasons.{CannotMove, HasGoneOut, HasTransaction};
 ghost use Rattle.tds_relay.specs.Sparing.{OthersRest};
-ghost use Rattle.tds_relay.specs.Ties.{Cause, CausesRequest, Goes, Neither, pool_in};
+ghost use Rattle.tds_relay.specs.Ties.{Cause, CausesRequest, LedTo, Neither, pool_in};
 ghost use Rattle.tds_relay.specs.Told.{TellsTheSame, least_for, room_at, room_behind, room_there};
 ghost use Rattle.tds_relay.specs.Waiting.{StandsInLine};
 ghost use Rattle.tds_relay.specs.TokenParsers.{AllStand, IsUnread};
@@ -143,7 +143,7 @@ impl Relay {
             (λ (a : Application). a.out.size ≡ self.old.size)) }
         ensures front { IfOk result (λ key. end_at (ends_in self.new.applications) key
             ≡ Some (Open (new_front self.old.size) false None)) }
-        ensures queues { IfOk result (λ key. Enters self.old.size tag key
+        ensures queues { IfOk result (λ key. EntersQueues self.old.size tag key
             (queues_in self.old.applications) (queues_in self.new.applications)) }
         ensures steps { OnOk result (Steps Neither (machine_in self.old) (machine_in self.new)) }
         ensures links { self.new.links.items ≡ self.old.links.items }
@@ -218,7 +218,7 @@ impl Relay {
             → key_of (find_number number (pool_in self.now.pool).holds) ≡ Some key
             → result ≤ PIECE - waiting_for (get self.now.applications key) }
         ensures least { IsSome (link_at number self.now.links.items)
-            → least_for (holder (pool_in self.now.pool) number) self.now ≤ result }
+            → least_for (holder_of_number (pool_in self.now.pool) number) self.now ≤ result }
     {
         let Some(link) = self.link(number) else {
             return 0;
@@ -268,7 +268,7 @@ impl Relay {
         ensures links { self.new.links.items ≡ self.old.links.items }
         ensures asks { AskAsBefore self.old.applications self.new.applications }
         ensures orders { self.new.orders.items ≡ self.old.orders.items }
-        ensures closes { ClosesOnly Nobody (register_in self.old) (register_in self.new) }
+        ensures closes { ClosesOnly NoKey (register_in self.old) (register_in self.new) }
         ensures outbox { self.new.outbox.items ≡ self.old.outbox.items }
         ensures counts { cleaned_in self.new ≡ cleaned_in self.old }
     {
@@ -323,7 +323,7 @@ impl Relay {
     /// An application's request waits for a connection, behind all others.
     fn wait(&mut self, key: usize) -> Result<(), NoMemory>
         ensures goes { OnOk result ((by : Cause) → CausesRequest by key
-            → Goes by (pool_in self.old.pool) (pool_in self.new.pool)) }
+            → LedTo by (pool_in self.old.pool) (pool_in self.new.pool)) }
         ensures orders { self.new.orders.items ≡ self.old.orders.items }
         ensures kept { queues_in self.new.applications ≡ queues_in self.old.applications }
         ensures moves { OnOk result ((by : Cause) → CausesRequest by key
@@ -340,7 +340,7 @@ impl Relay {
         ensures spares { OnOk result ((number : ℕ)
             → SparesOthers number (Some key) (core_in self.old) (core_in self.new)) }
         ensures counts { cleaned_in self.new ≡ cleaned_in self.old }
-        ensures closes { ClosesOnly Nobody (register_in self.old) (register_in self.new) }
+        ensures closes { ClosesOnly NoKey (register_in self.old) (register_in self.new) }
         ensures seated { IsSeated self.old → OnOk result (IsSeated self.new) }
         ensures holds { OnOk result (self.new.pool.holds.items
             ≡ self.old.pool.holds.items) }
@@ -355,7 +355,7 @@ impl Relay {
     /// Whether an application is taken from, holds no connection, and waits for none.
     #[tactic(auto, using(crate::proofs::steps::Underway::of_none, crate::proofs::steps::Underway::of_over))]
     fn is_away(&self, key: usize) -> bool
-        ensures away { result ≡ true → IsAway (core_in self.now) key }
+        ensures away { result ≡ true → IsThereAndAway (core_in self.now) key }
         ensures underway { result ≡ false → find_key key (pool_in self.now.pool).holds ≡ None
             → (whole : Bool)
             → IsUnderway whole self.now.links.items key (core_in self.now) }

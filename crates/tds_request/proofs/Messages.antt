@@ -10,7 +10,7 @@ use Rattle.tds_request.specs.declared.request.Request.TheVariants as requests
 use Rattle.tds_request.specs.declared.request.RequestKind.{RequestKind}
 use Rattle.tds_request.specs.declared.request.RequestKind.TheVariants as kinds
 use Rattle.tds_request.specs.Values.{IsBatchText, IsIsolation}
-use Rattle.tds_request.specs.Layout.{kind_of_request, all_headers, body_of, spelling, text_bytes, no_name, begun, begun_anew, Fits, IsRequest}
+use Rattle.tds_request.specs.Layout.{kind_of_request, all_headers, body_of, request_spelling, text_bytes, no_name, begun, begun_anew, Fits, IsRequest}
 use Rattle.tds_request.specs.Reading.{◌>>=◌, number_is_at, byte_is_at, header_fields_at, headers_at, units_of, is_text_length, batch_in, ended, isolation_of, begun_in, begun_anew_in, end_in, transaction_in, body_in, read_request}
 use Rattle.tds_request.proofs.Readers.{IsBytes, IsMark, bind_ok, want_ok, unless_ok, chosen, ok_is, step, mark_step, step_again, mark_again, wide16, wide32, wide64, number_field, byte_field, number_mark, byte_mark}
 use Rattle.tds_request.proofs.Texts.{units_again, text_of, is_length}
@@ -238,7 +238,7 @@ body_again (requests.Rollback (Some level)) fits = ap rolled_back (begun_anew_ag
 pub spelled_is_read : (kind : RequestKind) (descriptor : ℕ) (request : Request) (bytes : List ℕ) → IsRequest kind descriptor request bytes → read_request kind bytes ≡ Ok (descriptor, request)
 unfolding read_request
 spelled_is_read kind descriptor request bytes h =
-    ap (λ (x : List ℕ). read_request kind x) h.spelled ∙ ap (λ (k : RequestKind). read_request k (spelling descriptor request)) h.kind_is
+    ap (λ (x : List ℕ). read_request kind x) h.spelled ∙ ap (λ (k : RequestKind). read_request k (request_spelling descriptor request)) h.kind_is
     ∙ rw (headers_again descriptor (body_of request) h.ranged, body_again request h.fits) refl
 
 pub read_is_spelled : (kind : RequestKind) (descriptor : ℕ) (request : Request) (bytes : List ℕ) → IsBytes bytes → read_request kind bytes ≡ Ok (descriptor, request) → IsRequest kind descriptor request bytes

@@ -7,7 +7,7 @@ use Rattle.tds_request.specs.declared.request.Request.{Request}
 use Rattle.tds_request.specs.declared.request.Request.TheVariants as requests
 use Rattle.tds_request.specs.declared.request.RequestKind.{RequestKind}
 use Rattle.tds_request.specs.Values.{AreBytes}
-use Rattle.tds_request.specs.Layout.{Fits, IsRequest, all_headers, body_of, spelling}
+use Rattle.tds_request.specs.Layout.{Fits, IsRequest, all_headers, body_of, request_spelling}
 use Rattle.tds_request.specs.Reading.{read_request, fault_of, wrong_request}
 use Rattle.tds_request.proofs.Readers.{IsBytes, ok_is}
 use Rattle.tds_request.proofs.Texts.{text_length}
@@ -35,8 +35,8 @@ body_length (requests.Rollback (Some level)) h = (omega arith, omega arith)
 pub length_of_message : (kind : RequestKind) (descriptor : ℕ) (request : Request) (bytes : List ℕ) → IsRequest kind descriptor request bytes → (24 ≤ length bytes) × (length bytes ≤ 4022)
 length_of_message kind descriptor request bytes h =
     let body = body_length request h.fits in
-    let whole : length bytes ≡ length (spelling descriptor request) = ap length h.spelled in
-    let parts : length (spelling descriptor request) ≡ 22 + length (body_of request) = length-append (all_headers descriptor) (body_of request) in
+    let whole : length bytes ≡ length (request_spelling descriptor request) = ap length h.spelled in
+    let parts : length (request_spelling descriptor request) ≡ 22 + length (body_of request) = length-append (all_headers descriptor) (body_of request) in
     (omega (arith, body.0, whole, parts), omega (arith, body.1, whole, parts))
 
 pub spelled : (kind : RequestKind) (descriptor : ℕ) (request : Request) (bytes : List ℕ) → IsRequest kind descriptor request bytes → wrong_request kind bytes ≡ None

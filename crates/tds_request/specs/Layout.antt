@@ -53,8 +53,8 @@ body_of (requests.Commit anew) = to_le_bytes w16 7 ++ (no_name ++ begun_anew ane
 body_of (requests.Rollback anew) = to_le_bytes w16 8 ++ (no_name ++ begun_anew anew)
 
 -- The whole message of a request in the transaction of this descriptor, or in none: then it is 0.
-abbrev pub spelling : ℕ → Request → List ℕ
-spelling descriptor request = all_headers descriptor ++ body_of request
+abbrev pub request_spelling : ℕ → Request → List ℕ
+request_spelling descriptor request = all_headers descriptor ++ body_of request
 
 -- The values that a request may have.
 abbrev pub Fits : Request → Type 0
@@ -66,6 +66,6 @@ Fits (requests.Rollback anew) = IfSome anew IsIsolation
 -- The bytes are a message of this kind, and spell this descriptor and this request.
 pub record IsRequest (kind : RequestKind) (descriptor : ℕ) (request : Request) (bytes : List ℕ) : Type 0 where
   pub kind_is : kind ≡ kind_of_request request
-  pub spelled : bytes ≡ spelling descriptor request
+  pub spelled : bytes ≡ request_spelling descriptor request
   pub fits : Fits request
   pub ranged : descriptor < 2 ^ 64

@@ -1,6 +1,6 @@
 ghost use Rattle.std.specs.Prelude.{◌≡◌, ◌∷◌, ◌++◌, ◌+◌, ◌*◌, ◌≤◌, IsOk, OnOk, OnErr, IfSome, length};
 ghost use Rattle.std.specs.Vec.{vec_len, vec_capacity};
-ghost use Rattle.tds_request.specs.Layout.{IsRequest, kind_of_request, spelling};
+ghost use Rattle.tds_request.specs.Layout.{IsRequest, kind_of_request, request_spelling};
 ghost use Rattle.tds_request.specs.Values.{IsIsolation};
 ghost use Rattle.tds_request.specs.Layout.{all_headers, begun_anew, no_name, text_bytes};
 
@@ -14,11 +14,11 @@ use crate::request::Request;
 pub fn encode(request: &Request, descriptor: u64, out: &mut Vec<u8>) -> Result<(), NoMemory>
     // What is appended spells the descriptor and the request.
     ensures appended { OnOk result
-        (out.new.items ≡ out.old.items ++ spelling descriptor request.now) }
+        (out.new.items ≡ out.old.items ++ request_spelling descriptor request.now) }
     ensures spelled { IsRequest (kind_of_request request.now) descriptor request.now
-        (spelling descriptor request.now) }
-    ensures limits { (24 ≤ length (spelling descriptor request.now))
-        × (length (spelling descriptor request.now) ≤ 4022) }
+        (request_spelling descriptor request.now) }
+    ensures limits { (24 ≤ length (request_spelling descriptor request.now))
+        × (length (request_spelling descriptor request.now) ≤ 4022) }
     ensures unchanged { OnErr result (out.new.items ≡ out.old.items) }
 {
     match request {

@@ -7,7 +7,7 @@ use Rattle.std.proofs.lemmas.List.Elements.{All-append, All-cons, All-nil}
 use Rattle.tds_server.specs.Packets.{AreShort, FitsOnePacket, answer_packet, final}
 use Rattle.tds_session.specs.declared.transaction.Ending.{Ending}
 use Rattle.tds_session.specs.declared.transaction.Ending.TheVariants as ending
-use Rattle.tds_session.specs.Effects.{error, done, Effect, begins, begin_by, end_by, told_by, renew_by, completes}
+use Rattle.tds_session.specs.Effects.{error_token, done, Effect, begins, begin_by, end_by, told_by, renew_by, completes}
 use Rattle.tds_session.specs.Session.{SessionState, IsSession}
 use Rattle.tds_session.specs.Lawful.{FitsPacket}
 use Rattle.tds_token.specs.declared.env_change.EnvChange.TheVariants as change
@@ -71,32 +71,32 @@ requested ts failed room = record {
 pub reset_done : FitsOnePacket (token.Env change.ResetDone ∷ [])
 reset_done = one _ (record { fits = tt; short = search rules })
 
-short_descriptor : LeavesRoom (error 50010 (codes "descriptor"))
+short_descriptor : LeavesRoom (error_token 50010 (codes "descriptor"))
 short_descriptor = record { fits = record { server = search rules; procedure = search rules; whole = search rules }; short = search rules }
 
-pub refused_short : (t : Token) → t ≡ error 50010 (codes "descriptor") → AreShort (t ∷ [])
+pub refused_short : (t : Token) → t ≡ error_token 50010 (codes "descriptor") → AreShort (t ∷ [])
 refused_short t e = one_short t (subst LeavesRoom (sym e) short_descriptor)
 
-pub descriptor_error : FitsOnePacket (error 50010 (codes "descriptor") ∷ [])
+pub descriptor_error : FitsOnePacket (error_token 50010 (codes "descriptor") ∷ [])
 descriptor_error = one _ short_descriptor
 
-short_syntax : LeavesRoom (error 50001 (codes "syntax"))
+short_syntax : LeavesRoom (error_token 50001 (codes "syntax"))
 short_syntax = record { fits = record { server = search rules; procedure = search rules; whole = search rules }; short = search rules }
 
-pub syntax_error : FitsOnePacket (error 50001 (codes "syntax") ∷ [])
+pub syntax_error : FitsOnePacket (error_token 50001 (codes "syntax") ∷ [])
 syntax_error = one _ short_syntax
 
 -- an effect's tokens leave room
 abbrev pub IsShort : Effect → Type 0
 IsShort e = AreShort e.tokens
 
-no_transaction : AreShort (error 50003 (codes "no transaction") ∷ [])
+no_transaction : AreShort (error_token 50003 (codes "no transaction") ∷ [])
 no_transaction = one_short _ (record { fits = record { server = search rules; procedure = search rules; whole = search rules }; short = search rules })
 
-no_descriptor : AreShort (error 50004 (codes "no descriptor") ∷ [])
+no_descriptor : AreShort (error_token 50004 (codes "no descriptor") ∷ [])
 no_descriptor = one_short _ (record { fits = record { server = search rules; procedure = search rules; whole = search rules }; short = search rules })
 
-in_transaction : AreShort (error 50002 (codes "in transaction") ∷ [])
+in_transaction : AreShort (error_token 50002 (codes "in transaction") ∷ [])
 in_transaction = one_short _ (record { fits = record { server = search rules; procedure = search rules; whole = search rules }; short = search rules })
 
 begin_is_short : (none used_up : Bool) (s : SessionState) → IsSession s → IsShort (begin_by none used_up s)

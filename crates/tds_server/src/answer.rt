@@ -6,7 +6,7 @@ ghost use Rattle.tds_server.specs.declared.answer.Due.TheVariants as due;
 ghost use Rattle.tds_server.specs.Due.{IsNext, compared, refused, run, statements_in, steps_of, reset_in, first_of};
 ghost use Rattle.tds_server.specs.Packets.{AreShort, FitsOnePacket, final};
 ghost use Rattle.tds_session.specs.Answer.{answer_of, answer_to, batch_steps, last_step};
-ghost use Rattle.tds_session.specs.Effects.{Effect, begins, completes, error, is_error};
+ghost use Rattle.tds_session.specs.Effects.{Effect, begins, completes, error_token, is_error};
 ghost use Rattle.tds_session.specs.Session.{SessionState, IsSession, after_reset};
 ghost use Rattle.tds_token.specs.declared.env_change.EnvChange.TheVariants as change;
 ghost use Rattle.tds_token.specs.declared.token.Token.TheVariants as token;
@@ -224,7 +224,7 @@ fn run_task<E: Engine>(
 #[tactic(auto, using(crate::proofs::Short::syntax_error))]
 fn refuse_text(alloc: Global) -> Result<Done, NoMemory>
     ensures tokens { IfOk result
-        (λ done. done.tokens.items ≡ error 50001 (codes "syntax") ∷ []) }
+        (λ done. done.tokens.items ≡ error_token 50001 (codes "syntax") ∷ []) }
     ensures next { IfOk result (λ done. done.next ≡ Some due.Failed) }
     ensures fits { IfOk result (λ done. FitsOnePacket done.tokens.items) }
 {

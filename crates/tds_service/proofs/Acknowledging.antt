@@ -12,7 +12,7 @@ use Rattle.tds_client.specs.Acts.{is_acknowledgement}
 use Rattle.tds_client.specs.Hearing.{with_done, hear_sign}
 use Rattle.tds_client.proofs.Acknowledged.{is_acknowledging, by_sign}
 use Rattle.tds_service.specs.Parts.{Item, Part, is_end, hear_part, hear_items, heard_until}
-use Rattle.tds_service.specs.Line.{Act, Mark, Ask, Send, Cancel, Come, Lose, Stage, Idle, Sending, Reading, Cancelling, Broken, reads, skips, skips_to_end, cause, left_by}
+use Rattle.tds_service.specs.Line.{Act, Mark, Ask, Send, Cancel, Come, Lose, LineStage, Idle, Sending, Reading, Cancelling, Broken, reads, skips, skips_to_end, cause, left_by}
 use Rattle.tds_service.specs.History.{history}
 use Rattle.tds_service.specs.Acknowledging.{has_ack, Settles, SettlesRight, out_by}
 use Rattle.tds_service.proofs.Pairing.{line, with_mark}
@@ -41,7 +41,7 @@ by_part cancelling h next part e = by_items cancelling h next part.items (part_h
 
 -- ---- Along a history
 
-abbrev pub attending : Stage → Bool
+abbrev pub attending : LineStage → Bool
 attending Idle = false
 attending (Sending begun) = false
 attending Reading = false
@@ -59,7 +59,7 @@ settles_broken n fault h out seen (Lose ∷ acts) = (tt, settles_broken n fault 
 
 settles_reads : {T : Type 0} (n : ℕ) (h : Heard) (seen : Bool) (part : Part T) (ends : Bool) (u : Heard) (result : Result Heard ListenFault) (acts : List (Act T))
     → ((next : Heard) → result ≡ Ok next → is_acknowledging next.done ≡ (seen || has_ack part.items))
-    → ((s : Stage) (h : Heard) (seen : Bool) → is_acknowledging h.done ≡ seen → SettlesRight (attending s) seen (history (line n s h) acts))
+    → ((s : LineStage) (h : Heard) (seen : Bool) → is_acknowledging h.done ≡ seen → SettlesRight (attending s) seen (history (line n s h) acts))
     → ((f : ClientFault) (h : Heard) (out seen : Bool) → SettlesRight out seen (history (line n (Broken f) h) acts))
     → Settles (attending Reading) ends (seen || has_ack part.items) (reads (line n Reading h) part ends u result).answer × SettlesRight (out_by (attending Reading) (reads (line n Reading h) part ends u result).answer) (if ends then false else (seen || has_ack part.items)) (history (reads (line n Reading h) part ends u result).line acts)
 settles_reads n h seen part ends u (Err fault) acts kn ih ib = (tt, ib (cause fault) (left_by fault u) false (if ends then false else (seen || has_ack part.items)))
@@ -68,7 +68,7 @@ settles_reads n h seen part true u (Ok heard) acts kn ih ib = ((refl, refl), ih 
 
 settles_skips_to_end : {T : Type 0} (n : ℕ) (h heard : Heard) (seen : Bool) (part : Part T) (done : FinalDone) (acts : List (Act T))
     → is_acknowledging done ≡ (seen || has_ack part.items)
-    → ((s : Stage) (h : Heard) (seen : Bool) → is_acknowledging h.done ≡ seen → SettlesRight (attending s) seen (history (line n s h) acts))
+    → ((s : LineStage) (h : Heard) (seen : Bool) → is_acknowledging h.done ≡ seen → SettlesRight (attending s) seen (history (line n s h) acts))
     → ((f : ClientFault) (h : Heard) (out seen : Bool) → SettlesRight out seen (history (line n (Broken f) h) acts))
     → Settles true true (seen || has_ack part.items) (skips_to_end {T = T} (line n Cancelling h) heard done).answer × SettlesRight (out_by true (skips_to_end {T = T} (line n Cancelling h) heard done).answer) false (history (skips_to_end {T = T} (line n Cancelling h) heard done).line acts)
 settles_skips_to_end n h heard seen part Awaited acts kn ih ib = (sym kn, ih Cancelling (with_done heard Awaited) false refl)
@@ -77,14 +77,14 @@ settles_skips_to_end n h heard seen part Acknowledged acts kn ih ib = ((refl, sy
 
 settles_skips : {T : Type 0} (n : ℕ) (h : Heard) (seen : Bool) (part : Part T) (ends : Bool) (u : Heard) (result : Result Heard ListenFault) (acts : List (Act T))
     → ((next : Heard) → result ≡ Ok next → is_acknowledging next.done ≡ (seen || has_ack part.items))
-    → ((s : Stage) (h : Heard) (seen : Bool) → is_acknowledging h.done ≡ seen → SettlesRight (attending s) seen (history (line n s h) acts))
+    → ((s : LineStage) (h : Heard) (seen : Bool) → is_acknowledging h.done ≡ seen → SettlesRight (attending s) seen (history (line n s h) acts))
     → ((f : ClientFault) (h : Heard) (out seen : Bool) → SettlesRight out seen (history (line n (Broken f) h) acts))
     → Settles (attending Cancelling) ends (seen || has_ack part.items) (skips {T = T} (line n Cancelling h) ends u result).answer × SettlesRight (out_by (attending Cancelling) (skips {T = T} (line n Cancelling h) ends u result).answer) (if ends then false else (seen || has_ack part.items)) (history (skips {T = T} (line n Cancelling h) ends u result).line acts)
 settles_skips n h seen part ends u (Err fault) acts kn ih ib = (tt, ib (cause fault) (left_by fault u) true (if ends then false else (seen || has_ack part.items)))
 settles_skips n h seen part false u (Ok heard) acts kn ih ib = (refl, ih Cancelling heard (seen || has_ack part.items) (kn heard refl))
 settles_skips n h seen part true u (Ok heard) acts kn ih ib = settles_skips_to_end n h heard seen part heard.done acts (kn heard refl) ih ib
 
-pub settles : {T : Type 0} (n : ℕ) (s : Stage) (h : Heard) (seen : Bool) (acts : List (Act T)) → is_acknowledging h.done ≡ seen → SettlesRight (attending s) seen (history (line n s h) acts)
+pub settles : {T : Type 0} (n : ℕ) (s : LineStage) (h : Heard) (seen : Bool) (acts : List (Act T)) → is_acknowledging h.done ≡ seen → SettlesRight (attending s) seen (history (line n s h) acts)
 settles n s h seen [] e = tt
 settles n Idle h seen (Mark reset ∷ acts) e = (tt, settles n Idle (with_mark h reset) seen acts e)
 settles n Idle h seen (Ask ∷ acts) e = (tt, settles (suc n) (Sending false) h seen acts e)

@@ -12,7 +12,7 @@ use Rattle.tds_client.specs.declared.fault.ClientRefusal.{ClientRefusal}
 use Rattle.tds_client.specs.declared.heard.Heard.{Heard}
 use Rattle.tds_client.specs.declared.state.Cancelled.{Cancelled}
 use Rattle.tds_client.specs.declared.state.Cancelled.TheVariants as how
-use Rattle.tds_client.specs.Packets.{packet_bytes, attention, ignore}
+use Rattle.tds_client.specs.Packets.{packet_bytes, stop_bytes, ignore}
 use Rattle.tds_client.specs.Parts.{left_of}
 use Rattle.tds_client.specs.Sending as sending
 use Rattle.tds_client.specs.Sending.{Effect, room, cancelled, cancelled_in, cancelled_sending}
@@ -20,7 +20,7 @@ use Rattle.tds_client.specs.Session as session
 use Rattle.tds_client.specs.Session.{ClientSession, with_stage}
 use Rattle.tds_client.specs.Streams.{put, put_in, finished, finished_in, finished_of, packets_of, left_behind}
 use Rattle.tds_service.specs.Line as line
-use Rattle.tds_service.specs.Line.{Line, Packet, OfRequest, Act, Turn, turn, cancels, not_begun, mark_on}
+use Rattle.tds_service.specs.Line.{Line, Packet, OfRequest, Act, Turn, line_turn, cancels, not_begun, mark_on}
 use Rattle.tds_service.specs.History.{Done, done_by, history, line_after}
 use Rattle.tds_service.specs.Ties.{begun_of, stage_of, line_of, IsBytes, AreBytes, Does, DoesAll, cancel_answer, sent_in, sends, full_in}
 
@@ -42,11 +42,11 @@ not_not false = refl
 
 after_both : (l : Line) (xs ys : List (Act Token)) → line_after l (xs ++ ys) ≡ line_after (line_after l xs) ys
 after_both l [] ys = refl
-after_both l (x ∷ xs) ys = after_both (turn l x).line xs ys
+after_both l (x ∷ xs) ys = after_both (line_turn l x).line xs ys
 
 history_both : (l : Line) (xs ys : List (Act Token)) → history l (xs ++ ys) ≡ history l xs ++ history (line_after l xs) ys
 history_both l [] ys = refl
-history_both l (x ∷ xs) ys = ap (λ ds. done_by x (turn l x) ∷ ds) (history_both (turn l x).line xs ys)
+history_both l (x ∷ xs) ys = ap (λ ds. done_by x (line_turn l x) ∷ ds) (history_both (line_turn l x).line xs ys)
 
 sent_both : (a b : List (Done Token)) → sent_in (a ++ b) ≡ sent_in a ++ sent_in b
 sent_both [] b = refl
@@ -109,7 +109,7 @@ line_at n s k = record { asked = n; stage = stage_of k; heard = s.heard }
 abbrev pub Sends : ℕ → ClientSession → session.Stage → Bool → List (Act Token) → Effect (Unit {0}) → Type 0
 Sends n s k last acts e =
     (line_of n e.session ≡ line_after (line_at n s k) acts) × AreBytes (sent_in (history (line_at n s k) acts)) e.bytes
-    × ((turn {T = Token} (line_at n s k) (line.Send last)).answer ≡ line.Sent)
+    × ((line_turn {T = Token} (line_at n s k) (line.Send last)).answer ≡ line.Sent)
 
 puts_in : (n : ℕ) (s : ClientSession) (more : List ℕ) (k : session.Stage) (e : Effect (Unit {0})) → put_in s more k ≡ Ok e → Sends n s k false (sends (full_in s (left_of k ++ more))) e
 puts_in n s more session.Idle e h = absurd (let u : ⊥ = cc in u)
@@ -133,7 +133,7 @@ finishes_by n s kind left packets =
     let one : AreBytes (sent_in (history before (line.Send true ∷ []))) last =
     subst (λ (l : Line). AreBytes (sent_in (history l (line.Send true ∷ []))) last) (sym (full_line n s.heard full packets))
     (last, [], sym (append-nil last), one_bytes n s.heard kind (packets + full) true (left_behind (room s) left), refl) in (
-      sym (after_both l (sends full) (line.Send true ∷ []) ∙ ap (λ (l : Line). (turn {T = Token} l (line.Send true)).line) (full_line n s.heard full packets)),
+      sym (after_both l (sends full) (line.Send true ∷ []) ∙ ap (λ (l : Line). (line_turn {T = Token} l (line.Send true)).line) (full_line n s.heard full packets)),
       subst (λ ps. AreBytes ps (finished_of s kind left packets).bytes)
           (sym (ap sent_in (history_both l (sends full) (line.Send true ∷ [])) ∙ sent_both (history l (sends full)) (history before (line.Send true ∷ []))))
           (bytes_both (sent_in (history l (sends full))) (sent_in (history before (line.Send true ∷ []))) (packets_of (room s) kind s.heard.mark packets full left) last
@@ -157,7 +157,7 @@ puts_alike n s next more before after h =
     record { line_is = k.0; bytes = (h.0, h.2, k.1) }
 
 pub puts_taken : (n : ℕ) (s next : ClientSession) (more before after : List ℕ) → sending.Does (put s more) tt next before after
-    → (turn {T = Token} (line_of n s) (line.Send false)).answer ≡ line.Sent
+    → (line_turn {T = Token} (line_of n s) (line.Send false)).answer ≡ line.Sent
 puts_taken n s next more before after h = (puts_in n s more s.stage (record { answer = tt; session = next; bytes = h.0 }) h.1).2
 
 pub finishes_alike : (n : ℕ) (s next : ClientSession) (before after : List ℕ) → sending.Does (finished s) tt next before after
@@ -167,7 +167,7 @@ finishes_alike n s next before after h =
     record { line_is = k.0; bytes = (h.0, h.2, k.1) }
 
 pub finishes_taken : (n : ℕ) (s next : ClientSession) (before after : List ℕ) → sending.Does (finished s) tt next before after
-    → (turn {T = Token} (line_of n s) (line.Send true)).answer ≡ line.Sent
+    → (line_turn {T = Token} (line_of n s) (line.Send true)).answer ≡ line.Sent
 finishes_taken n s next before after h = (finishes_in n s s.stage (record { answer = tt; session = next; bytes = h.0 }) h.1).2
 
 -- ---- Cancelling
@@ -186,10 +186,10 @@ cancels_by : (n : ℕ) (s : ClientSession) (kind : Kind) (packets : ℕ) (none :
     → CancelsBegun n s none
     (if none
     then record { answer = how.Unsent; session = with_stage s session.Idle; bytes = [] }
-    else record { answer = how.Asked; session = with_stage s session.Cancelling; bytes = ignore kind packets ++ attention })
+    else record { answer = how.Asked; session = with_stage s session.Cancelling; bytes = ignore kind packets ++ stop_bytes })
 cancels_by n s kind packets true = (refl, refl, refl)
 cancels_by n s kind packets false =
-    (refl, refl, (ignore kind packets, attention, refl, (kind, packets, refl), (attention, [], sym (append-nil attention), refl, refl)))
+    (refl, refl, (ignore kind packets, stop_bytes, refl, (kind, packets, refl), (stop_bytes, [], sym (append-nil stop_bytes), refl, refl)))
 
 cancels_in : (n : ℕ) (s : ClientSession) (k : session.Stage) (e : Effect Cancelled) → cancelled_in s k ≡ Ok e → Cancels n s k e
 unfolding cancelled_sending
@@ -197,7 +197,7 @@ cancels_in n s session.Idle e h = subst (λ (e : Effect Cancelled). Cancels n s 
 cancels_in n s (session.Sending kind left packets) e h =
     subst (λ (e : Effect Cancelled). Cancels n s (session.Sending kind left packets) e) (ok_same ClientRefusal _ e h) (cancels_by n s kind packets (packets == 0))
 cancels_in n s session.Reading e h =
-    subst (λ (e : Effect Cancelled). Cancels n s session.Reading e) (ok_same ClientRefusal _ e h) (refl, refl, (attention, [], sym (append-nil attention), refl, refl))
+    subst (λ (e : Effect Cancelled). Cancels n s session.Reading e) (ok_same ClientRefusal _ e h) (refl, refl, (stop_bytes, [], sym (append-nil stop_bytes), refl, refl))
 cancels_in n s session.Cancelling e h = subst (λ (e : Effect Cancelled). Cancels n s session.Cancelling e) (ok_same ClientRefusal _ e h) (refl, refl, refl)
 cancels_in n s (session.Broken fault) e h = absurd (let u : ⊥ = cc in u)
 

@@ -9,14 +9,14 @@ use Rattle.tds_service.specs.Line as line
 use Rattle.tds_client.specs.declared.fault.ClientRefusal.{ClientRefusal}
 use Rattle.tds_service.specs.Refusing.{packets, refusal_in}
 use Rattle.tds_service.specs.History.{Done, done_by, history, line_after, acts_of}
-use Rattle.tds_service.specs.Service.{Place, Leased, Cleaning, Kept, Seat, Service, new_service, Call, Lease, Resume, Ask, Put, Finish, Cancel, GiveBack, Clean, Cleaned, Keep, Abandon, Came, Lost, Without, Reply, Unknown, NotNow, No, NoMemory, AllInUse, Lent, Ticket, Did, Back, Step, nothing, seat_numbered, find_by, change_by, has_lease, has_ticket, has_number, is_lendable, does, rests, drained, is_idle, is_open, acts, acts_unless, cleans, cleaned, clean_place, rests_cleaned, opens, lends, resumes, gives_back, keeps_it, abandons, hears, loses, step, service_after, steps, on_one, on}
+use Rattle.tds_service.specs.Service.{Place, Leased, Cleaning, Kept, Seat, Service, new_service, Call, Lease, Resume, Ask, Put, Finish, Cancel, GiveBack, Clean, Cleaned, Keep, Abandon, Came, Lost, Without, Reply, Unknown, NotNow, No, NoMemory, AllInUse, Lent, Ticket, Did, Back, ServiceStep, nothing, seat_numbered, find_by, change_by, has_lease, has_ticket, has_number, is_lendable, does, rests, drained, is_idle, is_open, acts, acts_unless, cleans, cleaned, clean_place, rests_cleaned, opens, lends, resumes, gives_back, keeps_it, abandons, hears, loses, step, service_after, steps, on_one, on}
 use Rattle.tds_service.proofs.Numbered.{is_found, change_other, change_out, change_here, change_unique, added_other, added_here, added_unique, Unique, same_number}
 
 -- ---- Histories joined
 
 pub acts_of_history : {T : Type 0} (l : Line) (xs : List (Act T)) → acts_of (history l xs) ≡ xs
 acts_of_history l [] = refl
-acts_of_history l (x ∷ xs) = ap (λ ys. x ∷ ys) (acts_of_history (line.turn l x).line xs)
+acts_of_history l (x ∷ xs) = ap (λ ys. x ∷ ys) (acts_of_history (line.line_turn l x).line xs)
 
 pub acts_of_both : {T : Type 0} (a b : List (Done T)) → acts_of (a ++ b) ≡ acts_of a ++ acts_of b
 acts_of_both [] b = refl
@@ -24,7 +24,7 @@ acts_of_both (d ∷ ds) b = ap (λ ys. d.act ∷ ys) (acts_of_both ds b)
 
 pub history_both : {T : Type 0} (l : Line) (xs ys : List (Act T)) → history l (xs ++ ys) ≡ history l xs ++ history (line_after l xs) ys
 history_both l [] ys = refl
-history_both l (x ∷ xs) ys = ap (λ ds. done_by x (line.turn l x) ∷ ds) (history_both (line.turn l x).line xs ys)
+history_both l (x ∷ xs) ys = ap (λ ds. done_by x (line.line_turn l x) ∷ ds) (history_both (line.line_turn l x).line xs ys)
 
 joins : {T : Type 0} (l : Line) (xs : List (Act T)) (rest : List (Done T)) → rest ≡ history (line_after l xs) (acts_of rest)
     → history l xs ++ rest ≡ history l (acts_of (history l xs ++ rest))
@@ -47,7 +47,7 @@ Fits None n last l = (n ≤ last) ⊎ (l ≡ new_line)
 abbrev pub FitsIn : Service → ℕ → Line → Type 0
 FitsIn s n l = Fits (seat_numbered n s.seats) n s.last l
 
-pub record IsAlone {T : Type 0} (n : ℕ) (l : Line) (t : Step T) : Type 0 where
+pub record IsAlone {T : Type 0} (n : ℕ) (l : Line) (t : ServiceStep T) : Type 0 where
   pub tidy : Tidy t.service
   pub here : (t.number == n) ≡ true → (xs : List (Act T)) × (t.dones ≡ history l xs) × FitsIn t.service n (line_after l xs)
   pub other : (t.number == n) ≡ false → FitsIn t.service n l
@@ -110,7 +110,7 @@ unless_alone n l s test c all (Some why) tidy fits e = nothing_alone n l s (No w
 acts_alone : {T : Type 0} (n : ℕ) (l : Line) (s : Service) (test : Seat → Bool) (first : Act T) (all : List (Act T)) (seat : Option Seat) → Tidy s → FitsIn s n l
     → find_by test s.seats ≡ seat → IsAlone n l (acts s test first all seat)
 acts_alone n l s test first all None tidy fits e = nothing_alone n l s Unknown tidy fits
-acts_alone n l s test first all (Some c) tidy fits e = unless_alone n l s test c all (refusal_in (line.turn c.line first).answer) tidy fits e
+acts_alone n l s test first all (Some c) tidy fits e = unless_alone n l s test c all (refusal_in (line.line_turn c.line first).answer) tidy fits e
 
 cleans_by : {T : Type 0} (n : ℕ) (l : Line) (s : Service) (test : Seat → Bool) (c : Seat) (b : Bool) → Tidy s → FitsIn s n l → find_by test s.seats ≡ Some c
     → IsAlone {T = T} n l (if b then does s (suc s.given) test c (Some (Cleaning (suc s.given))) (line.Mark Full ∷ []) (Lent (suc s.given) c.number true) else nothing s NotNow)
@@ -235,7 +235,7 @@ step_alone n l s (Without call) tidy fits = nothing_alone n l s NoMemory tidy fi
 
 -- ---- All calls
 
-alone_by : {T : Type 0} (n : ℕ) (l : Line) (t : Step T) (b : Bool) (rest : List (Done T)) → (t.number == n) ≡ b → IsAlone n l t
+alone_by : {T : Type 0} (n : ℕ) (l : Line) (t : ServiceStep T) (b : Bool) (rest : List (Done T)) → (t.number == n) ≡ b → IsAlone n l t
     → ((k : Line) → FitsIn t.service n k → rest ≡ history k (acts_of rest))
     → on_one b t.dones rest ≡ history l (acts_of (on_one b t.dones rest))
 alone_by n l t false rest e k ih = ih l (k.other e)
@@ -255,9 +255,9 @@ alone n l s (call ∷ calls) tidy fits =
 
 line_after_both : {T : Type 0} (l : Line) (xs ys : List (Act T)) → line_after l (xs ++ ys) ≡ line_after (line_after l xs) ys
 line_after_both l [] ys = refl
-line_after_both l (x ∷ xs) ys = line_after_both (line.turn l x).line xs ys
+line_after_both l (x ∷ xs) ys = line_after_both (line.line_turn l x).line xs ys
 
-left_by : {T : Type 0} (n : ℕ) (l : Line) (t : Step T) (b : Bool) (rest : List (Done T)) (found : Line) → (t.number == n) ≡ b → IsAlone n l t
+left_by : {T : Type 0} (n : ℕ) (l : Line) (t : ServiceStep T) (b : Bool) (rest : List (Done T)) (found : Line) → (t.number == n) ≡ b → IsAlone n l t
     → ((k : Line) → FitsIn t.service n k → found ≡ line_after k (acts_of rest)) → found ≡ line_after l (acts_of (on_one b t.dones rest))
 left_by n l t false rest found e k ih = ih l (k.other e)
 left_by n l t true rest found e k ih =

@@ -8,7 +8,7 @@ use Rattle.tds_service.specs.declared.refusal.Refusal.TheVariants as refusals
 use Rattle.tds_service.specs.declared.seat.Seat as code
 use Rattle.tds_service.specs.Parts.{Part}
 use Rattle.tds_service.specs.Line as line
-use Rattle.tds_service.specs.Line.{Line, Answer, Packet, turn}
+use Rattle.tds_service.specs.Line.{Line, Answer, Packet, line_turn}
 use Rattle.tds_service.specs.History.{line_after}
 use Rattle.tds_service.specs.Packets.{told_of_part}
 use Rattle.tds_service.specs.Service.{Seat, Service, Did, lease_in, lease_at, drained, find_by, has_number, hears}
@@ -42,8 +42,8 @@ comes_here s number part lease request answer items lent news i here y before af
         bytes = subst (λ (ps : List Packet). Appends (ps ++ []) [] []) (sym h.quiet) ([], refl, refl);
       });
       answers = ap (λ (x : Option Seat). answers_in (hears s test part x).dones) found ∙ ap (λ (a : Answer). a ∷ []) h.answer_is;
-      told = told ∙ ap (λ (ts : List Token). before ++ ts) (sym (append-nil (tokens_in (turn l (line.Come part)).told)) ∙ ap (λ (x : Option Seat). told_in (hears s test part x).dones) (sym found));
-      owner = subst (λ (x : Option Seat). AllTo request (hears s test part x).dones) (sym found) (subst (λ (r : ℕ). IsTo r (turn l (line.Come part)).told) (sym requested) h.owner, tt);
+      told = told ∙ ap (λ (ts : List Token). before ++ ts) (sym (append-nil (tokens_in (line_turn l (line.Come part)).told)) ∙ ap (λ (x : Option Seat). told_in (hears s test part x).dones) (sym found));
+      owner = subst (λ (x : Option Seat). AllTo request (hears s test part x).dones) (sym found) (subst (λ (r : ℕ). IsTo r (line_turn l (line.Come part)).told) (sym requested) h.owner, tt);
       holder = ap lease_at found ∙ sym leased;
     }
 

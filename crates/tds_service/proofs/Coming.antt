@@ -3,7 +3,7 @@ use Rattle.std.proofs.Common.{◌≡◌, ◌∙◌, ◌&&◌, ℕ, Bool, true, f
 use Rattle.std.specs.Prelude.{Option, Some, None, Result, Ok, Err, MatchResult, IfOk, IfErr, not, if◌then◌else◌}
 use Rattle.tds_packet.specs.declared.status.Reset.{Reset}
 use Rattle.tds_wire.specs.declared.told.Token.{Token}
-use Rattle.tds_wire.specs.Reading.{Reading, Found, Sees, Inside, Refuses, is_between, next_token}
+use Rattle.tds_wire.specs.Reading.{Parser, Found, Sees, Inside, Refuses, is_between, next_token}
 use Rattle.tds_client.specs.declared.fault.ClientFault.{ClientFault}
 use Rattle.tds_client.specs.declared.fault.ClientFault.TheVariants as faults
 use Rattle.tds_client.specs.declared.heard.Heard.{Heard}
@@ -22,9 +22,9 @@ use Rattle.tds_listen.specs.declared.fault.ListenFault.TheVariants as listens
 use Rattle.tds_listen.specs.Faults.{broken_at, broken_at_end}
 use Rattle.tds_listen.specs.Hearing.{Move, heard_by, heard_end, moved_by, next_heard, settled_by, told_if, without_mark}
 use Rattle.tds_listen.specs.Signs.{sign_of}
-use Rattle.tds_service.specs.Parts.{Part, Goes, Ends, Cut, close_by, close_part, told, unless_owed, until_by}
+use Rattle.tds_service.specs.Parts.{Part, Goes, Ends, Cut, close_by, close_part, items_told, unless_owed, until_by}
 use Rattle.tds_service.specs.Line as line
-use Rattle.tds_service.specs.Line.{Line, Turn, comes, reads, skips, skips_to_end, turn}
+use Rattle.tds_service.specs.Line.{Line, Turn, comes, reads, skips, skips_to_end, line_turn}
 use Rattle.tds_service.specs.Ties.{stage_of, line_of, Hears, IsTo, Stands, end_at, items_of, part_of, taken_answer, tokens_in}
 use Rattle.tds_service.proofs.Alike.{line_at}
 
@@ -61,7 +61,7 @@ quietly s next h = quiet_in s next s.stage h
 -- The machine's turn is what the client's move is.
 abbrev pub Moves : ℕ → ClientSession → Turn Token → Result Move ListenFault → Type 0
 Moves n s t (Ok move) =
-    (line_of n move.session ≡ t.line) × (t.answer ≡ line.More) × (tokens_in t.told ≡ told (items_of move.told)) × IsTo n t.told × (t.sent ≡ [])
+    (line_of n move.session ≡ t.line) × (t.answer ≡ line.More) × (tokens_in t.told ≡ items_told (items_of move.told)) × IsTo n t.told × (t.sent ≡ [])
 Moves n s t (Err fault) = (line_of n (broken_at s fault) ≡ t.line) × (t.answer ≡ line.Fault fault) × (tokens_in t.told ≡ []) × IsTo n t.told × (t.sent ≡ [])
 
 abbrev moved_at : session.Stage → ClientSession → Found → Result Move ListenFault
@@ -77,13 +77,13 @@ module _ (n : ℕ) (s : ClientSession) where
   lost_at : (k : session.Stage) → s.stage ≡ k → line_of n (session.lost s) ≡ record { asked = n; stage = stage_of (session.lost_stage k); heard = s.heard }
   lost_at k e = ap (λ (k : session.Stage). let l : Line = record { asked = n; stage = stage_of (session.lost_stage k); heard = s.heard } in l) e
 
-  reads_token : (token : Token) (r : Reading) (rest : List ℕ) (x : Result Heard ClientFault) → s.stage ≡ session.Reading
+  reads_token : (token : Token) (r : Parser) (rest : List ℕ) (x : Result Heard ClientFault) → s.stage ≡ session.Reading
       → Moves n s (reads (line_at n s session.Reading) (part_of (Sees token r rest)) false (until_by s.heard x (λ next. next)) (heard_by (x >>= λ next. Ok next) (λ next. close_part false Goes next)))
       (heard_by (x >>= λ heard. Ok (with_heard s heard)) (λ next. Ok (record { told = Some token; session = next; reading = r; rest = rest })))
   reads_token token r rest (Ok heard) e = (at_stage session.Reading heard e, refl, refl, refl, refl)
   reads_token token r rest (Err fault) e = (refl, refl, refl, tt, refl)
 
-  skips_token : (token : Token) (r : Reading) (rest : List ℕ) (x : Result Heard ClientFault) → s.stage ≡ session.Cancelling
+  skips_token : (token : Token) (r : Parser) (rest : List ℕ) (x : Result Heard ClientFault) → s.stage ≡ session.Cancelling
       → Moves n s (skips (line_at n s session.Cancelling) false (until_by s.heard x (λ next. next)) (heard_by (x >>= λ next. Ok next) (λ next. close_part true Goes next)))
       (heard_by (x >>= λ heard. Ok (with_heard s heard)) (λ next. Ok (record { told = None; session = next; reading = r; rest = rest })))
   skips_token token r rest (Ok heard) e = (at_stage session.Cancelling heard e, refl, refl, tt, refl)
@@ -102,16 +102,16 @@ module _ (n : ℕ) (s : ClientSession) where
   comes_in (session.Broken fault) f next e h = absurd (let u : ⊥ = cc in u)
 
   at_found : (f : Found) → Moves n s (comes (line_of n s) (part_of f) (stage_of s.stage)) (moved_at s.stage s f)
-      → (r : Reading) (piece : List ℕ) → next_token r piece ≡ f → Moves n s (turn (line_of n s) (line.Come (part_of (next_token r piece)))) (next_heard s r piece)
+      → (r : Parser) (piece : List ℕ) → next_token r piece ≡ f → Moves n s (line_turn (line_of n s) (line.Come (part_of (next_token r piece)))) (next_heard s r piece)
   at_found (Sees token r rest) m reading piece e =
-      subst (λ (f : Found). Moves n s (turn (line_of n s) (line.Come (part_of f))) (moved_by s f)) (sym e) m
+      subst (λ (f : Found). Moves n s (line_turn (line_of n s) (line.Come (part_of f))) (moved_by s f)) (sym e) m
   at_found (Inside r) m reading piece e =
-      subst (λ (f : Found). Moves n s (turn (line_of n s) (line.Come (part_of f))) (moved_by s f)) (sym e) m
+      subst (λ (f : Found). Moves n s (line_turn (line_of n s) (line.Come (part_of f))) (moved_by s f)) (sym e) m
   at_found (Refuses refusal) m reading piece e =
-      subst (λ (f : Found). Moves n s (turn (line_of n s) (line.Come (part_of f))) (moved_by s f)) (sym e) m
+      subst (λ (f : Found). Moves n s (line_turn (line_of n s) (line.Come (part_of f))) (moved_by s f)) (sym e) m
 
-  pub comes_alike : (r : Reading) (piece : List ℕ) (next : ClientSession) → signed Any s signs.Nothing ≡ Ok next
-      → Moves n s (turn (line_of n s) (line.Come (part_of (next_token r piece)))) (next_heard s r piece)
+  pub comes_alike : (r : Parser) (piece : List ℕ) (next : ClientSession) → signed Any s signs.Nothing ≡ Ok next
+      → Moves n s (line_turn (line_of n s) (line.Come (part_of (next_token r piece)))) (next_heard s r piece)
   comes_alike r piece next h = at_found (next_token r piece) (comes_in s.stage (next_token r piece) next refl h) r piece refl
 
   -- What comes where nothing is awaited.
@@ -181,35 +181,35 @@ module _ (n : ℕ) (s : ClientSession) where
   ends_in session.Cancelling false e = skips_end (may_end Any true s.heard.done)
   ends_in (session.Broken fault) between e = (refl, refl, refl, tt, refl)
 
-  pub ends_alike : (r : Reading) → Closes (turn (line_of n s) (line.Come (end_at r))) (heard_end s r)
+  pub ends_alike : (r : Parser) → Closes (line_turn (line_of n s) (line.Come (end_at r))) (heard_end s r)
   ends_alike r = ends_in s.stage (is_between r) refl
 
 -- ---- By what a call answers
 
-hears_ok : (n : ℕ) (s next : ClientSession) (r reading : Reading) (piece left : List ℕ) (some : Option Token) (tokens : List Token)
+hears_ok : (n : ℕ) (s next : ClientSession) (r reading : Parser) (piece left : List ℕ) (some : Option Token) (tokens : List Token)
     → signed Any s signs.Nothing ≡ Ok s
-    → next_heard s r piece ≡ Ok (record { told = some; session = next; reading = reading; rest = left }) → tokens ≡ told (items_of some)
+    → next_heard s r piece ≡ Ok (record { told = some; session = next; reading = reading; rest = left }) → tokens ≡ items_told (items_of some)
     → Hears (part_of (next_token r piece)) (line_of n s) (line_of n next) line.More tokens
 hears_ok n s next r reading piece left some tokens h e is =
-    let m = subst (Moves n s (turn (line_of n s) (line.Come (part_of (next_token r piece))))) e (comes_alike n s r piece s h) in
+    let m = subst (Moves n s (line_turn (line_of n s) (line.Come (part_of (next_token r piece))))) e (comes_alike n s r piece s h) in
     record { line_is = m.0; answer_is = m.1; told_is = m.2 ∙ sym is; owner = m.3; quiet = m.4 }
 
-pub came_ok : (n : ℕ) (s first next : ClientSession) (r reading : Reading) (piece left : List ℕ) (some : Option Token) (tokens : List Token)
+pub came_ok : (n : ℕ) (s first next : ClientSession) (r reading : Parser) (piece left : List ℕ) (some : Option Token) (tokens : List Token)
     → signed Any s signs.Nothing ≡ Ok first
-    → next_heard first r piece ≡ Ok (record { told = some; session = next; reading = reading; rest = left }) → tokens ≡ told (items_of some)
+    → next_heard first r piece ≡ Ok (record { told = some; session = next; reading = reading; rest = left }) → tokens ≡ items_told (items_of some)
     → Hears (part_of (next_token r piece)) (line_of n s) (line_of n next) line.More tokens
 came_ok n s first next r reading piece left some tokens h e is =
     let same = quietly s first h in
     hears_ok n s next r reading piece left some tokens (h ∙ ap (okay ClientFault) same)
     (subst (λ (x : ClientSession). next_heard x r piece ≡ Ok (record { told = some; session = next; reading = reading; rest = left })) same e) is
 
-hears_fault : (n : ℕ) (s : ClientSession) (r : Reading) (piece : List ℕ) (fault : ListenFault) → signed Any s signs.Nothing ≡ Ok s → next_heard s r piece ≡ Err fault
+hears_fault : (n : ℕ) (s : ClientSession) (r : Parser) (piece : List ℕ) (fault : ListenFault) → signed Any s signs.Nothing ≡ Ok s → next_heard s r piece ≡ Err fault
     → Hears (part_of (next_token r piece)) (line_of n s) (line_of n (broken_at s fault)) (line.Fault fault) []
 hears_fault n s r piece fault h e =
-    let m = subst (Moves n s (turn (line_of n s) (line.Come (part_of (next_token r piece))))) e (comes_alike n s r piece s h) in
+    let m = subst (Moves n s (line_turn (line_of n s) (line.Come (part_of (next_token r piece))))) e (comes_alike n s r piece s h) in
     record { line_is = m.0; answer_is = m.1; told_is = m.2; owner = m.3; quiet = m.4 }
 
-pub came_fault : (n : ℕ) (s first next : ClientSession) (r : Reading) (piece : List ℕ) (fault : ListenFault) → signed Any s signs.Nothing ≡ Ok first
+pub came_fault : (n : ℕ) (s first next : ClientSession) (r : Parser) (piece : List ℕ) (fault : ListenFault) → signed Any s signs.Nothing ≡ Ok first
     → next_heard first r piece ≡ Err fault → next ≡ broken_at first fault
     → Hears (part_of (next_token r piece)) (line_of n s) (line_of n next) (line.Fault fault) []
 came_fault n s first next r piece fault h e is =
@@ -224,7 +224,7 @@ came_unawaited n s next part fault h is =
     subst (λ (x : ClientSession). Hears part (line_of n s) (line_of n x) (line.Fault (listens.Client fault)) []) (sym is) (unawaited_alike n s part fault h)
 
 -- where the parser stands
-stands_in : (s : ClientSession) (f : Found) (next : ClientSession) (reading : Reading) (left : List ℕ) (some : Option Token)
+stands_in : (s : ClientSession) (f : Found) (next : ClientSession) (reading : Parser) (left : List ℕ) (some : Option Token)
     → moved_by s f ≡ Ok (record { told = some; session = next; reading = reading; rest = left }) → Stands f reading left
 stands_in s (Sees token r rest) next reading left some e = sees (signed Any s (sign_of token)) e
   where
@@ -238,20 +238,20 @@ stands_in s (Inside r) next reading left some e =
     let same = ok_same ListenFault _ _ e in (sym (ap (λ (m : Move). m.reading) same), sym (ap (λ (m : Move). m.rest) same))
 stands_in s (Refuses refusal) next reading left some e = absurd (let u : ⊥ = cc in u)
 
-pub stands : (s next : ClientSession) (r reading : Reading) (piece left : List ℕ) (some : Option Token)
+pub stands : (s next : ClientSession) (r reading : Parser) (piece left : List ℕ) (some : Option Token)
     → next_heard s r piece ≡ Ok (record { told = some; session = next; reading = reading; rest = left }) → Stands (next_token r piece) reading left
 stands s next r reading piece left some e = stands_in s (next_token r piece) next reading left some e
 
-module _ (n : ℕ) (s next : ClientSession) (r : Reading) where
+module _ (n : ℕ) (s next : ClientSession) (r : Parser) where
   pub ended_ok : (answer : Taken) → heard_end s r ≡ Ok (record { answer = answer; session = next })
       → Hears (end_at r) (line_of n s) (line_of n next) (taken_answer n answer) []
   ended_ok answer e =
-      let m = subst (Closes n s (turn (line_of n s) (line.Come (end_at r)))) e (ends_alike n s r) in
+      let m = subst (Closes n s (line_turn (line_of n s) (line.Come (end_at r)))) e (ends_alike n s r) in
       record { line_is = m.0; answer_is = m.1; told_is = m.2; owner = m.3; quiet = m.4 }
 
   pub ended_fault : (fault : ListenFault) → heard_end s r ≡ Err fault → next ≡ broken_at_end s fault → Hears (end_at r) (line_of n s) (line_of n next) (line.Fault fault) []
   ended_fault fault e is =
-      let m = subst (Closes n s (turn (line_of n s) (line.Come (end_at r)))) e (ends_alike n s r) in
+      let m = subst (Closes n s (line_turn (line_of n s) (line.Come (end_at r)))) e (ends_alike n s r) in
       record { line_is = ap (line_of n) is ∙ m.0; answer_is = m.1; told_is = m.2; owner = m.3; quiet = m.4 }
 
   pub ends_ok : (result : Result Taken ListenFault)

@@ -2,7 +2,7 @@
 use Rattle.std.proofs.Common.{◌≡◌, ◌&&◌, Bool, true, false, refl, subst}
 use Rattle.std.specs.Prelude.{Option, Some, None, not, Result, Ok, Err, MatchResult, if◌then◌else◌}
 use Rattle.tds_packet.specs.declared.status.Reset.{Reset}
-use Rattle.tds_wire.specs.Reading.{Reading, is_between}
+use Rattle.tds_wire.specs.Reading.{Parser, is_between}
 use Rattle.tds_client.specs.declared.fault.ClientFault.{ClientFault}
 use Rattle.tds_client.specs.declared.heard.FinalDone.{FinalDone}
 use Rattle.tds_client.specs.declared.heard.FinalDone.TheVariants.{Awaited, Answered, Acknowledged}
@@ -57,7 +57,7 @@ cut_or : (s : ClientSession) (move : ItemMove) (cut : Bool)
 cut_or s move true e = absurd (let u : ⊥ = cc in u)
 cut_or s move false e = closes s move (ended_in Any s.stage s) refl e
 
-pub end_needs_none : (s next : ClientSession) (r : Reading) (result : Result Taken ListenFault)
+pub end_needs_none : (s next : ClientSession) (r : Parser) (result : Result Taken ListenFault)
     → MatchResult result (λ answer. heard_end s r ≡ Ok (record { answer = answer; session = next })) (λ fault. heard_end s r ≡ Err fault)
     → result ≡ Ok takes.NoMemory → ⊥
 end_needs_none s next r (Ok answer) exact is =

@@ -14,9 +14,9 @@ use Rattle.tds_service.specs.declared.place.Rest.{Rest}
 use Rattle.tds_service.specs.declared.place.Rest.TheVariants as resting
 use Rattle.tds_service.specs.declared.seat.Seat as code
 use Rattle.tds_service.specs.declared.service.Service as services
-use Rattle.tds_service.specs.Line.{Stage}
+use Rattle.tds_service.specs.Line.{LineStage}
 use Rattle.tds_service.specs.Service.{Place, Leased, Cleaning, Kept, Free, Draining, Seat, drained, find_by, has_lease, has_number, holds, is_free, is_idle, is_lendable, keeps, lease_in}
-use Rattle.tds_service.specs.Table.{client_by, client_of, met, place_of, rest_of, seat_in, seats_in, without_closed, DoesAt, IsAt, Moves, Opens}
+use Rattle.tds_service.specs.Table.{client_by, client_of, met, place_of, rest_of, seat_in, seats_in, without_closed, DoesAt, IsAt, TurnsInto, BeginsMessage}
 use Rattle.tds_service.specs.Ties.{line_in}
 use Rattle.tds_service.proofs.Numbered.{same_number}
 use Rattle.tds_service.proofs.Tables.{Here, meets_here, taken_set}
@@ -74,7 +74,7 @@ drained_none : (l : ℕ) (b : Bool) → holds l (if b then Free else Draining) �
 drained_none l true = refl
 drained_none l false = refl
 
-pub drained_held : (l : ℕ) (place : Place) (stage : Stage) → holds l place ≡ false → holds l (drained place stage) ≡ false
+pub drained_held : (l : ℕ) (place : Place) (stage : LineStage) → holds l place ≡ false → holds l (drained place stage) ≡ false
 drained_held l (Leased a) stage e = e
 drained_held l (Cleaning a) stage e = e
 drained_held l (Kept a) stage e = refl
@@ -180,7 +180,7 @@ held_here lease old lent i here =
 -- the seat of a lease has another client
 pub moves_here : (lease : ℕ) (old new : services.Service) (lent news : List code.Seat) (i : ℕ) (here : Here (has_lease lease) old.seats.items lent i) (y : code.Seat)
     → lent ≡ old.seats.items → news ≡ set lent i y → new.seats.items ≡ news → y.place ≡ here.seat.place
-    → Moves lease old new here.seat.connection.client y.connection.client
+    → TurnsInto lease old new here.seat.connection.client y.connection.client
 moves_here lease old new lent news i here y same changed is place =
     let items = old.seats.items in
     let test = has_lease lease in
@@ -193,10 +193,10 @@ moves_here lease old new lent news i here y same changed is place =
 
 -- it began a message; it did what it does
 pub opens_here : (kind : MessageKind) (lease : ℕ) (old new : services.Service) (lent news : List code.Seat) (i : ℕ) (here : Here (has_lease lease) old.seats.items lent i) (y : code.Seat)
-    → lent ≡ old.seats.items → news ≡ set lent i y → new.seats.items ≡ news → y.place ≡ here.seat.place → y.connection.client ≡ opened here.seat.connection.client kind → Opens kind lease old new
+    → lent ≡ old.seats.items → news ≡ set lent i y → new.seats.items ≡ news → y.place ≡ here.seat.place → y.connection.client ≡ opened here.seat.connection.client kind → BeginsMessage kind lease old new
 opens_here kind lease old new lent news i here y same changed is place began =
     let s = here.seat.connection.client in
-    (s, subst (λ (x : ClientSession). Moves lease old new s x) began (moves_here lease old new lent news i here y same changed is place))
+    (s, subst (λ (x : ClientSession). TurnsInto lease old new s x) began (moves_here lease old new lent news i here y same changed is place))
 
 pub does_here : (act : ClientSession → Result (Effect (Unit {0})) ClientRefusal) (lease : ℕ) (old new : services.Service) (lent news : List code.Seat) (i : ℕ) (here : Here (has_lease lease) old.seats.items lent i) (y : code.Seat)
     (before after : List ℕ) → lent ≡ old.seats.items → news ≡ set lent i y → new.seats.items ≡ news → y.place ≡ here.seat.place

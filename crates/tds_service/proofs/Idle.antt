@@ -10,12 +10,12 @@ use Rattle.tds_client.specs.declared.heard.FinalDone.{FinalDone}
 use Rattle.tds_client.specs.declared.heard.FinalDone.TheVariants.{Awaited, Answered, Acknowledged}
 use Rattle.tds_client.specs.Hearing.{with_done}
 use Rattle.tds_service.specs.Parts.{Part, is_end, hear_part, heard_until}
-use Rattle.tds_service.specs.Line.{Line, new_line, Act, Mark, Ask, Send, Cancel, Come, Lose, Stage, Idle, Sending, Reading, Cancelling, Broken, turn, reads, skips, skips_to_end, cause, left_by}
+use Rattle.tds_service.specs.Line.{Line, new_line, Act, Mark, Ask, Send, Cancel, Come, Lose, LineStage, Idle, Sending, Reading, Cancelling, Broken, line_turn, reads, skips, skips_to_end, cause, left_by}
 use Rattle.tds_service.specs.History.{Done, done_by, history, line_after, acts_of}
 use Rattle.tds_service.specs.Refusing.{packets, refusal_in}
 use Rattle.tds_service.specs.Lending.{awaited, LendsIdle}
 use Rattle.tds_service.specs.Service as calls
-use Rattle.tds_service.specs.Service.{Place, Cleaning, Free, Draining, acts_unless, cleans, cleaned, clean_place, rests_cleaned, is_free, Seat, Service, new_service, Call, Step, Leased, Kept, Lent, Ticket, NotNow, nothing, does, find_by, seat_numbered, has_lease, has_ticket, has_number, is_lendable, is_idle, is_open, acts, opens, lends, resumes, gives_back, keeps_it, abandons, hears, loses, step, steps, service_after, on, on_one}
+use Rattle.tds_service.specs.Service.{Place, Cleaning, Free, Draining, acts_unless, cleans, cleaned, clean_place, rests_cleaned, is_free, Seat, Service, new_service, Call, ServiceStep, Leased, Kept, Lent, Ticket, NotNow, nothing, does, find_by, seat_numbered, has_lease, has_ticket, has_number, is_lendable, is_idle, is_open, acts, opens, lends, resumes, gives_back, keeps_it, abandons, hears, loses, step, steps, service_after, on, on_one}
 use Rattle.tds_service.proofs.Pairing.{line, with_mark}
 use Rattle.tds_service.proofs.Walks.{awaits}
 use Rattle.tds_service.proofs.Alone.{Tidy, FitsIn, IsAlone, step_alone, fits_here, acts_of_history, acts_of_both, each_alone}
@@ -23,27 +23,27 @@ use Rattle.tds_service.proofs.Numbered.{is_found}
 use Rattle.tds_service.proofs.Lends.{free_idle, idle_both, idle_stage}
 
 awaits_along_reads : {T : Type 0} (n : ℕ) (h : Heard) (part : Part T) (ends : Bool) (u : Heard) (result : Result Heard ListenFault) (acts : List (Act T))
-    → ((s : Stage) (h : Heard) → awaited (awaits s) (history (line n s h) acts) ≡ awaits (line_after (line n s h) acts).stage)
+    → ((s : LineStage) (h : Heard) → awaited (awaits s) (history (line n s h) acts) ≡ awaits (line_after (line n s h) acts).stage)
     → awaited (awaits Reading) (done_by (Come part) (reads (line n Reading h) part ends u result) ∷ history (reads (line n Reading h) part ends u result).line acts) ≡ awaits (line_after (reads (line n Reading h) part ends u result).line acts).stage
 awaits_along_reads n h part ends u (Err fault) acts ih = ih (Broken (cause fault)) (left_by fault u)
 awaits_along_reads n h part false u (Ok heard) acts ih = ih Reading heard
 awaits_along_reads n h part true u (Ok heard) acts ih = ih Idle (with_done heard Awaited)
 
 awaits_along_skips_to_end : {T : Type 0} (n : ℕ) (h heard : Heard) (part : Part T) (done : FinalDone) (acts : List (Act T))
-    → ((s : Stage) (h : Heard) → awaited (awaits s) (history (line n s h) acts) ≡ awaits (line_after (line n s h) acts).stage)
+    → ((s : LineStage) (h : Heard) → awaited (awaits s) (history (line n s h) acts) ≡ awaits (line_after (line n s h) acts).stage)
     → awaited (awaits Cancelling) (done_by (Come part) (skips_to_end {T = T} (line n Cancelling h) heard done) ∷ history (skips_to_end {T = T} (line n Cancelling h) heard done).line acts) ≡ awaits (line_after (skips_to_end {T = T} (line n Cancelling h) heard done).line acts).stage
 awaits_along_skips_to_end n h heard part Awaited acts ih = ih Cancelling (with_done heard Awaited)
 awaits_along_skips_to_end n h heard part Answered acts ih = ih Cancelling (with_done heard Awaited)
 awaits_along_skips_to_end n h heard part Acknowledged acts ih = ih Idle (with_done heard Awaited)
 
 awaits_along_skips : {T : Type 0} (n : ℕ) (h : Heard) (part : Part T) (ends : Bool) (u : Heard) (result : Result Heard ListenFault) (acts : List (Act T))
-    → ((s : Stage) (h : Heard) → awaited (awaits s) (history (line n s h) acts) ≡ awaits (line_after (line n s h) acts).stage)
+    → ((s : LineStage) (h : Heard) → awaited (awaits s) (history (line n s h) acts) ≡ awaits (line_after (line n s h) acts).stage)
     → awaited (awaits Cancelling) (done_by (Come part) (skips {T = T} (line n Cancelling h) ends u result) ∷ history (skips {T = T} (line n Cancelling h) ends u result).line acts) ≡ awaits (line_after (skips {T = T} (line n Cancelling h) ends u result).line acts).stage
 awaits_along_skips n h part ends u (Err fault) acts ih = ih (Broken (cause fault)) (left_by fault u)
 awaits_along_skips n h part false u (Ok heard) acts ih = ih Cancelling heard
 awaits_along_skips n h part true u (Ok heard) acts ih = awaits_along_skips_to_end n h heard part heard.done acts ih
 
-pub awaits_along : {T : Type 0} (n : ℕ) (s : Stage) (h : Heard) (acts : List (Act T)) → awaited (awaits s) (history (line n s h) acts) ≡ awaits (line_after (line n s h) acts).stage
+pub awaits_along : {T : Type 0} (n : ℕ) (s : LineStage) (h : Heard) (acts : List (Act T)) → awaited (awaits s) (history (line n s h) acts) ≡ awaits (line_after (line n s h) acts).stage
 awaits_along n s h [] = refl
 awaits_along n Idle h (Mark reset ∷ acts) = awaits_along n Idle (with_mark h reset) acts
 awaits_along n Idle h (Ask ∷ acts) = awaits_along (suc n) (Sending false) h acts
@@ -82,7 +82,7 @@ awaits_along n (Broken fault) h (Lose ∷ acts) = awaits_along n (Broken fault) 
 
 after_both : {T : Type 0} (l : Line) (xs ys : List (Act T)) → line_after l (xs ++ ys) ≡ line_after (line_after l xs) ys
 after_both l [] ys = refl
-after_both l (x ∷ xs) ys = after_both (turn l x).line xs ys
+after_both l (x ∷ xs) ys = after_both (line_turn l x).line xs ys
 
 pub record Behind {T : Type 0} (n : ℕ) (l : Line) (s : Service) (ds : List (Done T)) : Type 0 where
   pub tidy : Tidy s
@@ -97,7 +97,7 @@ joined n l s xs rest b = record {
       b.fits;
 }
 
-behind_by : {T : Type 0} (n : ℕ) (l : Line) (s : Service) (t : Step T) (b : Bool) (rest : List (Done T)) → (t.number == n) ≡ b → IsAlone n l t
+behind_by : {T : Type 0} (n : ℕ) (l : Line) (s : Service) (t : ServiceStep T) (b : Bool) (rest : List (Done T)) → (t.number == n) ≡ b → IsAlone n l t
     → ((k : Line) → FitsIn t.service n k → Behind n k s rest) → Behind n l s (on_one b t.dones rest)
 behind_by n l s t false rest e k ih = ih l (k.other e)
 behind_by n l s t true rest e k ih =
@@ -126,77 +126,77 @@ idle_at {T} max before test c e idle =
 
 -- ---- Each call
 
-quiet_unless : {T : Type 0} (ts : List (Step T)) (s : Service) (test : Seat → Bool) (c : Seat) (all : List (Act T)) (why : Option ClientRefusal) → LendsIdle ts (acts_unless s test c all why).reply
+quiet_unless : {T : Type 0} (ts : List (ServiceStep T)) (s : Service) (test : Seat → Bool) (c : Seat) (all : List (Act T)) (why : Option ClientRefusal) → LendsIdle ts (acts_unless s test c all why).reply
 quiet_unless ts s test c all None = tt
 quiet_unless ts s test c all (Some why) = tt
 
-quiet_acts : {T : Type 0} (ts : List (Step T)) (s : Service) (test : Seat → Bool) (first : Act T) (all : List (Act T)) (seat : Option Seat) → LendsIdle ts (acts s test first all seat).reply
+quiet_acts : {T : Type 0} (ts : List (ServiceStep T)) (s : Service) (test : Seat → Bool) (first : Act T) (all : List (Act T)) (seat : Option Seat) → LendsIdle ts (acts s test first all seat).reply
 quiet_acts ts s test first all None = tt
-quiet_acts ts s test first all (Some c) = quiet_unless ts s test c all (refusal_in (turn c.line first).answer)
+quiet_acts ts s test first all (Some c) = quiet_unless ts s test c all (refusal_in (line_turn c.line first).answer)
 
-cleans_by : (T : Type 0) (ts : List (Step T)) (s : Service) (test : Seat → Bool) (c : Seat) (b : Bool) → is_lendable c ≡ b
+cleans_by : (T : Type 0) (ts : List (ServiceStep T)) (s : Service) (test : Seat → Bool) (c : Seat) (b : Bool) → is_lendable c ≡ b
     → (is_lendable c ≡ true → awaited false (on c.number ts) ≡ false)
     → let t = (if b then does {T = T} s (suc s.given) test c (Some (Cleaning (suc s.given))) (Mark Full ∷ []) (Lent (suc s.given) c.number true) else nothing s NotNow)
     in LendsIdle ts t.reply
 cleans_by T ts s test c true e h = h e
 cleans_by T ts s test c false e h = tt
 
-cleans_one : (T : Type 0) (ts : List (Step T)) (s : Service) (test : Seat → Bool) (seat : Option Seat)
+cleans_one : (T : Type 0) (ts : List (ServiceStep T)) (s : Service) (test : Seat → Bool) (seat : Option Seat)
     → ((c : Seat) → seat ≡ Some c → is_lendable c ≡ true → awaited false (on c.number ts) ≡ false) → LendsIdle ts (cleans {T = T} s test seat).reply
 cleans_one T ts s test None h = tt
 cleans_one T ts s test (Some c) h = cleans_by T ts s test c (is_lendable c) refl (h c refl)
 
-quiet_rests : (T : Type 0) (ts : List (Step T)) (s : Service) (test : Seat → Bool) (c : Seat) (place : Option (Option Place)) → LendsIdle ts (rests_cleaned {T = T} s test c place).reply
+quiet_rests : (T : Type 0) (ts : List (ServiceStep T)) (s : Service) (test : Seat → Bool) (c : Seat) (place : Option (Option Place)) → LendsIdle ts (rests_cleaned {T = T} s test c place).reply
 quiet_rests T ts s test c None = tt
 quiet_rests T ts s test c (Some place) = tt
 
-quiet_cleaned : (T : Type 0) (ts : List (Step T)) (s : Service) (test : Seat → Bool) (seat : Option Seat) → LendsIdle ts (cleaned {T = T} s test seat).reply
+quiet_cleaned : (T : Type 0) (ts : List (ServiceStep T)) (s : Service) (test : Seat → Bool) (seat : Option Seat) → LendsIdle ts (cleaned {T = T} s test seat).reply
 quiet_cleaned T ts s test None = tt
 quiet_cleaned T ts s test (Some c) = quiet_rests T ts s test c (clean_place c.place c.line)
 
-quiet_opens : (T : Type 0) (ts : List (Step T)) (s : Service) (room : Bool) → LendsIdle ts (opens {T = T} s room).reply
+quiet_opens : (T : Type 0) (ts : List (ServiceStep T)) (s : Service) (room : Bool) → LendsIdle ts (opens {T = T} s room).reply
 quiet_opens T ts s false = tt
 quiet_opens T ts s true = tt
 
-lends_one : (T : Type 0) (ts : List (Step T)) (s : Service) (seat : Option Seat) → ((c : Seat) → seat ≡ Some c → awaited false (on c.number ts) ≡ false) → LendsIdle ts (lends {T = T} s seat).reply
+lends_one : (T : Type 0) (ts : List (ServiceStep T)) (s : Service) (seat : Option Seat) → ((c : Seat) → seat ≡ Some c → awaited false (on c.number ts) ≡ false) → LendsIdle ts (lends {T = T} s seat).reply
 lends_one T ts s None h = quiet_opens T ts s (nat_lt (length s.seats) s.max)
 lends_one T ts s (Some c) h = h c refl
 
-resumes_by : (T : Type 0) (ts : List (Step T)) (s : Service) (test : Seat → Bool) (c : Seat) (b : Bool) → is_idle c.line.stage ≡ b
+resumes_by : (T : Type 0) (ts : List (ServiceStep T)) (s : Service) (test : Seat → Bool) (c : Seat) (b : Bool) → is_idle c.line.stage ≡ b
     → (is_idle c.line.stage ≡ true → awaited false (on c.number ts) ≡ false)
     → let t = (if b then does {T = T} s (suc s.given) test c (Some (Leased (suc s.given))) (Mark KeepTransaction ∷ []) (Lent (suc s.given) c.number true) else nothing s NotNow)
     in LendsIdle ts t.reply
 resumes_by T ts s test c true e h = h e
 resumes_by T ts s test c false e h = tt
 
-resumes_one : (T : Type 0) (ts : List (Step T)) (s : Service) (test : Seat → Bool) (seat : Option Seat)
+resumes_one : (T : Type 0) (ts : List (ServiceStep T)) (s : Service) (test : Seat → Bool) (seat : Option Seat)
     → ((c : Seat) → seat ≡ Some c → is_idle c.line.stage ≡ true → awaited false (on c.number ts) ≡ false) → LendsIdle ts (resumes {T = T} s test seat).reply
 resumes_one T ts s test None h = tt
 resumes_one T ts s test (Some c) h = resumes_by T ts s test c (is_idle c.line.stage) refl (h c refl)
 
-quiet_back : (T : Type 0) (ts : List (Step T)) (s : Service) (test : Seat → Bool) (seat : Option Seat) → LendsIdle ts (gives_back {T = T} s test seat).reply
+quiet_back : (T : Type 0) (ts : List (ServiceStep T)) (s : Service) (test : Seat → Bool) (seat : Option Seat) → LendsIdle ts (gives_back {T = T} s test seat).reply
 quiet_back T ts s test None = tt
 quiet_back T ts s test (Some c) = tt
 
-quiet_keeps_by : (T : Type 0) (ts : List (Step T)) (s : Service) (test : Seat → Bool) (c : Seat) (b : Bool)
+quiet_keeps_by : (T : Type 0) (ts : List (ServiceStep T)) (s : Service) (test : Seat → Bool) (c : Seat) (b : Bool)
     → let t = (if b then does {T = T} s (suc s.given) test c (Some (Kept (suc s.given))) [] (Ticket (suc s.given)) else nothing s NotNow)
     in LendsIdle ts t.reply
 quiet_keeps_by T ts s test c true = tt
 quiet_keeps_by T ts s test c false = tt
 
-quiet_keeps : (T : Type 0) (ts : List (Step T)) (s : Service) (test : Seat → Bool) (seat : Option Seat) → LendsIdle ts (keeps_it {T = T} s test seat).reply
+quiet_keeps : (T : Type 0) (ts : List (ServiceStep T)) (s : Service) (test : Seat → Bool) (seat : Option Seat) → LendsIdle ts (keeps_it {T = T} s test seat).reply
 quiet_keeps T ts s test None = tt
 quiet_keeps T ts s test (Some c) = quiet_keeps_by T ts s test c (is_idle c.line.stage && is_open c.line.heard.mark c.line.heard.descriptor)
 
-quiet_abandons : (T : Type 0) (ts : List (Step T)) (s : Service) (test : Seat → Bool) (seat : Option Seat) → LendsIdle ts (abandons {T = T} s test seat).reply
+quiet_abandons : (T : Type 0) (ts : List (ServiceStep T)) (s : Service) (test : Seat → Bool) (seat : Option Seat) → LendsIdle ts (abandons {T = T} s test seat).reply
 quiet_abandons T ts s test None = tt
 quiet_abandons T ts s test (Some c) = tt
 
-quiet_hears : {T : Type 0} (ts : List (Step T)) (s : Service) (test : Seat → Bool) (part : Part T) (seat : Option Seat) → LendsIdle ts (hears s test part seat).reply
+quiet_hears : {T : Type 0} (ts : List (ServiceStep T)) (s : Service) (test : Seat → Bool) (part : Part T) (seat : Option Seat) → LendsIdle ts (hears s test part seat).reply
 quiet_hears ts s test part None = tt
 quiet_hears ts s test part (Some c) = tt
 
-quiet_loses : (T : Type 0) (ts : List (Step T)) (s : Service) (test : Seat → Bool) (seat : Option Seat) → LendsIdle ts (loses {T = T} s test seat).reply
+quiet_loses : (T : Type 0) (ts : List (ServiceStep T)) (s : Service) (test : Seat → Bool) (seat : Option Seat) → LendsIdle ts (loses {T = T} s test seat).reply
 quiet_loses T ts s test None = tt
 quiet_loses T ts s test (Some c) = tt
 

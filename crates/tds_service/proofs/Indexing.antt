@@ -11,7 +11,7 @@ use Rattle.tds_service.specs.declared.place.Rest.{Rest}
 use Rattle.tds_service.specs.declared.place.Rest.TheVariants as resting
 use Rattle.tds_service.specs.declared.seat.Seat as code
 use Rattle.tds_service.specs.Index.{IsIndex, FindEachOther, PutsAt, AddsId, ForgetsAny, ForgetsId, holder_in, holders_in, holder_of, number_held, one_held, held_among}
-use Rattle.tds_service.specs.Line.{Stage}
+use Rattle.tds_service.specs.Line.{LineStage}
 use Rattle.tds_service.specs.Rising.{RiseFrom, numbers_in}
 use Rattle.tds_service.specs.Service.{Place, Leased, Cleaning, Kept, Free, Draining, holds, keeps, drained, find_by, is_free, is_idle}
 use Rattle.tds_service.specs.Table.{FirstMet, IsAt, met, place_of, rest_of, seat_in, seats_in, test_of, id_of, without_closed}
@@ -42,7 +42,7 @@ rested_named : (b : Bool) → named (if b then Free else Draining) ≡ None
 rested_named true = refl
 rested_named false = refl
 
-drained_named : (p : Place) (stage : Stage) → named (drained p stage) ≡ named p
+drained_named : (p : Place) (stage : LineStage) → named (drained p stage) ≡ named p
 drained_named (Leased lease) stage = refl
 drained_named (Cleaning lease) stage = refl
 drained_named (Kept ticket) stage = refl
@@ -50,7 +50,7 @@ drained_named Free stage = refl
 drained_named Draining stage = rested_named (is_idle stage)
 
 -- what came changes nobody's hold
-pub drained_held : (p q : code_place.Place) (stage : Stage) → place_of q ≡ drained (place_of p) stage → holder_in q ≡ holder_in p
+pub drained_held : (p q : code_place.Place) (stage : LineStage) → place_of q ≡ drained (place_of p) stage → holder_in q ≡ holder_in p
 drained_held p q stage is = same_named q ∙ (ap named is ∙ (drained_named (place_of p) stage ∙ sym (same_named p)))
 
 pub lease_id : (lease : ℕ) (p : code_place.Place) → holds lease (place_of p) ≡ true → holder_in p ≡ Some lease

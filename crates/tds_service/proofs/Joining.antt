@@ -12,10 +12,10 @@ use Rattle.tds_client.specs.declared.sign.Sign.TheVariants as signs
 use Rattle.tds_client.specs.Hearing.{◌>>=◌, hear_sign}
 use Rattle.tds_listen.specs.declared.fault.ListenFault.{ListenFault}
 use Rattle.tds_listen.specs.Hearing.{heard_by}
-use Rattle.tds_service.specs.Parts.{Item, Part, Close, is_end, told, told_by, hear_items, hear_part, heard_until, until_by, close_part}
+use Rattle.tds_service.specs.Parts.{Item, Part, Close, is_end, items_told, told_by, hear_items, hear_part, heard_until, until_by, close_part}
 use Rattle.tds_service.specs.Packets.{awaiting, tells}
 use Rattle.tds_service.specs.Line as line
-use Rattle.tds_service.specs.Line.{Line, Turn, Answer, Told, Stage, turn, reads, skips, skips_to_end}
+use Rattle.tds_service.specs.Line.{Line, Turn, Answer, Told, LineStage, line_turn, reads, skips, skips_to_end}
 use Rattle.tds_service.specs.Ties.{IsTo, tokens_in}
 use Rattle.tds_service.proofs.Pairing.{line as line_at}
 
@@ -48,9 +48,9 @@ told_by_both signs.Nothing token a b c e = ap (λ ts. token ∷ ts) e
 told_by_both (signs.Change change) token a b c e = e
 told_by_both (signs.Done kind status) token a b c e = ap (λ ts. token ∷ ts) e
 
-pub told_both : (xs ys : List (Item Token)) → told (xs ++ ys) ≡ told xs ++ told ys
+pub told_both : (xs ys : List (Item Token)) → items_told (xs ++ ys) ≡ items_told xs ++ items_told ys
 told_both [] ys = refl
-told_both (x ∷ xs) ys = told_by_both x.sign x.token (told (xs ++ ys)) (told xs) (told ys) (told_both xs ys)
+told_both (x ∷ xs) ys = told_by_both x.sign x.token (items_told (xs ++ ys)) (items_told xs) (items_told ys) (told_both xs ys)
 
 -- ---- A part behind items that were heard
 
@@ -79,7 +79,7 @@ pub record Alike (n : ℕ) (before : List Token) (t u : Turn Token) : Type 0 whe
   pub owner : IsTo n t.told
 
 reads_alike : (n : ℕ) (h next until : Heard) (xs ys : List (Item Token)) (close : Close) (ends : Bool) (x : Result Heard ListenFault)
-    → Alike n (told xs) (reads (line_at n line.Reading h) (record { items = xs ++ ys; close = close }) ends until x)
+    → Alike n (items_told xs) (reads (line_at n line.Reading h) (record { items = xs ++ ys; close = close }) ends until x)
     (reads (line_at n line.Reading next) (record { items = ys; close = close }) ends until x)
 reads_alike n h next until xs ys close ends (Err fault) = record { line_is = refl; answer_is = refl; sent_is = refl; told_is = refl; owner = tt }
 reads_alike n h next until xs ys close false (Ok heard) = record { line_is = refl; answer_is = refl; sent_is = refl; told_is = told_both xs ys; owner = refl }
@@ -99,18 +99,18 @@ skips_alike n h next until true (Ok heard) = skips_to_end_alike n h next heard h
 
 -- A part whose first items were heard is what its rest is behind them.
 pub joins : (c : Bool) (n : ℕ) (h next : Heard) (xs ys : List (Item Token)) (close : Close) → hear_items c h xs ≡ Ok next
-    → Alike n (tells c xs) (turn (line_at n (awaiting c) h) (line.Come (record { items = xs ++ ys; close = close })))
-    (turn (line_at n (awaiting c) next) (line.Come (record { items = ys; close = close })))
+    → Alike n (tells c xs) (line_turn (line_at n (awaiting c) h) (line.Come (record { items = xs ++ ys; close = close })))
+    (line_turn (line_at n (awaiting c) next) (line.Come (record { items = ys; close = close })))
 joins false n h next xs ys close e =
     let part : Part Token = record { items = xs ++ ys; close = close } in
-    let u = turn (line_at n line.Reading next) (line.Come (record { items = ys; close = close })) in
+    let u = line_turn (line_at n line.Reading next) (line.Come (record { items = ys; close = close })) in
     let heard = ap (λ (x : Result Heard ClientFault). heard_by x (λ n. close_part false close n)) (hear_behind false h next xs ys e) in
-    subst (λ (k : Heard). Alike n (told xs) (reads (line_at n line.Reading h) part (is_end close) k (hear_part false h part)) u) (sym (until_behind false h next xs ys e))
-    (subst (λ (x : Result Heard ListenFault). Alike n (told xs) (reads (line_at n line.Reading h) part (is_end close) (heard_until false next ys) x) u) (sym heard)
+    subst (λ (k : Heard). Alike n (items_told xs) (reads (line_at n line.Reading h) part (is_end close) k (hear_part false h part)) u) (sym (until_behind false h next xs ys e))
+    (subst (λ (x : Result Heard ListenFault). Alike n (items_told xs) (reads (line_at n line.Reading h) part (is_end close) (heard_until false next ys) x) u) (sym heard)
     (reads_alike n h next (heard_until false next ys) xs ys close (is_end close) (hear_part false next (record { items = ys; close = close }))))
 joins true n h next xs ys close e =
     let part : Part Token = record { items = xs ++ ys; close = close } in
-    let u = turn (line_at n line.Cancelling next) (line.Come (record { items = ys; close = close })) in
+    let u = line_turn (line_at n line.Cancelling next) (line.Come (record { items = ys; close = close })) in
     let heard = ap (λ (x : Result Heard ClientFault). heard_by x (λ n. close_part true close n)) (hear_behind true h next xs ys e) in
     subst (λ (k : Heard). Alike n [] (skips (line_at n line.Cancelling h) (is_end close) k (hear_part true h part)) u) (sym (until_behind true h next xs ys e))
     (subst (λ (x : Result Heard ListenFault). Alike n [] (skips (line_at n line.Cancelling h) (is_end close) (heard_until true next ys) x) u) (sym heard)

@@ -4,7 +4,7 @@ use Rattle.std.proofs.Math.ListN.{set}
 use Rattle.std.proofs.lemmas.Bool.Decides.{nat_tests}
 use Rattle.std.specs.Prelude.{Option, None, Some, if◌then◌else◌}
 use Rattle.tds_client.specs.Parts.{left_of}
-use Rattle.tds_wire.specs.Reading.{Reading}
+use Rattle.tds_wire.specs.Reading.{Parser}
 use Rattle.tds_service.specs.declared.place.Rest.{Rest}
 use Rattle.tds_service.specs.declared.place.Rest.TheVariants as resting
 use Rattle.tds_service.specs.declared.seat.Seat as code
@@ -20,9 +20,9 @@ pub keeps_set : (n : ℕ) (d y : code.Seat) (cs : List code.Seat) (i : ℕ) → 
 keeps_set n d y [] i lt number parser = absurd (omega arith)
 keeps_set n d y (c ∷ cs) zero lt number parser =
     ap (λ (m : ℕ). if m == n then Some y.connection.parser else reading_by (has_number n) cs) number
-    ∙ ap (λ (r : Reading). if c.number == n then Some r else reading_by (has_number n) cs) parser
+    ∙ ap (λ (r : Parser). if c.number == n then Some r else reading_by (has_number n) cs) parser
 keeps_set n d y (c ∷ cs) (suc i) lt number parser =
-    ap (λ (x : Option Reading). if c.number == n then Some c.connection.parser else x) (keeps_set n d y cs i (omega arith) number parser)
+    ap (λ (x : Option Parser). if c.number == n then Some c.connection.parser else x) (keeps_set n d y cs i (omega arith) number parser)
 
 -- one of another number
 pub keeps_other : (n : ℕ) (d y : code.Seat) (cs : List code.Seat) (i : ℕ) → i < length cs → y.number ≡ (get_or cs i d).number → n ≢ (get_or cs i d).number
@@ -33,7 +33,7 @@ keeps_other n d y (c ∷ cs) zero lt number other =
     let f : (y.number == n) ≡ false = ap (λ (m : ℕ). m == n) number ∙ e in
     rw e (rw f refl)
 keeps_other n d y (c ∷ cs) (suc i) lt number other =
-    ap (λ (x : Option Reading). if c.number == n then Some c.connection.parser else x) (keeps_other n d y cs i (omega arith) number other)
+    ap (λ (x : Option Parser). if c.number == n then Some c.connection.parser else x) (keeps_other n d y cs i (omega arith) number other)
 
 -- another is taken out
 pub keeps_taken : (n : ℕ) (d : code.Seat) (cs : List code.Seat) (i : ℕ) → i < length cs → n ≢ (get_or cs i d).number
@@ -43,19 +43,19 @@ keeps_taken n d (c ∷ cs) zero lt other = let e : (c.number == n) ≡ false = g
 keeps_taken n d (c ∷ cs) (suc i) lt other =
     let e : suc i + 1 ≡ suc (i + 1) = omega arith in
     ap (λ (k : ℕ). reading_by (has_number n) (take (suc i) (c ∷ cs) ++ drop k (c ∷ cs))) e
-    ∙ ap (λ (x : Option Reading). if c.number == n then Some c.connection.parser else x) (keeps_taken n d cs i (omega arith) other)
+    ∙ ap (λ (x : Option Parser). if c.number == n then Some c.connection.parser else x) (keeps_taken n d cs i (omega arith) other)
 
 -- one is added
-added_by : (b : Bool) (r s : Reading) (x y : Option Reading) → (x ≡ Some r → y ≡ Some r) → (if b then Some s else x) ≡ Some r → (if b then Some s else y) ≡ Some r
+added_by : (b : Bool) (r s : Parser) (x y : Option Parser) → (x ≡ Some r → y ≡ Some r) → (if b then Some s else x) ≡ Some r → (if b then Some s else y) ≡ Some r
 added_by true r s x y f e = e
 added_by false r s x y f e = f e
 
-pub keeps_added : (test : Seat → Bool) (r : Reading) (d : code.Seat) (cs : List code.Seat) → reading_by test cs ≡ Some r → reading_by test (cs ++ d ∷ []) ≡ Some r
+pub keeps_added : (test : Seat → Bool) (r : Parser) (d : code.Seat) (cs : List code.Seat) → reading_by test cs ≡ Some r → reading_by test (cs ++ d ∷ []) ≡ Some r
 keeps_added test r d [] e = absurd (let u : ⊥ = cc in u)
 keeps_added test r d (c ∷ cs) e = added_by (test (seat_in c)) r c.connection.parser (reading_by test cs) (reading_by test (cs ++ d ∷ [])) (keeps_added test r d cs) e
 
 -- what is added is found where nothing was
-first_none : (b : Bool) (r s : Reading) (x y : Option Reading) → (x ≡ None → y ≡ Some s) → (if b then Some r else x) ≡ None → (if b then Some r else y) ≡ Some s
+first_none : (b : Bool) (r s : Parser) (x y : Option Parser) → (x ≡ None → y ≡ Some s) → (if b then Some r else x) ≡ None → (if b then Some r else y) ≡ Some s
 first_none true r s x y f e = absurd (let u : ⊥ = cc in u)
 first_none false r s x y f e = f e
 

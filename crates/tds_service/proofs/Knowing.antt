@@ -12,7 +12,7 @@ use Rattle.tds_client.specs.declared.heard.FinalDone.TheVariants.{Acknowledged}
 use Rattle.tds_client.specs.declared.sign.Rules.TheVariants.{Any}
 use Rattle.tds_client.specs.declared.sign.Sign.{Sign}
 use Rattle.tds_client.specs.declared.sign.Sign.TheVariants as signs
-use Rattle.tds_client.specs.Hearing.{◌>>=◌, with_done, hear_sign, place_change, place_done, acknowledges_by, done_behind, reset_told, is_full, changed, may_end}
+use Rattle.tds_client.specs.Hearing.{◌>>=◌, with_done, hear_sign, place_change, place_done, acknowledges_by, done_behind, reset_told, is_full, descriptor_changed, may_end}
 use Rattle.tds_listen.specs.declared.fault.ListenFault.{ListenFault}
 use Rattle.tds_listen.specs.declared.fault.ListenFault.TheVariants as listens
 use Rattle.tds_listen.specs.Hearing.{heard_by}
@@ -37,23 +37,23 @@ ok_is a b e = cc
 pub not_ok : {A : Type 0} (fault : ClientFault) (b : Heard) → wrong fault ≡ fine b → A
 not_ok fault b e = cc
 
-by_begin : (h next : Heard) (d : ℕ) (none some : Bool) → changed h (changes.Begin d) (if none then None else if some then Some d else None) ≡ Ok next
+by_begin : (h next : Heard) (d : ℕ) (none some : Bool) → descriptor_changed h (changes.Begin d) (if none then None else if some then Some d else None) ≡ Ok next
     → known_of next ≡ known_by_change (known_of h) (changes.Begin d)
 by_begin h next d true some e = not_ok _ next e
 by_begin h next d false true e = ap known_of (ok_is _ next e)
 by_begin h next d false false e = not_ok _ next e
 
-by_commit : (h next : Heard) (d : ℕ) (b : Bool) → changed h (changes.Commit d) (if b then Some 0 else None) ≡ Ok next
+by_commit : (h next : Heard) (d : ℕ) (b : Bool) → descriptor_changed h (changes.Commit d) (if b then Some 0 else None) ≡ Ok next
     → known_of next ≡ known_by_change (known_of h) (changes.Commit d)
 by_commit h next d true e = ap known_of (ok_is _ next e)
 by_commit h next d false e = not_ok _ next e
 
-by_rollback : (h next : Heard) (d : ℕ) (b : Bool) → changed h (changes.Rollback d) (if b then Some 0 else None) ≡ Ok next
+by_rollback : (h next : Heard) (d : ℕ) (b : Bool) → descriptor_changed h (changes.Rollback d) (if b then Some 0 else None) ≡ Ok next
     → known_of next ≡ known_by_change (known_of h) (changes.Rollback d)
 by_rollback h next d true e = ap known_of (ok_is _ next e)
 by_rollback h next d false e = not_ok _ next e
 
-by_reset : (h next : Heard) (m : Option Reset) → h.mark ≡ m → changed h changes.ResetDone (Some (reset_told m h.descriptor)) ≡ Ok next
+by_reset : (h next : Heard) (m : Option Reset) → h.mark ≡ m → descriptor_changed h changes.ResetDone (Some (reset_told m h.descriptor)) ≡ Ok next
     → known_of next ≡ record { owed = None; transaction = reset_done m h.descriptor }
 by_reset h next None e x = ap known_of (ok_is _ next x)
 by_reset h next (Some Full) e x = ap known_of (ok_is _ next x)

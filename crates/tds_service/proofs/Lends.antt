@@ -4,7 +4,7 @@ use Rattle.std.specs.Prelude.{Option, Some, None, nat_lt, if◌then◌else◌}
 use Rattle.tds_packet.specs.declared.status.Reset.{Reset}
 use Rattle.tds_packet.specs.declared.status.Reset.TheVariants.{Full, KeepTransaction}
 use Rattle.tds_service.specs.Parts.{Part}
-use Rattle.tds_service.specs.Line.{Line, new_line, Act, Stage, Idle, Sending, Reading, Cancelling, Broken}
+use Rattle.tds_service.specs.Line.{Line, new_line, Act, LineStage, Idle, Sending, Reading, Cancelling, Broken}
 use Rattle.tds_service.specs.Line as line
 use Rattle.tds_service.specs.History.{history}
 use Rattle.tds_service.specs.Lending.{marking, MarksBy, MarksReused}
@@ -14,17 +14,17 @@ use Rattle.tds_service.specs.Service.{Place, Leased, Cleaning, Kept, acts_unless
 
 -- ---- Marked
 
-pub idle_stage : (stage : Stage) → is_idle stage ≡ true → stage ≡ Idle
+pub idle_stage : (stage : LineStage) → is_idle stage ≡ true → stage ≡ Idle
 idle_stage Idle e = refl
 idle_stage (Sending begun) e = cc
 idle_stage Reading e = cc
 idle_stage Cancelling e = cc
 idle_stage (Broken fault) e = cc
 
-marked_one : {T : Type 0} (l : Line) (reset : Reset) (stage : Stage) → l.stage ≡ stage → stage ≡ Idle → history {T = T} l (line.Mark reset ∷ []) ≡ marking reset ∷ []
+marked_one : {T : Type 0} (l : Line) (reset : Reset) (stage : LineStage) → l.stage ≡ stage → stage ≡ Idle → history {T = T} l (line.Mark reset ∷ []) ≡ marking reset ∷ []
 marked_one {T} l reset stage e i =
     let k : l.stage ≡ Idle = e ∙ i in
-    ap (λ (s : Stage). let t = line.marks {T = T} l reset s in (record { act = line.Mark reset; answer = t.answer; sent = t.sent; told = t.told }) ∷ []) k
+    ap (λ (s : LineStage). let t = line.marks {T = T} l reset s in (record { act = line.Mark reset; answer = t.answer; sent = t.sent; told = t.told }) ∷ []) k
 
 pub idle_both : (place stage : Bool) → (place && stage) ≡ true → stage ≡ true
 idle_both true stage e = e
@@ -50,7 +50,7 @@ unless_mark s call test c all (Some why) = tt
 acts_mark : {T : Type 0} (s : Service) (call : Call T) (test : Seat → Bool) (first : Act T) (all : List (Act T)) (seat : Option Seat)
     → MarksBy call (acts s test first all seat).reply (acts s test first all seat).dones
 acts_mark s call test first all None = tt
-acts_mark s call test first all (Some c) = unless_mark s call test c all (refusal_in (line.turn c.line first).answer)
+acts_mark s call test first all (Some c) = unless_mark s call test c all (refusal_in (line.line_turn c.line first).answer)
 
 cleans_mark_by : (T : Type 0) (s : Service) (test : Seat → Bool) (number : ℕ) (c : Seat) (b : Bool) → is_lendable c ≡ b
     → let t = (if b then does {T = T} s (suc s.given) test c (Some (Cleaning (suc s.given))) (line.Mark Full ∷ []) (Lent (suc s.given) c.number true) else nothing s NotNow)

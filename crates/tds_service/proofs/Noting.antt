@@ -3,7 +3,7 @@ use Rattle.std.proofs.Common.{◌≡◌, ◌∙◌, ◌+◌, ◌-◌, ◌≤◌,
 use Rattle.std.proofs.lemmas.List.{append-nil}
 use Rattle.std.specs.Prelude.{Option, Some, None, Result, Ok, Err, MatchResult, IfOk, IfErr}
 use Rattle.tds_wire.specs.declared.told.Token.{Token}
-use Rattle.tds_wire.specs.Reading.{Reading, next_token}
+use Rattle.tds_wire.specs.Reading.{Parser, next_token}
 use Rattle.tds_wire.specs.Rows.{IsPassed, row_token}
 use Rattle.tds_client.specs.declared.sign.Rules.TheVariants.{Any}
 use Rattle.tds_client.specs.declared.sign.Sign.{Sign}
@@ -19,7 +19,7 @@ use Rattle.tds_listen.specs.declared.fault.ListenFault.TheVariants as faults
 use Rattle.tds_listen.specs.Faults.{broken_at}
 use Rattle.tds_listen.specs.Hearing.{Move, heard_by, moved_by, next_heard, told_if}
 use Rattle.tds_listen.specs.Signs.{sign_of}
-use Rattle.tds_service.specs.Parts.{Part, told}
+use Rattle.tds_service.specs.Parts.{Part, items_told}
 use Rattle.tds_service.specs.Line as line
 use Rattle.tds_service.specs.Line.{Line, Answer}
 use Rattle.tds_service.specs.Packets.{HeardSome, awaiting, noted}
@@ -42,13 +42,13 @@ awaited_in s session.Cancelling c e = refl
 awaited_in s (session.Broken fault) true e = absurd (let u : ⊥ = cc in u)
 awaited_in s (session.Broken fault) false e = absurd (let u : ⊥ = cc in u)
 
-module _ (n : ℕ) (s next : ClientSession) (r reading : Reading) (piece : List ℕ) (token : Option Token) where
+module _ (n : ℕ) (s next : ClientSession) (r reading : Parser) (piece : List ℕ) (token : Option Token) where
   abbrev pub Exact : Result ℕ ListenFault → Type 0
   Exact result =
       MatchResult result (λ count. next_heard s r piece ≡ Ok (record { told = token; session = next; reading = reading; rest = drop count piece })) (λ fault. next_heard s r piece ≡ Err fault)
 
   pub next_ok : (c : Bool) → stage_of s.stage ≡ awaiting c → (result : Result ℕ ListenFault) → Exact result
-      → IfOk result (λ _. Hears (part_of (next_token r piece)) (line_of n s) (line_of n next) line.More (told (items_of token)))
+      → IfOk result (λ _. Hears (part_of (next_token r piece)) (line_of n s) (line_of n next) line.More (items_told (items_of token)))
   next_ok c e (Ok count) h = came_ok n s s next r reading piece (drop count piece) token _ (awaited_in s s.stage c e) h refl
   next_ok c e (Err fault) h = tt
 
@@ -71,7 +71,7 @@ module _ (n : ℕ) (s next : ClientSession) (r reading : Reading) (piece : List 
       MatchResult result (λ count. 0 < count → next_heard s r piece ≡ Ok (record { told = token; session = next; reading = reading; rest = drop count piece })) (λ fault. next_heard s r piece ≡ Err (faults.Client fault))
 
   pub whole_ok : (c : Bool) → stage_of s.stage ≡ awaiting c → (result : Result ℕ ClientFault) → WholeExact result
-      → IfOk result (λ count. 0 < count → Hears (part_of (next_token r piece)) (line_of n s) (line_of n next) line.More (told (items_of token)))
+      → IfOk result (λ count. 0 < count → Hears (part_of (next_token r piece)) (line_of n s) (line_of n next) line.More (items_told (items_of token)))
   whole_ok c e (Ok count) h = λ some. next_ok c e (Ok count) (h some)
   whole_ok c e (Err fault) h = tt
 
@@ -92,7 +92,7 @@ module _ (n : ℕ) (s next : ClientSession) (r reading : Reading) (piece : List 
 
 -- ---- A row, of which a client that awaits something hears nothing
 
-module _ (n : ℕ) (s : ClientSession) (r after : Reading) (piece : List ℕ) (k : ℕ) (c : Bool) (e : stage_of s.stage ≡ awaiting c) (passed : IsPassed k r after piece) where
+module _ (n : ℕ) (s : ClientSession) (r after : Parser) (piece : List ℕ) (k : ℕ) (c : Bool) (e : stage_of s.stage ≡ awaiting c) (passed : IsPassed k r after piece) where
   abbrev row : Option Token
   row = told_if (machine.tells s.stage) (row_token k r)
 
@@ -103,7 +103,7 @@ module _ (n : ℕ) (s : ClientSession) (r after : Reading) (piece : List ℕ) (k
       (awaited_in s s.stage c e)
 
   pub row_ok : (tokens : List Token) × Hears (part_of (next_token r piece)) (line_of n s) (line_of n s) line.More tokens
-  row_ok = (told (items_of row), next_ok n s s r after piece row c e (Ok k) row_heard)
+  row_ok = (items_told (items_of row), next_ok n s s r after piece row c e (Ok k) row_heard)
 
   pub row_stands : Stands (next_token r piece) after (drop k piece)
   row_stands = next_stands n s s r after piece row (Ok k) row_heard
@@ -124,29 +124,29 @@ pub none_noted : (tells : Bool) (before : List Token) → before ≡ before ++ n
 none_noted true before = sym (append-nil before)
 none_noted false before = sym (append-nil before)
 
-told_one : (token : Option Token) → length (told (items_of token)) ≤ 1
+told_one : (token : Option Token) → length (items_told (items_of token)) ≤ 1
 told_one None = omega arith
 told_one (Some token) = by_sign (sign_of token) token
   where
-    by_sign : (s : Sign) (token : Token) → length (told (record { sign = s; token = token } ∷ [])) ≤ 1
+    by_sign : (s : Sign) (token : Token) → length (items_told (record { sign = s; token = token } ∷ [])) ≤ 1
     by_sign signs.Nothing token = omega arith
     by_sign (signs.Change change) token = omega arith
     by_sign (signs.Done kind status) token = omega arith
 
 -- there is room for what is noted of one token, where there was for as many as bytes are left
-module _ (c : Bool) (l k new : Line) (r reading : Reading) (bytes : List ℕ) (before after : List Token) (done : ℕ) (more : done < length bytes)
+module _ (c : Bool) (l k new : Line) (r reading : Parser) (bytes : List ℕ) (before after : List Token) (done : ℕ) (more : done < length bytes)
     (some : HeardSome c l r bytes k reading (drop done bytes) before after) where
   pub noted_fits : (tells : Bool) (token : Option Token) (found : List Token) (len cap : ℕ)
       → Hears (part_of (next_token reading (take (length bytes - done) (drop done bytes)))) k new line.More found
-      → noted tells (told (items_of token)) ≡ noted tells found → len ≤ cap
-      → (tells ≡ true → l.stage ≡ line.Reading → len + (length bytes - done) ≤ cap) → len + length (noted tells (told (items_of token))) ≤ cap
+      → noted tells (items_told (items_of token)) ≡ noted tells found → len ≤ cap
+      → (tells ≡ true → l.stage ≡ line.Reading → len + (length bytes - done) ≤ cap) → len + length (noted tells (items_told (items_of token))) ≤ cap
   noted_fits true token found len cap h same under room =
-      fits_at c l k new r reading bytes before after done more some (told (items_of token)) len cap (told_one token)
+      fits_at c l k new r reading bytes before after done more some (items_told (items_of token)) len cap (told_one token)
       (subst (λ (ts : List Token). Hears (part_of (next_token reading (take (length bytes - done) (drop done bytes)))) k new line.More ts) (sym same) h) under (room refl)
   noted_fits false token found len cap h same under room = omega (arith, under)
 
 pub noted_still_fits : (tells : Bool) (token : Option Token) (len cap rest count : ℕ) → len + rest ≤ cap → 0 < count → count ≤ rest
-    → len + length (noted tells (told (items_of token))) + (rest - count) ≤ cap
+    → len + length (noted tells (items_told (items_of token))) + (rest - count) ≤ cap
 noted_still_fits true token len cap rest count fit some within = let short = told_one token in omega (arith, short, fit, some, within)
 noted_still_fits false token len cap rest count fit some within = omega (arith, fit, some, within)
 

@@ -9,7 +9,7 @@ use Rattle.tds_service.specs.Line as line
 use Rattle.tds_service.specs.Line.{Act}
 use Rattle.tds_service.specs.History.{line_after}
 use Rattle.tds_service.specs.Refusing.{packets, refusal_in}
-use Rattle.tds_service.specs.Service.{Place, Leased, Cleaning, Kept, Seat, Service, Call, Lease, Resume, Ask, Put, Finish, Cancel, GiveBack, Clean, Cleaned, Keep, Abandon, Came, Lost, Without, Reply, Unknown, NotNow, No, NoMemory, AllInUse, Lent, Ticket, Did, Back, Step, nothing, seat_numbered, find_by, has_lease, has_ticket, has_number, is_lendable, does, rests, drained, is_idle, may_keep, acts, acts_unless, cleans, cleaned, clean_place, rests_cleaned, opens, lends, resumes, gives_back, keeps_it, abandons, hears, loses, step}
+use Rattle.tds_service.specs.Service.{Place, Leased, Cleaning, Kept, Seat, Service, Call, Lease, Resume, Ask, Put, Finish, Cancel, GiveBack, Clean, Cleaned, Keep, Abandon, Came, Lost, Without, Reply, Unknown, NotNow, No, NoMemory, AllInUse, Lent, Ticket, Did, Back, ServiceStep, nothing, seat_numbered, find_by, has_lease, has_ticket, has_number, is_lendable, does, rests, drained, is_idle, may_keep, acts, acts_unless, cleans, cleaned, clean_place, rests_cleaned, opens, lends, resumes, gives_back, keeps_it, abandons, hears, loses, step}
 use Rattle.tds_service.proofs.Numbered.{change_other}
 
 added_by : (b : Bool) (c d : Seat) (x y : Option Seat) → (x ≡ Some c → y ≡ Some c) → (if b then Some d else x) ≡ Some c → (if b then Some d else y) ≡ Some c
@@ -24,7 +24,7 @@ differs : (m n : ℕ) → m ≢ n → (m == n) ≡ false
 differs m n h = grind (arith, nat_tests)
 
 module _ (T : Type 0) (n : ℕ) (c : Seat) (s : Service) where
-  abbrev Stays : Step T → Type 0
+  abbrev Stays : ServiceStep T → Type 0
   Stays t = t.number ≢ n → seat_numbered n s.seats ≡ Some c → seat_numbered n t.service.seats ≡ Some c
 
   idle_stays : (reply : Reply) → Stays (nothing s reply)
@@ -33,7 +33,7 @@ module _ (T : Type 0) (n : ℕ) (c : Seat) (s : Service) where
   does_stays : (given : ℕ) (test : Seat → Bool) (d : Seat) (place : Option Place) (xs : List (Act T)) (reply : Reply) → find_by test s.seats ≡ Some d → Stays (does s given test d place xs reply)
   does_stays given test d place xs reply found ne e = change_other test n d place (line_after d.line xs) s.seats (differs d.number n ne) found ∙ e
 
-  if_stays : (b : Bool) (t u : Step T) → Stays t → Stays u → Stays (if b then t else u)
+  if_stays : (b : Bool) (t u : ServiceStep T) → Stays t → Stays u → Stays (if b then t else u)
   if_stays true t u h k = h
   if_stays false t u h k = k
 
@@ -43,7 +43,7 @@ module _ (T : Type 0) (n : ℕ) (c : Seat) (s : Service) where
 
   acts_stay : (test : Seat → Bool) (first : Act T) (all : List (Act T)) (seat : Option Seat) → find_by test s.seats ≡ seat → Stays (acts s test first all seat)
   acts_stay test first all None found = idle_stays Unknown
-  acts_stay test first all (Some d) found = unless_stays test d all (refusal_in (line.turn d.line first).answer) found
+  acts_stay test first all (Some d) found = unless_stays test d all (refusal_in (line.line_turn d.line first).answer) found
 
   opens_stay : (room : Bool) → Stays (opens s room)
   opens_stay false = idle_stays AllInUse

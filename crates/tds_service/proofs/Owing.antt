@@ -9,7 +9,7 @@ use Rattle.tds_client.specs.declared.heard.FinalDone.{FinalDone}
 use Rattle.tds_client.specs.declared.heard.FinalDone.TheVariants.{Awaited, Answered, Acknowledged}
 use Rattle.tds_client.specs.Hearing.{with_done}
 use Rattle.tds_service.specs.Parts.{Part, is_end, hear_part, heard_until}
-use Rattle.tds_service.specs.Line.{Act, Mark, Ask, Send, Cancel, Come, Lose, Stage, Idle, Sending, Reading, Cancelling, Broken, reads, skips, skips_to_end, cause, left_by}
+use Rattle.tds_service.specs.Line.{Act, Mark, Ask, Send, Cancel, Come, Lose, LineStage, Idle, Sending, Reading, Cancelling, Broken, reads, skips, skips_to_end, cause, left_by}
 use Rattle.tds_service.specs.History.{done_by, history}
 use Rattle.tds_service.specs.Promises.{Known, known_by_items, AsksAsOwed, LeavesNoneOwed, NamesAsHeard}
 use Rattle.tds_service.proofs.Pairing.{line, with_mark}
@@ -26,7 +26,7 @@ owed_broken n fault h k (Lose ∷ acts) = (tt, owed_broken n fault h k acts)
 
 owed_reads : {T : Type 0} (n : ℕ) (h : Heard) (part : Part T) (ends : Bool) (u : Heard) (result : Result Heard ListenFault) (acts : List (Act T))
     → ((next : Heard) → result ≡ Ok next → known_of next ≡ known_by_items (known_of h) part.items)
-    → ((s : Stage) (h : Heard) → AsksAsOwed (known_of h) (history (line n s h) acts))
+    → ((s : LineStage) (h : Heard) → AsksAsOwed (known_of h) (history (line n s h) acts))
     → ((f : ClientFault) (h : Heard) (k : Known) → AsksAsOwed k (history (line n (Broken f) h) acts))
     → AsksAsOwed (known_of h) (done_by (Come part) (reads (line n Reading h) part ends u result) ∷ history (reads (line n Reading h) part ends u result).line acts)
 owed_reads n h part ends u (Err fault) acts kn ih ib = (tt, ib (cause fault) (left_by fault u) (known_by_items (known_of h) part.items))
@@ -35,7 +35,7 @@ owed_reads n h part true u (Ok heard) acts kn ih ib = (tt, subst (λ (k : Known)
 
 owed_skips_to_end : {T : Type 0} (n : ℕ) (h heard : Heard) (part : Part T) (done : FinalDone) (acts : List (Act T))
     → known_of heard ≡ known_by_items (known_of h) part.items
-    → ((s : Stage) (h : Heard) → AsksAsOwed (known_of h) (history (line n s h) acts))
+    → ((s : LineStage) (h : Heard) → AsksAsOwed (known_of h) (history (line n s h) acts))
     → ((f : ClientFault) (h : Heard) (k : Known) → AsksAsOwed k (history (line n (Broken f) h) acts))
     → AsksAsOwed (known_of h) (done_by (Come part) (skips_to_end {T = T} (line n Cancelling h) heard done) ∷ history (skips_to_end {T = T} (line n Cancelling h) heard done).line acts)
 owed_skips_to_end n h heard part Awaited acts kn ih ib = (tt, subst (λ (k : Known). AsksAsOwed k (history (line n Cancelling (with_done heard Awaited)) acts)) (kn) (ih Cancelling (with_done heard Awaited)))
@@ -44,14 +44,14 @@ owed_skips_to_end n h heard part Acknowledged acts kn ih ib = (tt, subst (λ (k 
 
 owed_skips : {T : Type 0} (n : ℕ) (h : Heard) (part : Part T) (ends : Bool) (u : Heard) (result : Result Heard ListenFault) (acts : List (Act T))
     → ((next : Heard) → result ≡ Ok next → known_of next ≡ known_by_items (known_of h) part.items)
-    → ((s : Stage) (h : Heard) → AsksAsOwed (known_of h) (history (line n s h) acts))
+    → ((s : LineStage) (h : Heard) → AsksAsOwed (known_of h) (history (line n s h) acts))
     → ((f : ClientFault) (h : Heard) (k : Known) → AsksAsOwed k (history (line n (Broken f) h) acts))
     → AsksAsOwed (known_of h) (done_by (Come part) (skips {T = T} (line n Cancelling h) ends u result) ∷ history (skips {T = T} (line n Cancelling h) ends u result).line acts)
 owed_skips n h part ends u (Err fault) acts kn ih ib = (tt, ib (cause fault) (left_by fault u) (known_by_items (known_of h) part.items))
 owed_skips n h part false u (Ok heard) acts kn ih ib = (tt, subst (λ (k : Known). AsksAsOwed k (history (line n Cancelling heard) acts)) (kn heard refl) (ih Cancelling heard))
 owed_skips n h part true u (Ok heard) acts kn ih ib = owed_skips_to_end n h heard part heard.done acts (kn heard refl) ih ib
 
-pub owed : {T : Type 0} (n : ℕ) (s : Stage) (h : Heard) (acts : List (Act T)) → AsksAsOwed (known_of h) (history (line n s h) acts)
+pub owed : {T : Type 0} (n : ℕ) (s : LineStage) (h : Heard) (acts : List (Act T)) → AsksAsOwed (known_of h) (history (line n s h) acts)
 owed n s h [] = tt
 owed n Idle h (Mark reset ∷ acts) = (tt, owed n Idle (with_mark h reset) acts)
 owed n Idle h (Ask ∷ acts) = (tt, owed (suc n) (Sending false) h acts)
@@ -94,7 +94,7 @@ naming_broken n fault h k (Lose ∷ acts) = (tt, naming_broken n fault h k acts)
 
 naming_reads : {T : Type 0} (n : ℕ) (h : Heard) (part : Part T) (ends : Bool) (u : Heard) (result : Result Heard ListenFault) (acts : List (Act T))
     → ((next : Heard) → result ≡ Ok next → known_of next ≡ known_by_items (known_of h) part.items)
-    → ((s : Stage) (h : Heard) → NamesAsHeard (known_of h) (history (line n s h) acts))
+    → ((s : LineStage) (h : Heard) → NamesAsHeard (known_of h) (history (line n s h) acts))
     → ((f : ClientFault) (h : Heard) (k : Known) → NamesAsHeard k (history (line n (Broken f) h) acts))
     → NamesAsHeard (known_of h) (done_by (Come part) (reads (line n Reading h) part ends u result) ∷ history (reads (line n Reading h) part ends u result).line acts)
 naming_reads n h part ends u (Err fault) acts kn ih ib = (tt, ib (cause fault) (left_by fault u) (known_by_items (known_of h) part.items))
@@ -103,7 +103,7 @@ naming_reads n h part true u (Ok heard) acts kn ih ib = (tt, subst (λ (k : Know
 
 naming_skips_to_end : {T : Type 0} (n : ℕ) (h heard : Heard) (part : Part T) (done : FinalDone) (acts : List (Act T))
     → known_of heard ≡ known_by_items (known_of h) part.items
-    → ((s : Stage) (h : Heard) → NamesAsHeard (known_of h) (history (line n s h) acts))
+    → ((s : LineStage) (h : Heard) → NamesAsHeard (known_of h) (history (line n s h) acts))
     → ((f : ClientFault) (h : Heard) (k : Known) → NamesAsHeard k (history (line n (Broken f) h) acts))
     → NamesAsHeard (known_of h) (done_by (Come part) (skips_to_end {T = T} (line n Cancelling h) heard done) ∷ history (skips_to_end {T = T} (line n Cancelling h) heard done).line acts)
 naming_skips_to_end n h heard part Awaited acts kn ih ib = (tt, subst (λ (k : Known). NamesAsHeard k (history (line n Cancelling (with_done heard Awaited)) acts)) (kn) (ih Cancelling (with_done heard Awaited)))
@@ -112,14 +112,14 @@ naming_skips_to_end n h heard part Acknowledged acts kn ih ib = (tt, subst (λ (
 
 naming_skips : {T : Type 0} (n : ℕ) (h : Heard) (part : Part T) (ends : Bool) (u : Heard) (result : Result Heard ListenFault) (acts : List (Act T))
     → ((next : Heard) → result ≡ Ok next → known_of next ≡ known_by_items (known_of h) part.items)
-    → ((s : Stage) (h : Heard) → NamesAsHeard (known_of h) (history (line n s h) acts))
+    → ((s : LineStage) (h : Heard) → NamesAsHeard (known_of h) (history (line n s h) acts))
     → ((f : ClientFault) (h : Heard) (k : Known) → NamesAsHeard k (history (line n (Broken f) h) acts))
     → NamesAsHeard (known_of h) (done_by (Come part) (skips {T = T} (line n Cancelling h) ends u result) ∷ history (skips {T = T} (line n Cancelling h) ends u result).line acts)
 naming_skips n h part ends u (Err fault) acts kn ih ib = (tt, ib (cause fault) (left_by fault u) (known_by_items (known_of h) part.items))
 naming_skips n h part false u (Ok heard) acts kn ih ib = (tt, subst (λ (k : Known). NamesAsHeard k (history (line n Cancelling heard) acts)) (kn heard refl) (ih Cancelling heard))
 naming_skips n h part true u (Ok heard) acts kn ih ib = naming_skips_to_end n h heard part heard.done acts (kn heard refl) ih ib
 
-pub naming : {T : Type 0} (n : ℕ) (s : Stage) (h : Heard) (acts : List (Act T)) → NamesAsHeard (known_of h) (history (line n s h) acts)
+pub naming : {T : Type 0} (n : ℕ) (s : LineStage) (h : Heard) (acts : List (Act T)) → NamesAsHeard (known_of h) (history (line n s h) acts)
 naming n s h [] = tt
 naming n Idle h (Mark reset ∷ acts) = (tt, naming n Idle (with_mark h reset) acts)
 naming n Idle h (Ask ∷ acts) = (refl, naming (suc n) (Sending false) h acts)
@@ -163,7 +163,7 @@ paid_broken n fault h k (Lose ∷ acts) = (tt, paid_broken n fault h k acts)
 paid_reads : {T : Type 0} (n : ℕ) (h : Heard) (part : Part T) (ends : Bool) (u : Heard) (result : Result Heard ListenFault) (acts : List (Act T))
     → ((next : Heard) → result ≡ Ok next → known_of next ≡ known_by_items (known_of h) part.items)
     → ((next : Heard) → result ≡ Ok next → ends ≡ true → next.mark ≡ None)
-    → ((s : Stage) (h : Heard) → LeavesNoneOwed (known_of h) (history (line n s h) acts))
+    → ((s : LineStage) (h : Heard) → LeavesNoneOwed (known_of h) (history (line n s h) acts))
     → ((f : ClientFault) (h : Heard) (k : Known) → LeavesNoneOwed k (history (line n (Broken f) h) acts))
     → LeavesNoneOwed (known_of h) (done_by (Come part) (reads (line n Reading h) part ends u result) ∷ history (reads (line n Reading h) part ends u result).line acts)
 paid_reads n h part ends u (Err fault) acts kn pays ih ib = (tt, ib (cause fault) (left_by fault u) (known_by_items (known_of h) part.items))
@@ -172,7 +172,7 @@ paid_reads n h part true u (Ok heard) acts kn pays ih ib = (sym (ap (λ (k : Kno
 
 paid_skips_to_end : {T : Type 0} (n : ℕ) (h heard : Heard) (part : Part T) (done : FinalDone) (acts : List (Act T))
     → known_of heard ≡ known_by_items (known_of h) part.items
-    → ((s : Stage) (h : Heard) → LeavesNoneOwed (known_of h) (history (line n s h) acts))
+    → ((s : LineStage) (h : Heard) → LeavesNoneOwed (known_of h) (history (line n s h) acts))
     → ((f : ClientFault) (h : Heard) (k : Known) → LeavesNoneOwed k (history (line n (Broken f) h) acts))
     → LeavesNoneOwed (known_of h) (done_by (Come part) (skips_to_end {T = T} (line n Cancelling h) heard done) ∷ history (skips_to_end {T = T} (line n Cancelling h) heard done).line acts)
 paid_skips_to_end n h heard part Awaited acts kn ih ib = (tt, subst (λ (k : Known). LeavesNoneOwed k (history (line n Cancelling (with_done heard Awaited)) acts)) (kn) (ih Cancelling (with_done heard Awaited)))
@@ -181,14 +181,14 @@ paid_skips_to_end n h heard part Acknowledged acts kn ih ib = (tt, subst (λ (k 
 
 paid_skips : {T : Type 0} (n : ℕ) (h : Heard) (part : Part T) (ends : Bool) (u : Heard) (result : Result Heard ListenFault) (acts : List (Act T))
     → ((next : Heard) → result ≡ Ok next → known_of next ≡ known_by_items (known_of h) part.items)
-    → ((s : Stage) (h : Heard) → LeavesNoneOwed (known_of h) (history (line n s h) acts))
+    → ((s : LineStage) (h : Heard) → LeavesNoneOwed (known_of h) (history (line n s h) acts))
     → ((f : ClientFault) (h : Heard) (k : Known) → LeavesNoneOwed k (history (line n (Broken f) h) acts))
     → LeavesNoneOwed (known_of h) (done_by (Come part) (skips {T = T} (line n Cancelling h) ends u result) ∷ history (skips {T = T} (line n Cancelling h) ends u result).line acts)
 paid_skips n h part ends u (Err fault) acts kn ih ib = (tt, ib (cause fault) (left_by fault u) (known_by_items (known_of h) part.items))
 paid_skips n h part false u (Ok heard) acts kn ih ib = (tt, subst (λ (k : Known). LeavesNoneOwed k (history (line n Cancelling heard) acts)) (kn heard refl) (ih Cancelling heard))
 paid_skips n h part true u (Ok heard) acts kn ih ib = paid_skips_to_end n h heard part heard.done acts (kn heard refl) ih ib
 
-pub paid : {T : Type 0} (n : ℕ) (s : Stage) (h : Heard) (acts : List (Act T)) → LeavesNoneOwed (known_of h) (history (line n s h) acts)
+pub paid : {T : Type 0} (n : ℕ) (s : LineStage) (h : Heard) (acts : List (Act T)) → LeavesNoneOwed (known_of h) (history (line n s h) acts)
 paid n s h [] = tt
 paid n Idle h (Mark reset ∷ acts) = (tt, paid n Idle (with_mark h reset) acts)
 paid n Idle h (Ask ∷ acts) = (tt, paid (suc n) (Sending false) h acts)

@@ -4,13 +4,13 @@ use Rattle.std.specs.Prelude.{Option, Some, None, nat_lt, if◌then◌else◌}
 use Rattle.tds_packet.specs.declared.status.Reset.TheVariants.{Full, KeepTransaction}
 use Rattle.tds_client.specs.declared.fault.ClientRefusal.{ClientRefusal}
 use Rattle.tds_service.specs.Parts.{Part}
-use Rattle.tds_service.specs.Line.{Line, new_line, Act, Stage, turn, reads, skips, skips_to_end, marks, asks, sends, cancels, comes, loses}
+use Rattle.tds_service.specs.Line.{Line, new_line, Act, LineStage, line_turn, reads, skips, skips_to_end, marks, asks, sends, cancels, comes, line_loses}
 use Rattle.tds_service.specs.Line as line
 use Rattle.tds_service.specs.History.{Done, history, line_after}
 use Rattle.tds_service.specs.Refusing.{packets, refusal_in}
 use Rattle.tds_service.specs.Owning.{Asker, asker_by, AreOwn, OwnHere, asker_here, OwnAlong}
 use Rattle.tds_service.specs.Service as calls
-use Rattle.tds_service.specs.Service.{Place, Leased, Cleaning, Kept, Free, Draining, Seat, Service, new_service, Call, Reply, Unknown, NotNow, AllInUse, No, NoMemory, Lent, Ticket, Did, Back, Step, nothing, seat_numbered, find_by, change_by, has_lease, has_ticket, has_number, holds, keeps, is_lendable, is_idle, is_free, may_keep, rests, rests_clean, clean_place, drained, is_clean, lease_in, lease_at, does, acts_unless, rests_cleaned, step}
+use Rattle.tds_service.specs.Service.{Place, Leased, Cleaning, Kept, Free, Draining, Seat, Service, new_service, Call, Reply, Unknown, NotNow, AllInUse, No, NoMemory, Lent, Ticket, Did, Back, ServiceStep, nothing, seat_numbered, find_by, change_by, has_lease, has_ticket, has_number, holds, keeps, is_lendable, is_idle, is_free, may_keep, rests, rests_clean, clean_place, drained, is_clean, lease_in, lease_at, does, acts_unless, rests_cleaned, step}
 use Rattle.tds_service.proofs.Alone.{Tidy, Fits, FitsIn, step_alone}
 use Rattle.tds_service.proofs.Numbered.{is_found, change_other, change_out, change_here, added_other, added_here, same_number}
 use Rattle.tds_service.proofs.Lends.{free_idle, idle_both}
@@ -19,7 +19,7 @@ use Rattle.tds_service.proofs.Owned.{OwnedAt, Owned, OwnedIn, seat_behind, Keeps
 
 -- ---- A call
 
-pub record Goes {T : Type 0} (n : ℕ) (s : Service) (call : Call T) (t : Step T) : Type 0 where
+pub record Goes {T : Type 0} (n : ℕ) (s : Service) (call : Call T) (t : ServiceStep T) : Type 0 where
   pub own : (asker : Option Asker) → OwnedIn (seat_numbered n s.seats) asker → OwnHere (t.number == n) asker (lease_at (seat_numbered n s.seats)) t.dones
   pub next : (asker : Option Asker) → OwnedIn (seat_numbered n s.seats) asker → OwnedIn (seat_numbered n t.service.seats) (asker_here (t.number == n) asker call t.dones)
 
@@ -113,7 +113,7 @@ unless_goes n s call test c all (Some why) tidy e k = nothing_goes n s call (No 
 acts_goes : {T : Type 0} (n : ℕ) (s : Service) (call : Call T) (test : Seat → Bool) (first : Act T) (all : List (Act T)) (seat : Option Seat) → Tidy s → find_by test s.seats ≡ seat
     → ((c : Seat) → find_by test s.seats ≡ Some c → Keeps call c (Some c.place) all) → Goes n s call (calls.acts s test first all seat)
 acts_goes n s call test first all None tidy e k = nothing_goes n s call Unknown
-acts_goes n s call test first all (Some c) tidy e k = unless_goes n s call test c all (refusal_in (turn c.line first).answer) tidy e (k c e)
+acts_goes n s call test first all (Some c) tidy e k = unless_goes n s call test c all (refusal_in (line_turn c.line first).answer) tidy e (k c e)
 
 lends_goes : {T : Type 0} (n : ℕ) (s : Service) (seat : Option Seat) → Tidy s → find_by is_lendable s.seats ≡ seat → Goes {T = T} n s calls.Lease (calls.lends s seat)
 lends_goes n s None tidy e = opens_goes n s calls.Lease (nat_lt (length s.seats) s.max) tidy

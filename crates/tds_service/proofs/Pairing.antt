@@ -9,13 +9,13 @@ use Rattle.tds_listen.specs.declared.fault.ListenFault.{ListenFault}
 use Rattle.tds_client.specs.declared.heard.FinalDone.{FinalDone}
 use Rattle.tds_client.specs.declared.heard.FinalDone.TheVariants.{Awaited, Answered, Acknowledged}
 use Rattle.tds_client.specs.Hearing.{with_done}
-use Rattle.tds_service.specs.Parts.{Part, is_end, told, hear_part, heard_until}
-use Rattle.tds_service.specs.Line.{Line, new_line, Act, Mark, Ask, Send, Cancel, Come, Lose, Stage, Idle, Sending, Reading, Cancelling, Broken, reads, skips, skips_to_end, cause, left_by}
+use Rattle.tds_service.specs.Parts.{Part, is_end, items_told, hear_part, heard_until}
+use Rattle.tds_service.specs.Line.{Line, new_line, Act, Mark, Ask, Send, Cancel, Come, Lose, LineStage, Idle, Sending, Reading, Cancelling, Broken, reads, skips, skips_to_end, cause, left_by}
 use Rattle.tds_service.specs.History.{Done, done_by, history, given, told_to}
 use Rattle.tds_service.specs.Promises.{Paired, message_of, next_message, leaves_off}
 use Rattle.tds_service.proofs.Tests.{same, below, above, cases}
 
-abbrev pub line : ℕ → Stage → Heard → Line
+abbrev pub line : ℕ → LineStage → Heard → Line
 line n s h = record { asked = n; stage = s; heard = h }
 
 abbrev pub with_mark : Heard → Reset → Heard
@@ -23,7 +23,7 @@ with_mark h reset = record { descriptor = h.descriptor; mark = strongest (Some r
 
 -- ---- Requests that are done with
 
-abbrev pub IsPast : Stage → ℕ → ℕ → Type 0
+abbrev pub IsPast : LineStage → ℕ → ℕ → Type 0
 IsPast Idle n r = r ≤ n
 IsPast (Sending begun) n r = r < n
 IsPast Reading n r = r < n
@@ -31,27 +31,27 @@ IsPast Cancelling n r = r ≤ n
 IsPast (Broken fault) n r = Unit {0}
 
 past_reads : {T : Type 0} (n r : ℕ) (h : Heard) (part : Part T) (ends : Bool) (u : Heard) (result : Result Heard ListenFault) (acts : List (Act T)) → r < n
-    → ((s : Stage) (h : Heard) → IsPast s n r → given r (history (line n s h) acts) ≡ [])
+    → ((s : LineStage) (h : Heard) → IsPast s n r → given r (history (line n s h) acts) ≡ [])
     → told_to r (reads (line n Reading h) part ends u result).told ++ given r (history (reads (line n Reading h) part ends u result).line acts) ≡ []
 past_reads n r h part ends u (Err fault) acts p ih = ih (Broken (cause fault)) (left_by fault u) tt
 past_reads n r h part false u (Ok heard) acts p ih = rw (below n r p) (ih Reading heard p)
 past_reads n r h part true u (Ok heard) acts p ih = rw (below n r p) (ih Idle (with_done heard Awaited) (omega arith))
 
 past_skips_to_end : {T : Type 0} (n r : ℕ) (h heard : Heard) (done : FinalDone) (acts : List (Act T)) → r ≤ n
-    → ((s : Stage) (h : Heard) → IsPast s n r → given r (history (line n s h) acts) ≡ [])
+    → ((s : LineStage) (h : Heard) → IsPast s n r → given r (history (line n s h) acts) ≡ [])
     → told_to r (skips_to_end {T = T} (line n Cancelling h) heard done).told ++ given r (history (skips_to_end {T = T} (line n Cancelling h) heard done).line acts) ≡ []
 past_skips_to_end n r h heard Awaited acts p ih = ih Cancelling (with_done heard Awaited) p
 past_skips_to_end n r h heard Answered acts p ih = ih Cancelling (with_done heard Awaited) p
 past_skips_to_end n r h heard Acknowledged acts p ih = ih Idle (with_done heard Awaited) p
 
 past_skips : {T : Type 0} (n r : ℕ) (h : Heard) (ends : Bool) (u : Heard) (result : Result Heard ListenFault) (acts : List (Act T)) → r ≤ n
-    → ((s : Stage) (h : Heard) → IsPast s n r → given r (history (line n s h) acts) ≡ [])
+    → ((s : LineStage) (h : Heard) → IsPast s n r → given r (history (line n s h) acts) ≡ [])
     → told_to r (skips {T = T} (line n Cancelling h) ends u result).told ++ given r (history (skips {T = T} (line n Cancelling h) ends u result).line acts) ≡ []
 past_skips n r h ends u (Err fault) acts p ih = ih (Broken (cause fault)) (left_by fault u) tt
 past_skips n r h false u (Ok heard) acts p ih = ih Cancelling heard p
 past_skips n r h true u (Ok heard) acts p ih = past_skips_to_end n r h heard heard.done acts p ih
 
-pub past : {T : Type 0} (n r : ℕ) (s : Stage) (h : Heard) (acts : List (Act T)) → IsPast s n r → given r (history (line n s h) acts) ≡ []
+pub past : {T : Type 0} (n r : ℕ) (s : LineStage) (h : Heard) (acts : List (Act T)) → IsPast s n r → given r (history (line n s h) acts) ≡ []
 past n r s h [] p = refl
 past n r Idle h (Mark reset ∷ acts) p = past n r Idle (with_mark h reset) acts p
 past n r Idle h (Ask ∷ acts) p = past (suc n) r (Sending false) h acts (omega arith)
@@ -88,7 +88,7 @@ past n r (Broken fault) h (Lose ∷ acts) p = past n r (Broken fault) h acts tt
 
 -- ---- Requests that have gone out, or never will
 
-abbrev pub IsOver : Stage → ℕ → ℕ → Type 0
+abbrev pub IsOver : LineStage → ℕ → ℕ → Type 0
 IsOver Idle n r = r ≤ n
 IsOver (Sending begun) n r = r < n
 IsOver Reading n r = r ≤ n
@@ -96,27 +96,27 @@ IsOver Cancelling n r = r ≤ n
 IsOver (Broken fault) n r = Unit {0}
 
 over_reads : {T : Type 0} (n r : ℕ) (h : Heard) (part : Part T) (ends : Bool) (u : Heard) (result : Result Heard ListenFault) (acts : List (Act T)) → r ≤ n
-    → ((s : Stage) (h : Heard) → IsOver s n r → message_of r (history (line n s h) acts) ≡ [])
+    → ((s : LineStage) (h : Heard) → IsOver s n r → message_of r (history (line n s h) acts) ≡ [])
     → message_of r (done_by (Come part) (reads (line n Reading h) part ends u result) ∷ history (reads (line n Reading h) part ends u result).line acts) ≡ []
 over_reads n r h part ends u (Err fault) acts p ih = ih (Broken (cause fault)) (left_by fault u) tt
 over_reads n r h part false u (Ok heard) acts p ih = ih Reading heard p
 over_reads n r h part true u (Ok heard) acts p ih = ih Idle (with_done heard Awaited) p
 
 over_skips_to_end : {T : Type 0} (n r : ℕ) (h heard : Heard) (part : Part T) (done : FinalDone) (acts : List (Act T)) → r ≤ n
-    → ((s : Stage) (h : Heard) → IsOver s n r → message_of r (history (line n s h) acts) ≡ [])
+    → ((s : LineStage) (h : Heard) → IsOver s n r → message_of r (history (line n s h) acts) ≡ [])
     → message_of r (done_by (Come part) (skips_to_end (line n Cancelling h) heard done) ∷ history (skips_to_end {T = T} (line n Cancelling h) heard done).line acts) ≡ []
 over_skips_to_end n r h heard part Awaited acts p ih = ih Cancelling (with_done heard Awaited) p
 over_skips_to_end n r h heard part Answered acts p ih = ih Cancelling (with_done heard Awaited) p
 over_skips_to_end n r h heard part Acknowledged acts p ih = ih Idle (with_done heard Awaited) p
 
 over_skips : {T : Type 0} (n r : ℕ) (h : Heard) (part : Part T) (ends : Bool) (u : Heard) (result : Result Heard ListenFault) (acts : List (Act T)) → r ≤ n
-    → ((s : Stage) (h : Heard) → IsOver s n r → message_of r (history (line n s h) acts) ≡ [])
+    → ((s : LineStage) (h : Heard) → IsOver s n r → message_of r (history (line n s h) acts) ≡ [])
     → message_of r (done_by (Come part) (skips (line n Cancelling h) ends u result) ∷ history (skips {T = T} (line n Cancelling h) ends u result).line acts) ≡ []
 over_skips n r h part ends u (Err fault) acts p ih = ih (Broken (cause fault)) (left_by fault u) tt
 over_skips n r h part false u (Ok heard) acts p ih = ih Cancelling heard p
 over_skips n r h part true u (Ok heard) acts p ih = over_skips_to_end n r h heard part heard.done acts p ih
 
-pub over : {T : Type 0} (n r : ℕ) (s : Stage) (h : Heard) (acts : List (Act T)) → IsOver s n r → message_of r (history (line n s h) acts) ≡ []
+pub over : {T : Type 0} (n r : ℕ) (s : LineStage) (h : Heard) (acts : List (Act T)) → IsOver s n r → message_of r (history (line n s h) acts) ≡ []
 over n r s h [] p = refl
 over n r Idle h (Mark reset ∷ acts) p = over n r Idle (with_mark h reset) acts p
 over n r Idle h (Ask ∷ acts) p = over (suc n) r (Sending false) h acts (omega arith)
@@ -157,10 +157,10 @@ now_reads : {T : Type 0} (n : ℕ) (h : Heard) (part : Part T) (ends : Bool) (u 
     → ((h : Heard) → given n (history (line n Reading h) acts) ≡ next_message (history (line n Reading h) acts))
     → told_to n (reads (line n Reading h) part ends u result).told ++ given n (history (reads (line n Reading h) part ends u result).line acts)
     ≡ (if leaves_off (reads (line n Reading h) part ends u result).answer then []
-    else (told part.items ++ (if ends then [] else next_message (history (reads (line n Reading h) part ends u result).line acts))))
+    else (items_told part.items ++ (if ends then [] else next_message (history (reads (line n Reading h) part ends u result).line acts))))
 now_reads n h part ends u (Err fault) acts ih = past n n (Broken (cause fault)) (left_by fault u) acts tt
-now_reads n h part false u (Ok heard) acts ih = rw (same n) (ap (λ xs. told part.items ++ xs) (ih heard))
-now_reads n h part true u (Ok heard) acts ih = rw (same n) (ap (λ xs. told part.items ++ xs) (past n n Idle (with_done heard Awaited) acts (omega arith)))
+now_reads n h part false u (Ok heard) acts ih = rw (same n) (ap (λ xs. items_told part.items ++ xs) (ih heard))
+now_reads n h part true u (Ok heard) acts ih = rw (same n) (ap (λ xs. items_told part.items ++ xs) (past n n Idle (with_done heard Awaited) acts (omega arith)))
 
 pub now : {T : Type 0} (n : ℕ) (h : Heard) (acts : List (Act T)) → given n (history (line n Reading h) acts) ≡ next_message (history (line n Reading h) acts)
 now n h [] = refl
@@ -173,7 +173,7 @@ now n h (Lose ∷ acts) = past n n (Broken faults.Lost) h acts tt
 
 -- ---- Requests to come
 
-abbrev pub IsNext : Stage → ℕ → ℕ → Type 0
+abbrev pub IsNext : LineStage → ℕ → ℕ → Type 0
 IsNext Idle n r = n < r
 IsNext (Sending begun) n r = n ≤ r
 IsNext Reading n r = n < r
@@ -196,7 +196,7 @@ left n r rest p one other later = elim (cases n r p) [
 ]
 
 next_reads : {T : Type 0} (n r : ℕ) (h : Heard) (part : Part T) (ends : Bool) (u : Heard) (result : Result Heard ListenFault) (acts : List (Act T)) → n < r
-    → ((s : Stage) (h : Heard) → IsNext s n r → given r (history (line n s h) acts) ≡ message_of r (history (line n s h) acts))
+    → ((s : LineStage) (h : Heard) → IsNext s n r → given r (history (line n s h) acts) ≡ message_of r (history (line n s h) acts))
     → told_to r (reads (line n Reading h) part ends u result).told ++ given r (history (reads (line n Reading h) part ends u result).line acts)
     ≡ message_of r (done_by (Come part) (reads (line n Reading h) part ends u result) ∷ history (reads (line n Reading h) part ends u result).line acts)
 next_reads n r h part ends u (Err fault) acts p ih = ih (Broken (cause fault)) (left_by fault u) tt
@@ -204,7 +204,7 @@ next_reads n r h part false u (Ok heard) acts p ih = rw (above n r p) (ih Readin
 next_reads n r h part true u (Ok heard) acts p ih = rw (above n r p) (ih Idle (with_done heard Awaited) p)
 
 next_skips_to_end : {T : Type 0} (n r : ℕ) (h heard : Heard) (part : Part T) (done : FinalDone) (acts : List (Act T)) → n < r
-    → ((s : Stage) (h : Heard) → IsNext s n r → given r (history (line n s h) acts) ≡ message_of r (history (line n s h) acts))
+    → ((s : LineStage) (h : Heard) → IsNext s n r → given r (history (line n s h) acts) ≡ message_of r (history (line n s h) acts))
     → told_to r (skips_to_end {T = T} (line n Cancelling h) heard done).told ++ given r (history (skips_to_end {T = T} (line n Cancelling h) heard done).line acts)
     ≡ message_of r (done_by (Come part) (skips_to_end (line n Cancelling h) heard done) ∷ history (skips_to_end {T = T} (line n Cancelling h) heard done).line acts)
 next_skips_to_end n r h heard part Awaited acts p ih = ih Cancelling (with_done heard Awaited) p
@@ -212,14 +212,14 @@ next_skips_to_end n r h heard part Answered acts p ih = ih Cancelling (with_done
 next_skips_to_end n r h heard part Acknowledged acts p ih = ih Idle (with_done heard Awaited) p
 
 next_skips : {T : Type 0} (n r : ℕ) (h : Heard) (part : Part T) (ends : Bool) (u : Heard) (result : Result Heard ListenFault) (acts : List (Act T)) → n < r
-    → ((s : Stage) (h : Heard) → IsNext s n r → given r (history (line n s h) acts) ≡ message_of r (history (line n s h) acts))
+    → ((s : LineStage) (h : Heard) → IsNext s n r → given r (history (line n s h) acts) ≡ message_of r (history (line n s h) acts))
     → told_to r (skips {T = T} (line n Cancelling h) ends u result).told ++ given r (history (skips {T = T} (line n Cancelling h) ends u result).line acts)
     ≡ message_of r (done_by (Come part) (skips (line n Cancelling h) ends u result) ∷ history (skips {T = T} (line n Cancelling h) ends u result).line acts)
 next_skips n r h part ends u (Err fault) acts p ih = ih (Broken (cause fault)) (left_by fault u) tt
 next_skips n r h part false u (Ok heard) acts p ih = ih Cancelling heard p
 next_skips n r h part true u (Ok heard) acts p ih = next_skips_to_end n r h heard part heard.done acts p ih
 
-pub next : {T : Type 0} (n r : ℕ) (s : Stage) (h : Heard) (acts : List (Act T)) → IsNext s n r
+pub next : {T : Type 0} (n r : ℕ) (s : LineStage) (h : Heard) (acts : List (Act T)) → IsNext s n r
     → given r (history (line n s h) acts) ≡ message_of r (history (line n s h) acts)
 next n r s h [] p = refl
 next n r Idle h (Mark reset ∷ acts) p = next n r Idle (with_mark h reset) acts p

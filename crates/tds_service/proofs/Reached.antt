@@ -11,7 +11,7 @@ use Rattle.tds_service.specs.declared.refusal.Refusal.{Refusal}
 use Rattle.tds_service.specs.declared.seat.Seat as code
 use Rattle.tds_service.specs.declared.service.Service as services
 use Rattle.tds_service.specs.History.{line_after}
-use Rattle.tds_service.specs.Line.{Act, Answer, turn}
+use Rattle.tds_service.specs.Line.{Act, Answer, line_turn}
 use Rattle.tds_service.specs.Refusing.{refusal_in}
 use Rattle.tds_service.specs.Service.{Did, Reply, Seat, acts, does, find_by, has_lease, has_number}
 use Rattle.tds_service.specs.Sizes.{KeepsSize, sizes_in}
@@ -50,7 +50,7 @@ module _ {test : Seat → Bool} {old : services.Service} {lent news : List code.
   pub acts_there : (y : code.Seat) (number : ℕ) (first : Act Token) (all : List (Act Token)) (before after : List ℕ)
       → news ≡ set lent index y → y.number ≡ seat_at.number → y.place ≡ seat_at.place → number ≡ seat_at.number
       → DoesAll all (line_in seat_at.connection) (line_in y.connection) before after
-      → refusal_in (turn (line_in seat_at.connection) first).answer ≡ None
+      → refusal_in (line_turn (line_in seat_at.connection) first).answer ≡ None
       → StepsIn (acts (service_in old) test first all (find_by test (seats_in old.seats.items)))
       (with_seats (service_in old) (seats_in (with_items old.seats news).items)) Did number before after
   acts_there y number first all before after changed numbered place is did fine =
@@ -65,14 +65,14 @@ module _ {test : Seat → Bool} {old : services.Service} {lent news : List code.
 
   -- It refused the first of them: so does the machine.
   pub refuses_there : (first : Act Token) (all : List (Act Token)) (refusal : Refusal)
-      → RefusedBy (refusal_in (turn (line_in seat_at.connection) first).answer) refusal
-      → (refusal_in (turn (line_in seat_at.connection) first).answer ≡ Some clients.Memory → ⊥)
+      → RefusedBy (refusal_in (line_turn (line_in seat_at.connection) first).answer) refusal
+      → (refusal_in (line_turn (line_in seat_at.connection) first).answer ≡ Some clients.Memory → ⊥)
       → RefusesIn (service_in old) (acts (service_in old) test first all (find_by test (seats_in old.seats.items))) refusal
   refuses_there first all refusal by never =
       refuses_alike (service_in old) test first all old.seats.items index seat_at refusal refl at.here.first at.here.at by never
 
   -- What the connection answered to its one act, the machine's answers too.
-  pub answers_there : (act : Act Token) (answer : Answer) → (turn (line_in seat_at.connection) act).answer ≡ answer → refusal_in answer ≡ None
+  pub answers_there : (act : Act Token) (answer : Answer) → (line_turn (line_in seat_at.connection) act).answer ≡ answer → refusal_in answer ≡ None
       → answers_in (acts (service_in old) test act (act ∷ []) (find_by test (seats_in old.seats.items))).dones ≡ answer ∷ []
   answers_there act answer is fine = answered (service_in old) test act old.seats.items index seat_at answer refl at.here.first at.here.at is fine
 

@@ -4,7 +4,7 @@ use Rattle.std.proofs.Math.ListN.{set}
 use Rattle.std.specs.Prelude.{Option, Some, None, not, Result, Ok, Err, OnOk, OnErr, IfOk, IfErr, MatchResult, if◌then◌else◌}
 use Rattle.tds_packet.specs.declared.status.Reset.{Reset}
 use Rattle.tds_wire.specs.declared.told.Token.{Token}
-use Rattle.tds_wire.specs.Reading.{Reading, Found, Sees, Inside, Refuses, is_between, next_token}
+use Rattle.tds_wire.specs.Reading.{Parser, Found, Sees, Inside, Refuses, is_between, next_token}
 use Rattle.tds_client.specs.declared.fault.ClientFault.{ClientFault}
 use Rattle.tds_client.specs.declared.fault.ClientRefusal.{ClientRefusal}
 use Rattle.tds_client.specs.declared.heard.Heard.{Heard}
@@ -113,7 +113,7 @@ moves_by s (Sees token r rest) move e = sees (signed Any s (sign_of token)) refl
 moves_by s (Inside r) move e = ap (λ (m : Move). m.session.size) (sym (ok_same ListenFault _ move e))
 moves_by s (Refuses refusal) move e = absurd (let u : ⊥ = cc in u)
 
-pub next_keeps : (s next : ClientSession) (r reading : Reading) (piece left : List ℕ) (some : Option Token)
+pub next_keeps : (s next : ClientSession) (r reading : Parser) (piece left : List ℕ) (some : Option Token)
     → next_heard s r piece ≡ Ok (record { told = some; session = next; reading = reading; rest = left }) → next.size ≡ s.size
 next_keeps s next r reading piece left some e = moves_by s (next_token r piece) (record { told = some; session = next; reading = reading; rest = left }) e
 
@@ -169,7 +169,7 @@ cut_or : (s : ClientSession) (move : ItemMove) (cut : Bool)
 cut_or s move true e = absurd (let u : ⊥ = cc in u)
 cut_or s move false e = closes s move (ended_in Any s.stage s) refl e
 
-pub end_keeps : (s next : ClientSession) (r : Reading) (result : Result Taken ListenFault)
+pub end_keeps : (s next : ClientSession) (r : Parser) (result : Result Taken ListenFault)
     → MatchResult result (λ answer. heard_end s r ≡ Ok (record { answer = answer; session = next })) (λ fault. heard_end s r ≡ Err fault)
     → IfErr result (λ fault. next ≡ broken_at_end s fault) → next.size ≡ s.size
 end_keeps s next r (Ok answer) e broken = cut_or s (record { answer = answer; session = next }) (tells s.stage && not (is_between r)) e

@@ -4,13 +4,13 @@ use Rattle.std.proofs.lemmas.Bool.Decides.{nat_tests}
 use Rattle.std.specs.Prelude.{Option, Some, None, nat_lt, if◌then◌else◌}
 use Rattle.tds_packet.specs.declared.status.Reset.TheVariants.{Full, KeepTransaction}
 use Rattle.tds_service.specs.Parts.{Part}
-use Rattle.tds_service.specs.Line.{Line, Act, Stage, new_line}
+use Rattle.tds_service.specs.Line.{Line, Act, LineStage, new_line}
 use Rattle.tds_service.specs.Line as line
 use Rattle.tds_client.specs.declared.fault.ClientRefusal.{ClientRefusal}
 use Rattle.tds_service.specs.Refusing.{packets, refusal_in}
 use Rattle.tds_service.specs.History.{line_after}
 use Rattle.tds_service.specs.Lending.{IsWith, IsWithTicket, leased, nothing_known_of}
-use Rattle.tds_service.specs.Service.{Place, Leased, Cleaning, No, NoMemory, acts_unless, cleans, cleaned, clean_place, rests_cleaned, rests_clean, is_clean, Kept, Free, Draining, Seat, Service, Call, Lease, Resume, Ask, Put, Finish, Cancel, GiveBack, Clean, Cleaned, Keep, Abandon, Came, Lost, Without, Reply, Unknown, NotNow, AllInUse, Lent, Ticket, Did, Back, Step, nothing, find_by, change_by, has_lease, has_ticket, has_number, is_lendable, holds, keeps, placed, does, rests, drained, is_idle, is_open, acts, opens, lends, resumes, gives_back, keeps_it, abandons, hears, loses, step, service_after}
+use Rattle.tds_service.specs.Service.{Place, Leased, Cleaning, No, NoMemory, acts_unless, cleans, cleaned, clean_place, rests_cleaned, rests_clean, is_clean, Kept, Free, Draining, Seat, Service, Call, Lease, Resume, Ask, Put, Finish, Cancel, GiveBack, Clean, Cleaned, Keep, Abandon, Came, Lost, Without, Reply, Unknown, NotNow, AllInUse, Lent, Ticket, Did, Back, ServiceStep, nothing, find_by, change_by, has_lease, has_ticket, has_number, is_lendable, holds, keeps, placed, does, rests, drained, is_idle, is_open, acts, opens, lends, resumes, gives_back, keeps_it, abandons, hears, loses, step, service_after}
 use Rattle.tds_service.proofs.Tests.{below}
 
 -- ---- Whose a connection is
@@ -60,7 +60,7 @@ gives Did = None
 gives (Back place) = None
 
 -- What a call keeps of an owner's number, and which number it gives.
-pub record Keeps {T : Type 0} (own : ℕ → Place → Bool) (a : ℕ) (s : Service) (t : Step T) : Type 0 where
+pub record Keeps {T : Type 0} (own : ℕ → Place → Bool) (a : ℕ) (s : Service) (t : ServiceStep T) : Type 0 where
   pub rises : s.given ≤ t.service.given
   pub spent : a ≤ s.given → find_by (owned own a) s.seats ≡ None → find_by (owned own a) t.service.seats ≡ None
   pub fresh : (n : ℕ) → gives t.reply ≡ Some n → (s.given < n) × (n ≤ t.service.given)
@@ -129,7 +129,7 @@ module _ (own : ℕ → Place → Bool) (o : Owns own) where
   none_given : (before given : ℕ) (reply : Reply) → gives reply ≡ None → IsFresh before given reply
   none_given before given reply is n e = absurd (let u : ⊥ = cc in u)
 
-  rests_other : (a : ℕ) (stage : Stage) → IsOther a (rests stage)
+  rests_other : (a : ℕ) (stage : LineStage) → IsOther a (rests stage)
   rests_other a line.Idle = o.free a
   rests_other a (line.Sending begun) = o.draining a
   rests_other a line.Reading = o.draining a
@@ -140,7 +140,7 @@ module _ (own : ℕ → Place → Bool) (o : Owns own) where
   drains_other a true = o.free a
   drains_other a false = o.draining a
 
-  drained_other : (a : ℕ) (place : Place) (stage : Stage) → own a place ≡ false → own a (drained place stage) ≡ false
+  drained_other : (a : ℕ) (place : Place) (stage : LineStage) → own a place ≡ false → own a (drained place stage) ≡ false
   drained_other a (Leased lease) stage e = e
   drained_other a (Cleaning lease) stage e = e
   drained_other a (Kept ticket) stage e = e
@@ -164,7 +164,7 @@ module _ (own : ℕ → Place → Bool) (o : Owns own) where
   acts_keep : {T : Type 0} (a : ℕ) (s : Service) (test : Seat → Bool) (first : Act T) (all : List (Act T)) (seat : Option Seat) → find_by test s.seats ≡ seat
       → Keeps own a s (acts s test first all seat)
   acts_keep a s test first all None e = unknown a s
-  acts_keep a s test first all (Some c) e = unless_keeps a s test c all (refusal_in (line.turn c.line first).answer) e
+  acts_keep a s test first all (Some c) e = unless_keeps a s test c all (refusal_in (line.line_turn c.line first).answer) e
 
   cleans_by : {T : Type 0} (a : ℕ) (s : Service) (test : Seat → Bool) (c : Seat) (may : Bool)
       → Keeps {T = T} own a s (if may
@@ -187,7 +187,7 @@ module _ (own : ℕ → Place → Bool) (o : Owns own) where
   OtherIn a None = Unit {0}
   OtherIn a (Some place) = IsOther a place
 
-  rests_clean_other : (a : ℕ) (clean : Bool) (stage : Stage) → OtherIn a (rests_clean clean stage)
+  rests_clean_other : (a : ℕ) (clean : Bool) (stage : LineStage) → OtherIn a (rests_clean clean stage)
   rests_clean_other a clean line.Idle = clean_other a clean
   rests_clean_other a clean (line.Sending begun) = tt
   rests_clean_other a clean line.Reading = tt

@@ -11,7 +11,7 @@ use Rattle.tds_client.specs.Session as session
 use Rattle.tds_client.specs.Session.{ClientSession}
 use Rattle.tds_wire.specs.declared.told.Token.{Token}
 use Rattle.tds_service.specs.Line as line
-use Rattle.tds_service.specs.Line.{not_begun, turn}
+use Rattle.tds_service.specs.Line.{not_begun, line_turn}
 use Rattle.tds_service.specs.Refusing.{refusal_in}
 use Rattle.tds_service.specs.Ties.{line_of, cancel_out}
 
@@ -42,7 +42,7 @@ cancel_stops (Err e) s next before after did = tt
 
 -- one that is refused, but for want of memory: nothing is out
 none_in : (n : ℕ) (s : ClientSession) (k : session.Stage) (why : ClientRefusal)
-    → IsRefusal (refusal_in (turn {T = Token} (line_of n (record s { stage = k })) line.Cancel).answer) why → (why ≡ clients.Memory → ⊥) → cancel_out k ≡ []
+    → IsRefusal (refusal_in (line_turn {T = Token} (line_of n (record s { stage = k })) line.Cancel).answer) why → (why ≡ clients.Memory → ⊥) → cancel_out k ≡ []
 none_in n s session.Idle why is other = refl
 none_in n s (session.Sending kind left packets) why is other = none_sending (packets == 0) is
   where
@@ -55,5 +55,5 @@ none_in n s session.Cancelling why is other = refl
 none_in n s (session.Broken fault) why is other = refl
 
 pub none_stopped : (n : ℕ) (s : ClientSession) (why : ClientRefusal) (out : List ℕ)
-    → IsRefusal (refusal_in (turn {T = Token} (line_of n s) line.Cancel).answer) why → (why ≡ clients.Memory → ⊥) → out ≡ out ++ cancel_out s.stage
+    → IsRefusal (refusal_in (line_turn {T = Token} (line_of n s) line.Cancel).answer) why → (why ≡ clients.Memory → ⊥) → out ≡ out ++ cancel_out s.stage
 none_stopped n s why out is other = sym (append-nil out) ∙ ap (λ (bytes : List ℕ). out ++ bytes) (sym (none_in n s s.stage why is other))

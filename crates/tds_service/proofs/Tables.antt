@@ -17,10 +17,10 @@ use Rattle.tds_service.specs.declared.place.Rest.TheVariants as resting
 use Rattle.tds_service.specs.declared.seat.Seat as code
 use Rattle.tds_service.specs.History.{history, line_after}
 use Rattle.tds_service.specs.Line as line
-use Rattle.tds_service.specs.Line.{Line, Act, Answer, Stage, turn, asks, sends, cancels, marks}
-use Rattle.tds_service.specs.Line.{loses as losing}
+use Rattle.tds_service.specs.Line.{Line, Act, Answer, LineStage, line_turn, asks, sends, cancels, marks}
+use Rattle.tds_service.specs.Line.{line_loses}
 use Rattle.tds_service.specs.Refusing.{refusal_in}
-use Rattle.tds_service.specs.Service.{Place, Free, Draining, Seat, Service, Step, Reply, NotNow, Lent, Did, is_idle, is_free, is_lendable, nothing, find_by, change_by, placed, acts, acts_unless, does}
+use Rattle.tds_service.specs.Service.{Place, Free, Draining, Seat, Service, ServiceStep, Reply, NotNow, Lent, Did, is_idle, is_free, is_lendable, nothing, find_by, change_by, placed, acts, acts_unless, does}
 use Rattle.tds_service.specs.Table.{place_of, seat_in, seats_in, met, FirstMet, IsAt, RefusedBy, RefusesIn, StepsIn, refusal_of, rest_of, without_closed}
 use Rattle.tds_service.specs.Ties.{line_in, cancel_answer, sent_in, Does, DoesAll, Appends}
 
@@ -113,21 +113,21 @@ does_gone s given test all reply cs i c table first =
 pub one_is_all : (act : Act Token) (old new : Line) (answer : Answer) (before after : List ℕ) → Does act old new answer before after → DoesAll (act ∷ []) old new before after
 one_is_all act old new answer before after does = record {
   line_is = does.line_is;
-  bytes = subst (λ packets. Appends packets before after) (sym (append-nil (turn old act).sent)) does.bytes;
+  bytes = subst (λ packets. Appends packets before after) (sym (append-nil (line_turn old act).sent)) does.bytes;
 }
 
 -- Acts on the connection at the first index are the machine's call.
 pub acts_alike : (s : Service) (test : Seat → Bool) (first : Act Token) (all : List (Act Token)) (cs : List code.Seat) (i : ℕ) (c y : code.Seat) (before after : List ℕ)
     → s.seats ≡ seats_in cs → FirstMet test cs i → c ≡ get_or cs i c → y.number ≡ c.number → y.place ≡ c.place
     → DoesAll all (line_in c.connection) (line_in y.connection) before after
-    → refusal_in (turn (line_in c.connection) first).answer ≡ None
+    → refusal_in (line_turn (line_in c.connection) first).answer ≡ None
     → ((record { max = s.max; last = s.last; given = s.given; seats = seats_in (set cs i y) }) ≡ (acts s test first all (find_by test s.seats)).service)
     × ((acts s test first all (find_by test s.seats)).reply ≡ Did)
     × ((acts s test first all (find_by test s.seats)).number ≡ c.number)
     × Appends (sent_in (acts s test first all (find_by test s.seats)).dones) before after
 acts_alike s test first all cs i c y before after table met at number place did may =
     let found : find_by test s.seats ≡ Some (seat_in c) = ap (find_by test) table ∙ is_found_at test cs i c met at in
-    let P = λ (t : Step Token).
+    let P = λ (t : ServiceStep Token).
     ((record { max = s.max; last = s.last; given = s.given; seats = seats_in (set cs i y) }) ≡ t.service) × (t.reply ≡ Did) × (t.number ≡ c.number) × Appends (sent_in t.dones) before after in
     subst (λ (x : Option Seat). P (acts s test first all x)) (sym found)
     (subst (λ (x : Option ClientRefusal). P (acts_unless s test (seat_in c) all x)) (sym may) (
@@ -139,21 +139,21 @@ acts_alike s test first all cs i c y before after table met at number place did 
 
 -- ---- Refusing
 
-asks_never : (l : Line) (s : Stage) → refusal_in (asks {T = Token} l s).answer ≡ Some clients.Memory → ⊥
+asks_never : (l : Line) (s : LineStage) → refusal_in (asks {T = Token} l s).answer ≡ Some clients.Memory → ⊥
 asks_never l line.Idle e = cc
 asks_never l (line.Sending begun) e = cc
 asks_never l line.Reading e = cc
 asks_never l line.Cancelling e = cc
 asks_never l (line.Broken fault) e = cc
 
-sends_never : (l : Line) (last : Bool) (s : Stage) → refusal_in (sends {T = Token} l last s).answer ≡ Some clients.Memory → ⊥
+sends_never : (l : Line) (last : Bool) (s : LineStage) → refusal_in (sends {T = Token} l last s).answer ≡ Some clients.Memory → ⊥
 sends_never l last line.Idle e = cc
 sends_never l last (line.Sending begun) e = cc
 sends_never l last line.Reading e = cc
 sends_never l last line.Cancelling e = cc
 sends_never l last (line.Broken fault) e = cc
 
-cancels_never : (l : Line) (s : Stage) → refusal_in (cancels {T = Token} l s).answer ≡ Some clients.Memory → ⊥
+cancels_never : (l : Line) (s : LineStage) → refusal_in (cancels {T = Token} l s).answer ≡ Some clients.Memory → ⊥
 cancels_never l line.Idle e = cc
 cancels_never l (line.Sending false) e = cc
 cancels_never l (line.Sending true) e = cc
@@ -161,13 +161,13 @@ cancels_never l line.Reading e = cc
 cancels_never l line.Cancelling e = cc
 cancels_never l (line.Broken fault) e = cc
 
-pub ask_never : (l : Line) → refusal_in (turn {T = Token} l line.Ask).answer ≡ Some clients.Memory → ⊥
+pub ask_never : (l : Line) → refusal_in (line_turn {T = Token} l line.Ask).answer ≡ Some clients.Memory → ⊥
 ask_never l e = asks_never l l.stage e
 
-pub send_never : (l : Line) (last : Bool) → refusal_in (turn {T = Token} l (line.Send last)).answer ≡ Some clients.Memory → ⊥
+pub send_never : (l : Line) (last : Bool) → refusal_in (line_turn {T = Token} l (line.Send last)).answer ≡ Some clients.Memory → ⊥
 send_never l last e = sends_never l last l.stage e
 
-pub cancel_never : (l : Line) → refusal_in (turn {T = Token} l line.Cancel).answer ≡ Some clients.Memory → ⊥
+pub cancel_never : (l : Line) → refusal_in (line_turn {T = Token} l line.Cancel).answer ≡ Some clients.Memory → ⊥
 cancel_never l e = cancels_never l l.stage e
 
 -- A cancel that is done is no refusal.
@@ -179,14 +179,14 @@ cancelled_fine n hows.Asked = refl
 
 -- ---- Lending
 
-marked_by : (l : Line) (reset : Reset) (s : Stage) → (marks {T = Token} l reset s).answer ≡ line.Marked → is_idle s ≡ true
+marked_by : (l : Line) (reset : Reset) (s : LineStage) → (marks {T = Token} l reset s).answer ≡ line.Marked → is_idle s ≡ true
 marked_by l reset line.Idle e = refl
 marked_by l reset (line.Sending begun) e = absurd (let u : ⊥ = cc in u)
 marked_by l reset line.Reading e = absurd (let u : ⊥ = cc in u)
 marked_by l reset line.Cancelling e = absurd (let u : ⊥ = cc in u)
 marked_by l reset (line.Broken fault) e = absurd (let u : ⊥ = cc in u)
 
-busy_by : (l : Line) (reset : Reset) (s : Stage) (why : ClientRefusal) → (marks {T = Token} l reset s).answer ≡ line.Refused why → is_idle s ≡ false
+busy_by : (l : Line) (reset : Reset) (s : LineStage) (why : ClientRefusal) → (marks {T = Token} l reset s).answer ≡ line.Refused why → is_idle s ≡ false
 busy_by l reset line.Idle why e = absurd (let u : ⊥ = cc in u)
 busy_by l reset (line.Sending begun) why e = refl
 busy_by l reset line.Reading why e = refl
@@ -194,10 +194,10 @@ busy_by l reset line.Cancelling why e = refl
 busy_by l reset (line.Broken fault) why e = refl
 
 -- a mark is taken where it is idle, and refused where it isn't
-pub marked_idle : (l : Line) (reset : Reset) → (turn {T = Token} l (line.Mark reset)).answer ≡ line.Marked → is_idle l.stage ≡ true
+pub marked_idle : (l : Line) (reset : Reset) → (line_turn {T = Token} l (line.Mark reset)).answer ≡ line.Marked → is_idle l.stage ≡ true
 marked_idle l reset e = marked_by l reset l.stage e
 
-pub refused_busy : (l : Line) (reset : Reset) (why : ClientRefusal) → (turn {T = Token} l (line.Mark reset)).answer ≡ line.Refused why → is_idle l.stage ≡ false
+pub refused_busy : (l : Line) (reset : Reset) (why : ClientRefusal) → (line_turn {T = Token} l (line.Mark reset)).answer ≡ line.Refused why → is_idle l.stage ≡ false
 refused_busy l reset why e = busy_by l reset l.stage why e
 
 not_and : (a b : Bool) → b ≡ false → (a && b) ≡ false
@@ -234,14 +234,14 @@ unless_refuses s test c all (Some clients.Memory) why is never = absurd (never r
 -- A connection's refusal at the first index is the machine's.
 pub refuses_alike : (s : Service) (test : Seat → Bool) (first : Act Token) (all : List (Act Token)) (cs : List code.Seat) (i : ℕ) (c : code.Seat) (refusal : Refusal)
     → s.seats ≡ seats_in cs → FirstMet test cs i → c ≡ get_or cs i c
-    → RefusedBy (refusal_in (turn (line_in c.connection) first).answer) refusal
-    → (refusal_in (turn (line_in c.connection) first).answer ≡ Some clients.Memory → ⊥)
+    → RefusedBy (refusal_in (line_turn (line_in c.connection) first).answer) refusal
+    → (refusal_in (line_turn (line_in c.connection) first).answer ≡ Some clients.Memory → ⊥)
     → RefusesIn s (acts s test first all (find_by test s.seats)) refusal
 refuses_alike s test first all cs i c refusal table met at by never =
     let found : find_by test s.seats ≡ Some (seat_in c) = ap (find_by test) table ∙ is_found_at test cs i c met at in
     subst (λ (x : Option Seat). RefusesIn s (acts s test first all x) refusal) (sym found)
-    (subst (λ (r : Refusal). RefusesIn s (acts_unless s test (seat_in c) all (refusal_in (turn (line_in c.connection) first).answer)) r) (sym by.1)
-    (unless_refuses s test (seat_in c) all (refusal_in (turn (line_in c.connection) first).answer) by.0 by.2 never))
+    (subst (λ (r : Refusal). RefusesIn s (acts_unless s test (seat_in c) all (refusal_in (line_turn (line_in c.connection) first).answer)) r) (sym by.1)
+    (unless_refuses s test (seat_in c) all (refusal_in (line_turn (line_in c.connection) first).answer) by.0 by.2 never))
 
 -- ---- By what a call answers
 
@@ -264,7 +264,7 @@ here_in test items looked lent index is same first =
 
 -- ---- What a lending answers
 
-pub steps_as : (t : Step Token) (new next : Service) (reply other : Reply) (number n : ℕ) → next ≡ new → reply ≡ other → number ≡ n
+pub steps_as : (t : ServiceStep Token) (new next : Service) (reply other : Reply) (number n : ℕ) → next ≡ new → reply ≡ other → number ≡ n
     → StepsIn t new reply number [] [] → StepsIn t next other n [] []
 steps_as t new next reply other number n e f g h = record {
   service_is = e ∙ h.service_is;
@@ -297,11 +297,11 @@ pub meets_here : (test : Seat → Bool) (items lent : List code.Seat) (i : ℕ) 
 meets_here test items lent i here =
     ap (λ (x : code.Seat). test (seat_in x)) here.at ∙ sym (met_at test here.seat items i here.first.within) ∙ here.first.here
 
-pub not_now_in : (s : Service) (t : Step Token) (b : Bool) → b ≡ false → RefusesIn s (if b then t else nothing s NotNow) refusals.NotNow
+pub not_now_in : (s : Service) (t : ServiceStep Token) (b : Bool) → b ≡ false → RefusesIn s (if b then t else nothing s NotNow) refusals.NotNow
 not_now_in s t true e = absurd (let u : ⊥ = cc in u)
 not_now_in s t false e = refl
 
-pub done_in : (P : Step Token → Type 0) (t other : Step Token) (b : Bool) → b ≡ true → P t → P (if b then t else other)
+pub done_in : (P : ServiceStep Token → Type 0) (t other : ServiceStep Token) (b : Bool) → b ≡ true → P t → P (if b then t else other)
 done_in P t other true e h = h
 done_in P t other false e h = absurd (let u : ⊥ = cc in u)
 
@@ -340,7 +340,7 @@ rests_here s test all rest reply items lent news out i here y table same changed
         ap (λ (cs : List code.Seat). with_seats s (seats_in cs)) (taken_set i items y here.first.within)
         ∙ does_gone s s.given test all reply items i here.seat table here.first
 
-lost_sent : (l : Line) (s : Stage) → (losing {T = Token} l s).sent ≡ []
+lost_sent : (l : Line) (s : LineStage) → (line_loses {T = Token} l s).sent ≡ []
 lost_sent l line.Idle = refl
 lost_sent l (line.Sending begun) = refl
 lost_sent l line.Reading = refl
@@ -352,7 +352,7 @@ lost_bytes l = subst (λ ps. Appends (ps ++ []) [] []) (sym (lost_sent l l.stage
 
 -- ---- Cancelling, also where it is broken
 
-kept_by : (l : Line) (s : Stage) (why : ClientRefusal) → IsRefusal (refusal_in (cancels {T = Token} l s).answer) why → (why ≡ clients.Memory → ⊥)
+kept_by : (l : Line) (s : LineStage) (why : ClientRefusal) → IsRefusal (refusal_in (cancels {T = Token} l s).answer) why → (why ≡ clients.Memory → ⊥)
     → (l ≡ (cancels {T = Token} l s).line) × ((cancels {T = Token} l s).sent ≡ [])
 kept_by l line.Idle why is other = absurd (other is)
 kept_by l (line.Sending false) why is other = absurd (other is)
@@ -361,7 +361,7 @@ kept_by l line.Reading why is other = absurd (other is)
 kept_by l line.Cancelling why is other = absurd (other is)
 kept_by l (line.Broken fault) why is other = (refl, refl)
 
-pub cancel_kept : (l : Line) (why : ClientRefusal) (out : List ℕ) → IsRefusal (refusal_in (turn {T = Token} l line.Cancel).answer) why → (why ≡ clients.Memory → ⊥)
+pub cancel_kept : (l : Line) (why : ClientRefusal) (out : List ℕ) → IsRefusal (refusal_in (line_turn {T = Token} l line.Cancel).answer) why → (why ≡ clients.Memory → ⊥)
     → DoesAll (line.Cancel ∷ []) l l out out
 cancel_kept l why out is other =
     let k = kept_by l l.stage why is other in

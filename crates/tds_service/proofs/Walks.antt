@@ -8,14 +8,14 @@ use Rattle.tds_client.specs.declared.heard.FinalDone.{FinalDone}
 use Rattle.tds_client.specs.declared.heard.FinalDone.TheVariants.{Awaited, Answered, Acknowledged}
 use Rattle.tds_client.specs.Hearing.{with_done}
 use Rattle.tds_service.specs.Parts.{Part, is_end, hear_part, heard_until}
-use Rattle.tds_service.specs.Line.{new_line, Act, Mark, Ask, Send, Cancel, Come, Lose, Stage, Idle, Sending, Reading, Cancelling, Broken, reads, skips, skips_to_end, cause, left_by}
+use Rattle.tds_service.specs.Line.{new_line, Act, Mark, Ask, Send, Cancel, Come, Lose, LineStage, Idle, Sending, Reading, Cancelling, Broken, reads, skips, skips_to_end, cause, left_by}
 use Rattle.tds_service.specs.History.{done_by, history, line_after}
 use Rattle.tds_service.specs.Promises.{AsksUnawaited, FaultsUnawaited, NothingBehindCancel, attentions, acknowledgements}
 use Rattle.tds_service.proofs.Pairing.{line, with_mark, past}
 
 -- ---- What comes unawaited
 
-abbrev pub awaits : Stage → Bool
+abbrev pub awaits : LineStage → Bool
 awaits Idle = false
 awaits (Sending begun) = false
 awaits Reading = true
@@ -23,27 +23,27 @@ awaits Cancelling = true
 awaits (Broken fault) = false
 
 unawaited_reads : {T : Type 0} (n : ℕ) (h : Heard) (part : Part T) (ends : Bool) (u : Heard) (result : Result Heard ListenFault) (acts : List (Act T))
-    → ((s : Stage) (h : Heard) → FaultsUnawaited (awaits s) (history (line n s h) acts))
+    → ((s : LineStage) (h : Heard) → FaultsUnawaited (awaits s) (history (line n s h) acts))
     → FaultsUnawaited (awaits Reading) (done_by (Come part) (reads (line n Reading h) part ends u result) ∷ history (reads (line n Reading h) part ends u result).line acts)
 unawaited_reads n h part ends u (Err fault) acts ih = (tt, (ih (Broken (cause fault)) (left_by fault u)))
 unawaited_reads n h part false u (Ok heard) acts ih = (tt, (ih Reading heard))
 unawaited_reads n h part true u (Ok heard) acts ih = (tt, (ih Idle (with_done heard Awaited)))
 
 unawaited_skips_to_end : {T : Type 0} (n : ℕ) (h heard : Heard) (part : Part T) (done : FinalDone) (acts : List (Act T))
-    → ((s : Stage) (h : Heard) → FaultsUnawaited (awaits s) (history (line n s h) acts))
+    → ((s : LineStage) (h : Heard) → FaultsUnawaited (awaits s) (history (line n s h) acts))
     → FaultsUnawaited (awaits Cancelling) (done_by (Come part) (skips_to_end {T = T} (line n Cancelling h) heard done) ∷ history (skips_to_end {T = T} (line n Cancelling h) heard done).line acts)
 unawaited_skips_to_end n h heard part Awaited acts ih = (tt, (ih Cancelling (with_done heard Awaited)))
 unawaited_skips_to_end n h heard part Answered acts ih = (tt, (ih Cancelling (with_done heard Awaited)))
 unawaited_skips_to_end n h heard part Acknowledged acts ih = (tt, (ih Idle (with_done heard Awaited)))
 
 unawaited_skips : {T : Type 0} (n : ℕ) (h : Heard) (part : Part T) (ends : Bool) (u : Heard) (result : Result Heard ListenFault) (acts : List (Act T))
-    → ((s : Stage) (h : Heard) → FaultsUnawaited (awaits s) (history (line n s h) acts))
+    → ((s : LineStage) (h : Heard) → FaultsUnawaited (awaits s) (history (line n s h) acts))
     → FaultsUnawaited (awaits Cancelling) (done_by (Come part) (skips {T = T} (line n Cancelling h) ends u result) ∷ history (skips {T = T} (line n Cancelling h) ends u result).line acts)
 unawaited_skips n h part ends u (Err fault) acts ih = (tt, (ih (Broken (cause fault)) (left_by fault u)))
 unawaited_skips n h part false u (Ok heard) acts ih = (tt, (ih Cancelling heard))
 unawaited_skips n h part true u (Ok heard) acts ih = unawaited_skips_to_end n h heard part heard.done acts ih
 
-pub unawaited : {T : Type 0} (n : ℕ) (s : Stage) (h : Heard) (acts : List (Act T)) → FaultsUnawaited (awaits s) (history (line n s h) acts)
+pub unawaited : {T : Type 0} (n : ℕ) (s : LineStage) (h : Heard) (acts : List (Act T)) → FaultsUnawaited (awaits s) (history (line n s h) acts)
 unawaited n s h [] = tt
 unawaited n Idle h (Mark reset ∷ acts) = (tt, (unawaited n Idle (with_mark h reset) acts))
 unawaited n Idle h (Ask ∷ acts) = (tt, (unawaited (suc n) (Sending false) h acts))
@@ -81,27 +81,27 @@ unawaited n (Broken fault) h (Lose ∷ acts) = (tt, (unawaited n (Broken fault) 
 -- ---- What is asked
 
 free_reads : {T : Type 0} (n : ℕ) (h : Heard) (part : Part T) (ends : Bool) (u : Heard) (result : Result Heard ListenFault) (acts : List (Act T))
-    → ((s : Stage) (h : Heard) → AsksUnawaited (awaits s) (history (line n s h) acts))
+    → ((s : LineStage) (h : Heard) → AsksUnawaited (awaits s) (history (line n s h) acts))
     → AsksUnawaited (awaits Reading) (done_by (Come part) (reads (line n Reading h) part ends u result) ∷ history (reads (line n Reading h) part ends u result).line acts)
 free_reads n h part ends u (Err fault) acts ih = (tt, (ih (Broken (cause fault)) (left_by fault u)))
 free_reads n h part false u (Ok heard) acts ih = (tt, (ih Reading heard))
 free_reads n h part true u (Ok heard) acts ih = (tt, (ih Idle (with_done heard Awaited)))
 
 free_skips_to_end : {T : Type 0} (n : ℕ) (h heard : Heard) (part : Part T) (done : FinalDone) (acts : List (Act T))
-    → ((s : Stage) (h : Heard) → AsksUnawaited (awaits s) (history (line n s h) acts))
+    → ((s : LineStage) (h : Heard) → AsksUnawaited (awaits s) (history (line n s h) acts))
     → AsksUnawaited (awaits Cancelling) (done_by (Come part) (skips_to_end {T = T} (line n Cancelling h) heard done) ∷ history (skips_to_end {T = T} (line n Cancelling h) heard done).line acts)
 free_skips_to_end n h heard part Awaited acts ih = (tt, (ih Cancelling (with_done heard Awaited)))
 free_skips_to_end n h heard part Answered acts ih = (tt, (ih Cancelling (with_done heard Awaited)))
 free_skips_to_end n h heard part Acknowledged acts ih = (tt, (ih Idle (with_done heard Awaited)))
 
 free_skips : {T : Type 0} (n : ℕ) (h : Heard) (part : Part T) (ends : Bool) (u : Heard) (result : Result Heard ListenFault) (acts : List (Act T))
-    → ((s : Stage) (h : Heard) → AsksUnawaited (awaits s) (history (line n s h) acts))
+    → ((s : LineStage) (h : Heard) → AsksUnawaited (awaits s) (history (line n s h) acts))
     → AsksUnawaited (awaits Cancelling) (done_by (Come part) (skips {T = T} (line n Cancelling h) ends u result) ∷ history (skips {T = T} (line n Cancelling h) ends u result).line acts)
 free_skips n h part ends u (Err fault) acts ih = (tt, (ih (Broken (cause fault)) (left_by fault u)))
 free_skips n h part false u (Ok heard) acts ih = (tt, (ih Cancelling heard))
 free_skips n h part true u (Ok heard) acts ih = free_skips_to_end n h heard part heard.done acts ih
 
-pub free : {T : Type 0} (n : ℕ) (s : Stage) (h : Heard) (acts : List (Act T)) → AsksUnawaited (awaits s) (history (line n s h) acts)
+pub free : {T : Type 0} (n : ℕ) (s : LineStage) (h : Heard) (acts : List (Act T)) → AsksUnawaited (awaits s) (history (line n s h) acts)
 free n s h [] = tt
 free n Idle h (Mark reset ∷ acts) = (refl, (free n Idle (with_mark h reset) acts))
 free n Idle h (Ask ∷ acts) = (refl, (free (suc n) (Sending false) h acts))
@@ -139,27 +139,27 @@ free n (Broken fault) h (Lose ∷ acts) = (tt, (free n (Broken fault) h acts))
 -- ---- Behind a cancel
 
 silent_reads : {T : Type 0} (n : ℕ) (h : Heard) (part : Part T) (ends : Bool) (u : Heard) (result : Result Heard ListenFault) (acts : List (Act T))
-    → ((s : Stage) (h : Heard) → NothingBehindCancel (history (line n s h) acts))
+    → ((s : LineStage) (h : Heard) → NothingBehindCancel (history (line n s h) acts))
     → NothingBehindCancel (done_by (Come part) (reads (line n Reading h) part ends u result) ∷ history (reads (line n Reading h) part ends u result).line acts)
 silent_reads n h part ends u (Err fault) acts ih = (tt, (ih (Broken (cause fault)) (left_by fault u)))
 silent_reads n h part false u (Ok heard) acts ih = (tt, (ih Reading heard))
 silent_reads n h part true u (Ok heard) acts ih = (tt, (ih Idle (with_done heard Awaited)))
 
 silent_skips_to_end : {T : Type 0} (n : ℕ) (h heard : Heard) (part : Part T) (done : FinalDone) (acts : List (Act T))
-    → ((s : Stage) (h : Heard) → NothingBehindCancel (history (line n s h) acts))
+    → ((s : LineStage) (h : Heard) → NothingBehindCancel (history (line n s h) acts))
     → NothingBehindCancel (done_by (Come part) (skips_to_end {T = T} (line n Cancelling h) heard done) ∷ history (skips_to_end {T = T} (line n Cancelling h) heard done).line acts)
 silent_skips_to_end n h heard part Awaited acts ih = (tt, (ih Cancelling (with_done heard Awaited)))
 silent_skips_to_end n h heard part Answered acts ih = (tt, (ih Cancelling (with_done heard Awaited)))
 silent_skips_to_end n h heard part Acknowledged acts ih = (tt, (ih Idle (with_done heard Awaited)))
 
 silent_skips : {T : Type 0} (n : ℕ) (h : Heard) (part : Part T) (ends : Bool) (u : Heard) (result : Result Heard ListenFault) (acts : List (Act T))
-    → ((s : Stage) (h : Heard) → NothingBehindCancel (history (line n s h) acts))
+    → ((s : LineStage) (h : Heard) → NothingBehindCancel (history (line n s h) acts))
     → NothingBehindCancel (done_by (Come part) (skips {T = T} (line n Cancelling h) ends u result) ∷ history (skips {T = T} (line n Cancelling h) ends u result).line acts)
 silent_skips n h part ends u (Err fault) acts ih = (tt, (ih (Broken (cause fault)) (left_by fault u)))
 silent_skips n h part false u (Ok heard) acts ih = (tt, (ih Cancelling heard))
 silent_skips n h part true u (Ok heard) acts ih = silent_skips_to_end n h heard part heard.done acts ih
 
-pub silent : {T : Type 0} (n : ℕ) (s : Stage) (h : Heard) (acts : List (Act T)) → NothingBehindCancel (history (line n s h) acts)
+pub silent : {T : Type 0} (n : ℕ) (s : LineStage) (h : Heard) (acts : List (Act T)) → NothingBehindCancel (history (line n s h) acts)
 silent n s h [] = tt
 silent n Idle h (Mark reset ∷ acts) = (tt, (silent n Idle (with_mark h reset) acts))
 silent n Idle h (Ask ∷ acts) = (tt, (silent (suc n) (Sending false) h acts))
@@ -196,14 +196,14 @@ silent n (Broken fault) h (Lose ∷ acts) = (tt, (silent n (Broken fault) h acts
 
 -- ---- One attention
 
-abbrev pub out : Stage → ℕ
+abbrev pub out : LineStage → ℕ
 out Idle = 0
 out (Sending begun) = 0
 out Reading = 0
 out Cancelling = 1
 out (Broken fault) = 1
 
-at_most_one : (s : Stage) → out s ≤ 1
+at_most_one : (s : LineStage) → out s ≤ 1
 at_most_one Idle = omega arith
 at_most_one (Sending begun) = omega arith
 at_most_one Reading = omega arith
@@ -211,27 +211,27 @@ at_most_one Cancelling = omega arith
 at_most_one (Broken fault) = omega arith
 
 few_reads : {T : Type 0} (n : ℕ) (h : Heard) (part : Part T) (ends : Bool) (u : Heard) (result : Result Heard ListenFault) (acts : List (Act T))
-    → ((s : Stage) (h : Heard) → attentions (history (line n s h) acts) + out s ≤ acknowledgements (history (line n s h) acts) + 1)
+    → ((s : LineStage) (h : Heard) → attentions (history (line n s h) acts) + out s ≤ acknowledgements (history (line n s h) acts) + 1)
     → attentions (done_by (Come part) (reads (line n Reading h) part ends u result) ∷ history (reads (line n Reading h) part ends u result).line acts) + out Reading ≤ acknowledgements (done_by (Come part) (reads (line n Reading h) part ends u result) ∷ history (reads (line n Reading h) part ends u result).line acts) + 1
 few_reads n h part ends u (Err fault) acts ih = omega (arith, (ih (Broken (cause fault)) (left_by fault u)))
 few_reads n h part false u (Ok heard) acts ih = omega (arith, (ih Reading heard))
 few_reads n h part true u (Ok heard) acts ih = omega (arith, (ih Idle (with_done heard Awaited)))
 
 few_skips_to_end : {T : Type 0} (n : ℕ) (h heard : Heard) (part : Part T) (done : FinalDone) (acts : List (Act T))
-    → ((s : Stage) (h : Heard) → attentions (history (line n s h) acts) + out s ≤ acknowledgements (history (line n s h) acts) + 1)
+    → ((s : LineStage) (h : Heard) → attentions (history (line n s h) acts) + out s ≤ acknowledgements (history (line n s h) acts) + 1)
     → attentions (done_by (Come part) (skips_to_end {T = T} (line n Cancelling h) heard done) ∷ history (skips_to_end {T = T} (line n Cancelling h) heard done).line acts) + out Cancelling ≤ acknowledgements (done_by (Come part) (skips_to_end {T = T} (line n Cancelling h) heard done) ∷ history (skips_to_end {T = T} (line n Cancelling h) heard done).line acts) + 1
 few_skips_to_end n h heard part Awaited acts ih = omega (arith, (ih Cancelling (with_done heard Awaited)))
 few_skips_to_end n h heard part Answered acts ih = omega (arith, (ih Cancelling (with_done heard Awaited)))
 few_skips_to_end n h heard part Acknowledged acts ih = omega (arith, (ih Idle (with_done heard Awaited)))
 
 few_skips : {T : Type 0} (n : ℕ) (h : Heard) (part : Part T) (ends : Bool) (u : Heard) (result : Result Heard ListenFault) (acts : List (Act T))
-    → ((s : Stage) (h : Heard) → attentions (history (line n s h) acts) + out s ≤ acknowledgements (history (line n s h) acts) + 1)
+    → ((s : LineStage) (h : Heard) → attentions (history (line n s h) acts) + out s ≤ acknowledgements (history (line n s h) acts) + 1)
     → attentions (done_by (Come part) (skips {T = T} (line n Cancelling h) ends u result) ∷ history (skips {T = T} (line n Cancelling h) ends u result).line acts) + out Cancelling ≤ acknowledgements (done_by (Come part) (skips {T = T} (line n Cancelling h) ends u result) ∷ history (skips {T = T} (line n Cancelling h) ends u result).line acts) + 1
 few_skips n h part ends u (Err fault) acts ih = omega (arith, (ih (Broken (cause fault)) (left_by fault u)))
 few_skips n h part false u (Ok heard) acts ih = omega (arith, (ih Cancelling heard))
 few_skips n h part true u (Ok heard) acts ih = few_skips_to_end n h heard part heard.done acts ih
 
-pub few : {T : Type 0} (n : ℕ) (s : Stage) (h : Heard) (acts : List (Act T)) → attentions (history (line n s h) acts) + out s ≤ acknowledgements (history (line n s h) acts) + 1
+pub few : {T : Type 0} (n : ℕ) (s : LineStage) (h : Heard) (acts : List (Act T)) → attentions (history (line n s h) acts) + out s ≤ acknowledgements (history (line n s h) acts) + 1
 few n s h [] = omega (arith, at_most_one s)
 few n Idle h (Mark reset ∷ acts) = omega (arith, (few n Idle (with_mark h reset) acts))
 few n Idle h (Ask ∷ acts) = omega (arith, (few (suc n) (Sending false) h acts))

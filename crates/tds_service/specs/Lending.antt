@@ -6,7 +6,7 @@ use Rattle.tds_service.specs.Line.{Act}
 use Rattle.tds_service.specs.Line as line
 use Rattle.tds_service.specs.History.{Done}
 use Rattle.tds_service.specs.Promises.{awaited_by_answer, awaited_by_packets}
-use Rattle.tds_service.specs.Service.{Call, Lease, Resume, Ask, Put, Finish, Cancel, GiveBack, Cleaned, Keep, Abandon, Reply, Unknown, Lent, Service, Step, nothing, step, on}
+use Rattle.tds_service.specs.Service.{Call, Lease, Resume, Ask, Put, Finish, Cancel, GiveBack, Cleaned, Keep, Abandon, Reply, Unknown, Lent, Service, ServiceStep, nothing, step, on}
 
 -- Whether an answer or an acknowledgement is awaited behind what was done.
 abbrev pub awaited : {T : Type 0} → Bool → List (Done T) → Bool
@@ -14,7 +14,7 @@ awaited b [] = b
 awaited b (d ∷ ds) = awaited (awaited_by_answer (awaited_by_packets b d.sent) d.answer) ds
 
 -- A connection that somebody had before is lent only where nothing is awaited on it.
-abbrev pub LendsIdle : {T : Type 0} → List (Step T) → Reply → Type 0
+abbrev pub LendsIdle : {T : Type 0} → List (ServiceStep T) → Reply → Type 0
 LendsIdle before (Lent lease number true) = awaited false (on number before) ≡ false
 LendsIdle before _ = Unit {0}
 
@@ -31,7 +31,7 @@ MarksBy call (Lent lease number true) ds = ds ≡ marking (reset_of call) ∷ []
 MarksBy call (Lent lease number false) ds = ds ≡ []
 MarksBy call _ ds = Unit {0}
 
-abbrev pub MarksReused : {T : Type 0} → List (Call T) → List (Step T) → Type 0
+abbrev pub MarksReused : {T : Type 0} → List (Call T) → List (ServiceStep T) → Type 0
 MarksReused [] [] = Unit {0}
 MarksReused [] (t ∷ ts) = ⊥
 MarksReused (call ∷ calls) [] = ⊥
@@ -59,5 +59,5 @@ IsWithTicket ticket (Abandon other) = other ≡ ticket
 IsWithTicket ticket _ = ⊥
 
 -- It reaches no connection, and the table stays.
-abbrev pub nothing_known_of : (T : Type 0) → Service → Step T
+abbrev pub nothing_known_of : (T : Type 0) → Service → ServiceStep T
 nothing_known_of T s = nothing s Unknown

@@ -12,20 +12,20 @@ use Rattle.tds_client.specs.declared.heard.Heard.{Heard}
 use Rattle.tds_client.specs.declared.heard.FinalDone.{FinalDone}
 use Rattle.tds_client.specs.declared.heard.FinalDone.TheVariants.{Awaited, Answered, Acknowledged}
 use Rattle.tds_client.specs.Hearing.{with_done}
-use Rattle.tds_service.specs.Parts.{Part, is_end, told, hear_part, heard_until}
+use Rattle.tds_service.specs.Parts.{Part, is_end, items_told, hear_part, heard_until}
 
 -- Where the newest request is.
-pub data Stage : Type 0 where
-  Idle : Stage
-  Sending : (begun : Bool) → Stage
-  Reading : Stage
-  Cancelling : Stage
-  Broken : (fault : ClientFault) → Stage
+pub data LineStage : Type 0 where
+  Idle : LineStage
+  Sending : (begun : Bool) → LineStage
+  Reading : LineStage
+  Cancelling : LineStage
+  Broken : (fault : ClientFault) → LineStage
 
 -- A connection: how many requests were asked on it, which are their numbers; where the newest is; what was heard.
 pub record Line : Type 0 where
   pub asked : ℕ
-  pub stage : Stage
+  pub stage : LineStage
   pub heard : Heard
 
 abbrev pub new_line : Line
@@ -85,7 +85,7 @@ quiet l answer = record { line = l; answer = answer; sent = []; told = Nobody }
 abbrev pub refused : {T : Type 0} → Line → ClientRefusal → Turn T
 refused l why = quiet l (Refused why)
 
-abbrev pub at : Line → Stage → Line
+abbrev pub at : Line → LineStage → Line
 at l stage = record { asked = l.asked; stage = stage; heard = l.heard }
 
 -- ---- Marking and asking, while idle
@@ -97,7 +97,7 @@ marked l reset = record {
   heard = record { descriptor = l.heard.descriptor; mark = strongest (Some reset) l.heard.mark; done = l.heard.done };
 }
 
-abbrev pub marks : {T : Type 0} → Line → Reset → Stage → Turn T
+abbrev pub marks : {T : Type 0} → Line → Reset → LineStage → Turn T
 marks l reset Idle = quiet (marked l reset) Marked
 marks l reset (Sending begun) = refused l refusals.NotIdle
 marks l reset Reading = refused l refusals.NotIdle
@@ -107,7 +107,7 @@ marks l reset (Broken fault) = refused l refusals.Broken
 abbrev pub asked : Line → Line
 asked l = record { asked = suc l.asked; stage = Sending false; heard = l.heard }
 
-abbrev pub asks : {T : Type 0} → Line → Stage → Turn T
+abbrev pub asks : {T : Type 0} → Line → LineStage → Turn T
 asks l Idle = quiet (asked l) (Asked (suc l.asked) (header_descriptor l.heard.mark l.heard.descriptor))
 asks l (Sending begun) = refused l refusals.NotIdle
 asks l Reading = refused l refusals.NotIdle
@@ -125,11 +125,11 @@ abbrev pub not_begun : Bool → Bool
 not_begun false = true
 not_begun true = false
 
-abbrev pub stage_behind : Bool → Stage
+abbrev pub stage_behind : Bool → LineStage
 stage_behind false = Sending true
 stage_behind true = Reading
 
-abbrev pub sends : {T : Type 0} → Line → Bool → Stage → Turn T
+abbrev pub sends : {T : Type 0} → Line → Bool → LineStage → Turn T
 sends l last Idle = refused l refusals.NotSending
 sends l last (Sending begun) = record {
   line = at l (stage_behind last);
@@ -143,7 +143,7 @@ sends l last (Broken fault) = refused l refusals.Broken
 
 -- ---- Cancelling
 
-abbrev pub cancels : {T : Type 0} → Line → Stage → Turn T
+abbrev pub cancels : {T : Type 0} → Line → LineStage → Turn T
 cancels l Idle = quiet l Nothing
 cancels l (Sending false) = quiet (at l Idle) (Unsent l.asked)
 cancels l (Sending true) =
@@ -154,7 +154,7 @@ cancels l (Broken fault) = refused l refusals.Broken
 
 -- ---- Hearing
 
-abbrev pub heard_at : Line → Stage → Heard → Line
+abbrev pub heard_at : Line → LineStage → Heard → Line
 heard_at l stage heard = record { asked = l.asked; stage = stage; heard = heard }
 
 -- What a connection is broken by.
@@ -181,9 +181,9 @@ breaks_as l fault = breaks l l.heard (listens.Client fault)
 abbrev pub reads : {T : Type 0} → Line → Part T → Bool → Heard → Result Heard ListenFault → Turn T
 reads l part ends until (Err fault) = breaks l until fault
 reads l part false until (Ok heard) =
-    record { line = heard_at l Reading heard; answer = More; sent = []; told = To l.asked (told part.items) }
+    record { line = heard_at l Reading heard; answer = More; sent = []; told = To l.asked (items_told part.items) }
 reads l part true until (Ok heard) =
-    record { line = heard_at l Idle (with_done heard Awaited); answer = Finished l.asked; sent = []; told = To l.asked (told part.items) }
+    record { line = heard_at l Idle (with_done heard Awaited); answer = Finished l.asked; sent = []; told = To l.asked (items_told part.items) }
 
 -- What comes behind a cancel.
 abbrev pub skips_to_end : {T : Type 0} → Line → Heard → FinalDone → Turn T
@@ -196,7 +196,7 @@ skips l ends until (Err fault) = breaks l until fault
 skips l false until (Ok heard) = quiet (heard_at l Cancelling heard) More
 skips l true until (Ok heard) = skips_to_end l heard heard.done
 
-abbrev pub comes : {T : Type 0} → Line → Part T → Stage → Turn T
+abbrev pub comes : {T : Type 0} → Line → Part T → LineStage → Turn T
 comes l part Idle = breaks_as l faults.AnswerInIdle
 comes l part (Sending begun) = breaks_as l faults.AnswerInSending
 comes l part Reading = reads l part (is_end part.close) (heard_until false l.heard part.items) (hear_part false l.heard part)
@@ -205,14 +205,14 @@ comes l part (Broken fault) = breaks_as l fault
 
 -- ---- All
 
-abbrev pub loses : {T : Type 0} → Line → Stage → Turn T
-loses l (Broken fault) = quiet l Lost
-loses l _ = quiet (at l (Broken faults.Lost)) Lost
+abbrev pub line_loses : {T : Type 0} → Line → LineStage → Turn T
+line_loses l (Broken fault) = quiet l Lost
+line_loses l _ = quiet (at l (Broken faults.Lost)) Lost
 
-abbrev pub turn : {T : Type 0} → Line → Act T → Turn T
-turn l (Mark reset) = marks l reset l.stage
-turn l Ask = asks l l.stage
-turn l (Send last) = sends l last l.stage
-turn l Cancel = cancels l l.stage
-turn l (Come part) = comes l part l.stage
-turn l Lose = loses l l.stage
+abbrev pub line_turn : {T : Type 0} → Line → Act T → Turn T
+line_turn l (Mark reset) = marks l reset l.stage
+line_turn l Ask = asks l l.stage
+line_turn l (Send last) = sends l last l.stage
+line_turn l Cancel = cancels l l.stage
+line_turn l (Come part) = comes l part l.stage
+line_turn l Lose = line_loses l l.stage

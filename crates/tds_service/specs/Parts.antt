@@ -42,9 +42,9 @@ told_by signs.Nothing token others = token ∷ others
 told_by (signs.Change change) token others = others
 told_by (signs.Done kind status) token others = token ∷ others
 
-abbrev pub told : {T : Type 0} → List (Item T) → List T
-told [] = []
-told (item ∷ items) = told_by item.sign item.token (told items)
+abbrev pub items_told : {T : Type 0} → List (Item T) → List T
+items_told [] = []
+items_told (item ∷ items) = told_by item.sign item.token (items_told items)
 
 -- ---- What a client makes of a part, by the rules of any server
 

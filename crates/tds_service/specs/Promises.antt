@@ -6,7 +6,7 @@ use Rattle.tds_packet.specs.declared.status.Reset.TheVariants.{Full, KeepTransac
 use Rattle.tds_packet.specs.Resets.{strongest, header_descriptor}
 use Rattle.tds_token.specs.declared.env_change.EnvChange.{EnvChange}
 use Rattle.tds_token.specs.declared.env_change.EnvChange.TheVariants as changes
-use Rattle.tds_service.specs.Parts.{Item, is_end, told}
+use Rattle.tds_service.specs.Parts.{Item, is_end, items_told}
 use Rattle.tds_client.specs.declared.sign.Sign.{Sign}
 use Rattle.tds_client.specs.declared.sign.Sign.TheVariants as signs
 use Rattle.tds_service.specs.Line.{Act, Mark, Ask, Send, Cancel, Come, Lose}
@@ -33,7 +33,7 @@ leaves_off _ = false
 
 -- What comes in one call, and whether the message ends with it.
 abbrev pub coming : {T : Type 0} → Act T → List T
-coming (Come part) = told part.items
+coming (Come part) = items_told part.items
 coming _ = []
 
 abbrev pub ends_message : {T : Type 0} → Act T → Bool

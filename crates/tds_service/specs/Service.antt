@@ -4,9 +4,9 @@ use Rattle.tds_packet.specs.declared.status.Reset.{Reset}
 use Rattle.tds_client.specs.declared.fault.ClientRefusal.{ClientRefusal}
 use Rattle.tds_packet.specs.declared.status.Reset.TheVariants.{Full, KeepTransaction}
 use Rattle.tds_service.specs.Parts.{Part}
-use Rattle.tds_service.specs.Line.{Line, new_line, Stage, Idle, Sending, Reading, Cancelling, Broken}
+use Rattle.tds_service.specs.Line.{Line, new_line, LineStage, Idle, Sending, Reading, Cancelling, Broken}
 use Rattle.tds_service.specs.Line as line
-use Rattle.tds_service.specs.Line.{Act, turn}
+use Rattle.tds_service.specs.Line.{Act, line_turn}
 use Rattle.tds_service.specs.History.{Done, history, line_after}
 use Rattle.tds_service.specs.Refusing.{packets, refusal_in}
 
@@ -69,13 +69,13 @@ pub data Reply : Type 0 where
   Back : (place : Option Place) → Reply
 
 -- What a call did: the service behind it, the reply, which connection it reached (0 for none), and what came of it there.
-pub record Step (T : Type 0) : Type 0 where
+pub record ServiceStep (T : Type 0) : Type 0 where
   pub service : Service
   pub reply : Reply
   pub number : ℕ
   pub dones : List (Done T)
 
-abbrev pub nothing : {T : Type 0} → Service → Reply → Step T
+abbrev pub nothing : {T : Type 0} → Service → Reply → ServiceStep T
 nothing s reply = record { service = s; reply = reply; number = 0; dones = [] }
 
 -- ---- Finding
@@ -107,7 +107,7 @@ abbrev pub is_free : Place → Bool
 is_free Free = true
 is_free _ = false
 
-abbrev pub is_idle : Stage → Bool
+abbrev pub is_idle : LineStage → Bool
 is_idle Idle = true
 is_idle _ = false
 
@@ -143,7 +143,7 @@ abbrev pub change_by : (Seat → Bool) → Option Place → Line → List Seat �
 change_by test place l [] = []
 change_by test place l (c ∷ cs) = if test c then placed c.number place l cs else c ∷ change_by test place l cs
 
-abbrev pub does : {T : Type 0} → Service → ℕ → (Seat → Bool) → Seat → Option Place → List (Act T) → Reply → Step T
+abbrev pub does : {T : Type 0} → Service → ℕ → (Seat → Bool) → Seat → Option Place → List (Act T) → Reply → ServiceStep T
 does s given test c place acts reply = record {
   service = record { max = s.max; last = s.last; given = given; seats = change_by test place (line_after c.line acts) s.seats };
   reply = reply;
@@ -152,7 +152,7 @@ does s given test c place acts reply = record {
 }
 
 -- where a connection is that nobody holds
-abbrev pub rests : Stage → Option Place
+abbrev pub rests : LineStage → Option Place
 rests Idle = Some Free
 rests (Sending begun) = Some Draining
 rests Reading = Some Draining
@@ -160,7 +160,7 @@ rests Cancelling = Some Draining
 rests (Broken fault) = None
 
 -- where one is behind what came: a draining one is free once it is idle
-abbrev pub drained : Place → Stage → Place
+abbrev pub drained : Place → LineStage → Place
 drained (Leased lease) stage = Leased lease
 drained (Cleaning lease) stage = Cleaning lease
 drained (Kept ticket) stage = Kept ticket
@@ -170,15 +170,15 @@ drained Draining stage = if is_idle stage then Free else Draining
 -- ---- The calls
 
 -- Where the connection refuses the first act, nothing is done.
-abbrev pub acts_unless : {T : Type 0} → Service → (Seat → Bool) → Seat → List (Act T) → Option ClientRefusal → Step T
+abbrev pub acts_unless : {T : Type 0} → Service → (Seat → Bool) → Seat → List (Act T) → Option ClientRefusal → ServiceStep T
 acts_unless s test c all None = does s s.given test c (Some c.place) all Did
 acts_unless s test c all (Some why) = nothing s (No why)
 
-abbrev pub acts : {T : Type 0} → Service → (Seat → Bool) → Act T → List (Act T) → Option Seat → Step T
+abbrev pub acts : {T : Type 0} → Service → (Seat → Bool) → Act T → List (Act T) → Option Seat → ServiceStep T
 acts s test first all None = nothing s Unknown
-acts s test first all (Some c) = acts_unless s test c all (refusal_in (turn c.line first).answer)
+acts s test first all (Some c) = acts_unless s test c all (refusal_in (line_turn c.line first).answer)
 
-abbrev pub opens : {T : Type 0} → Service → Bool → Step T
+abbrev pub opens : {T : Type 0} → Service → Bool → ServiceStep T
 opens s false = nothing s AllInUse
 opens s true = record {
   service = record {
@@ -192,18 +192,18 @@ opens s true = record {
   dones = [];
 }
 
-abbrev pub lends : {T : Type 0} → Service → Option Seat → Step T
+abbrev pub lends : {T : Type 0} → Service → Option Seat → ServiceStep T
 lends s None = opens s (nat_lt (length s.seats) s.max)
 lends s (Some c) = does s (suc s.given) is_lendable c (Some (Leased (suc s.given))) (line.Mark Full ∷ []) (Lent (suc s.given) c.number true)
 
-abbrev pub resumes : {T : Type 0} → Service → (Seat → Bool) → Option Seat → Step T
+abbrev pub resumes : {T : Type 0} → Service → (Seat → Bool) → Option Seat → ServiceStep T
 resumes s test None = nothing s Unknown
 resumes s test (Some c) =
     if is_idle c.line.stage
     then does s (suc s.given) test c (Some (Leased (suc s.given))) (line.Mark KeepTransaction ∷ []) (Lent (suc s.given) c.number true)
     else nothing s NotNow
 
-abbrev pub gives_back : {T : Type 0} → Service → (Seat → Bool) → Option Seat → Step T
+abbrev pub gives_back : {T : Type 0} → Service → (Seat → Bool) → Option Seat → ServiceStep T
 gives_back s test None = nothing s Unknown
 gives_back {T} s test (Some c) =
     let place = rests (line_after {T = T} c.line (line.Cancel ∷ [])).stage in
@@ -216,7 +216,7 @@ is_open (Some KeepTransaction) descriptor = nat_lt 0 descriptor
 is_open None descriptor = nat_lt 0 descriptor
 
 -- a connection that can be lent is lent to be cleaned
-abbrev pub cleans : {T : Type 0} → Service → (Seat → Bool) → Option Seat → Step T
+abbrev pub cleans : {T : Type 0} → Service → (Seat → Bool) → Option Seat → ServiceStep T
 cleans s test None = nothing s Unknown
 cleans s test (Some c) =
     if is_lendable c
@@ -229,14 +229,14 @@ is_clean (Some reset) descriptor = false
 is_clean None descriptor = descriptor == 0
 
 -- where it is then: it is closed where it isn't clean; or it isn't time to ask
-abbrev pub rests_clean : Bool → Stage → Option (Option Place)
+abbrev pub rests_clean : Bool → LineStage → Option (Option Place)
 rests_clean clean Idle = Some (if clean then Some Free else None)
 rests_clean clean (Sending begun) = None
 rests_clean clean Reading = None
 rests_clean clean Cancelling = None
 rests_clean clean (Broken fault) = Some None
 
-abbrev pub rests_cleaned : {T : Type 0} → Service → (Seat → Bool) → Seat → Option (Option Place) → Step T
+abbrev pub rests_cleaned : {T : Type 0} → Service → (Seat → Bool) → Seat → Option (Option Place) → ServiceStep T
 rests_cleaned s test c None = nothing s NotNow
 rests_cleaned s test c (Some place) = does s s.given test c place [] (Back place)
 
@@ -245,7 +245,7 @@ abbrev pub clean_place : Place → Line → Option (Option Place)
 clean_place (Cleaning lease) l = rests_clean (is_clean l.heard.mark l.heard.descriptor) l.stage
 clean_place _ l = None
 
-abbrev pub cleaned : {T : Type 0} → Service → (Seat → Bool) → Option Seat → Step T
+abbrev pub cleaned : {T : Type 0} → Service → (Seat → Bool) → Option Seat → ServiceStep T
 cleaned s test None = nothing s Unknown
 cleaned s test (Some c) = rests_cleaned s test c (clean_place c.place c.line)
 
@@ -253,27 +253,27 @@ cleaned s test (Some c) = rests_cleaned s test c (clean_place c.place c.line)
 abbrev pub may_keep : Seat → Bool
 may_keep c = is_idle c.line.stage && is_open c.line.heard.mark c.line.heard.descriptor
 
-abbrev pub keeps_it : {T : Type 0} → Service → (Seat → Bool) → Option Seat → Step T
+abbrev pub keeps_it : {T : Type 0} → Service → (Seat → Bool) → Option Seat → ServiceStep T
 keeps_it s test None = nothing s Unknown
 keeps_it s test (Some c) =
     if may_keep c
     then does s (suc s.given) test c (Some (Kept (suc s.given))) [] (Ticket (suc s.given))
     else nothing s NotNow
 
-abbrev pub abandons : {T : Type 0} → Service → (Seat → Bool) → Option Seat → Step T
+abbrev pub abandons : {T : Type 0} → Service → (Seat → Bool) → Option Seat → ServiceStep T
 abandons s test None = nothing s Unknown
 abandons s test (Some c) = does s s.given test c (rests c.line.stage) [] (Back (rests c.line.stage))
 
-abbrev pub hears : {T : Type 0} → Service → (Seat → Bool) → Part T → Option Seat → Step T
+abbrev pub hears : {T : Type 0} → Service → (Seat → Bool) → Part T → Option Seat → ServiceStep T
 hears s test part None = nothing s Unknown
 hears s test part (Some c) =
     does s s.given test c (Some (drained c.place (line_after c.line (line.Come part ∷ [])).stage)) (line.Come part ∷ []) Did
 
-abbrev pub loses : {T : Type 0} → Service → (Seat → Bool) → Option Seat → Step T
+abbrev pub loses : {T : Type 0} → Service → (Seat → Bool) → Option Seat → ServiceStep T
 loses s test None = nothing s Unknown
 loses s test (Some c) = does s s.given test c None (line.Lose ∷ []) (Back None)
 
-abbrev pub step : {T : Type 0} → Service → Call T → Step T
+abbrev pub step : {T : Type 0} → Service → Call T → ServiceStep T
 step s Lease = lends s (find_by is_lendable s.seats)
 step s (Resume ticket) = resumes s (has_ticket ticket) (find_by (has_ticket ticket) s.seats)
 step s (Ask lease) = acts s (has_lease lease) line.Ask (line.Ask ∷ []) (find_by (has_lease lease) s.seats)
@@ -293,7 +293,7 @@ abbrev pub service_after : {T : Type 0} → Service → List (Call T) → Servic
 service_after s [] = s
 service_after s (call ∷ calls) = service_after (step s call).service calls
 
-abbrev pub steps : {T : Type 0} → Service → List (Call T) → List (Step T)
+abbrev pub steps : {T : Type 0} → Service → List (Call T) → List (ServiceStep T)
 steps s [] = []
 steps s (call ∷ calls) = step s call ∷ steps (step s call).service calls
 
@@ -303,6 +303,6 @@ abbrev pub on_one : {T : Type 0} → Bool → List (Done T) → List (Done T) �
 on_one false ds others = others
 on_one true ds others = ds ++ others
 
-abbrev pub on : {T : Type 0} → ℕ → List (Step T) → List (Done T)
+abbrev pub on : {T : Type 0} → ℕ → List (ServiceStep T) → List (Done T)
 on n [] = []
 on n (t ∷ ts) = on_one (t.number == n) t.dones (on n ts)

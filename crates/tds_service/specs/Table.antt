@@ -1,7 +1,7 @@
 -- The table of the code, as the machine's service.
 use Rattle.std.specs.Prelude.{◌≡◌, ◌≢◌, ℕ, zero, suc, ◌<◌, ◌++◌, Bool, true, false, List, [], ◌∷◌, length, Option, Some, None, Result, take, drop, ◌+◌, if◌then◌else◌}
 use Rattle.tds_wire.specs.declared.told.Token.{Token}
-use Rattle.tds_wire.specs.Reading.{Reading}
+use Rattle.tds_wire.specs.Reading.{Parser}
 use Rattle.tds_client.specs.declared.fault.ClientRefusal.{ClientRefusal}
 use Rattle.tds_client.specs.declared.fault.ClientRefusal.TheVariants as clients
 use Rattle.tds_client.specs.declared.message.MessageKind.{MessageKind}
@@ -25,7 +25,7 @@ use Rattle.tds_service.specs.Line as lines
 use Rattle.tds_service.specs.Line.{Line, Answer}
 use Rattle.tds_service.specs.History.{Done}
 use Rattle.tds_service.specs.Service as calls
-use Rattle.tds_service.specs.Service.{find_by, Place, Leased, Cleaning, Kept, Free, Draining, Seat, Service, Call, Step, Reply, Unknown, AllInUse, NotNow, No, NoMemory, Lent, Ticket, Did, Back, lease_in, lease_at, has_lease, has_ticket, has_number, is_lendable, nothing, opens, step}
+use Rattle.tds_service.specs.Service.{find_by, Place, Leased, Cleaning, Kept, Free, Draining, Seat, Service, Call, ServiceStep, Reply, Unknown, AllInUse, NotNow, No, NoMemory, Lent, Ticket, Did, Back, lease_in, lease_at, has_lease, has_ticket, has_number, is_lendable, nothing, opens, step}
 use Rattle.tds_service.specs.Ties.{line_in, full_in, sent_in, cancel_out, tokens_in, IsTo, Appends}
 
 abbrev pub place_of : code.Place → Place
@@ -112,7 +112,7 @@ abbrev pub HasNumbers : Service → Type 0
 HasNumbers s = (s.given < 18446744073709551615) × (s.last < 18446744073709551615)
 
 -- Where a call is refused, the machine refuses it so; or memory was refused to one that would have been done.
-abbrev pub RefusesIn : Service → Step Token → Refusal → Type 0
+abbrev pub RefusesIn : Service → ServiceStep Token → Refusal → Type 0
 RefusesIn s t refusals.Unknown = t ≡ nothing s Unknown
 RefusesIn s t refusals.AllInUse = t ≡ nothing s AllInUse
 RefusesIn s t refusals.NotNow = t ≡ nothing s NotNow
@@ -121,8 +121,8 @@ RefusesIn s t refusals.NotSending = t ≡ nothing s (No clients.NotSending)
 RefusesIn s t refusals.Broken = t ≡ nothing s (No clients.Broken)
 RefusesIn s t refusals.Memory = HasNumbers s → is_refused t.reply ≡ false
 
-abbrev pub Refuses : Call Token → Service → Refusal → Type 0
-Refuses call s refusal = RefusesIn s (step s call) refusal
+abbrev pub Denies : Call Token → Service → Refusal → Type 0
+Denies call s refusal = RefusesIn s (step s call) refusal
 
 -- ---- Doing
 
@@ -132,7 +132,7 @@ answers_in (d ∷ ds) = d.answer ∷ answers_in ds
 
 -- What a call did is what the machine does: the table behind it, the connection that it reached, what is replied, and the bytes
 -- that go out there.
-pub record StepsIn (t : Step Token) (new : Service) (reply : Reply) (number : ℕ) (before after : List ℕ) : Type 0 where
+pub record StepsIn (t : ServiceStep Token) (new : Service) (reply : Reply) (number : ℕ) (before after : List ℕ) : Type 0 where
   pub service_is : new ≡ t.service
   pub reply_is : t.reply ≡ reply
   pub number_is : t.number ≡ number
@@ -172,20 +172,20 @@ abbrev pub ComesUntold : (s new : Service) → ℕ → Part Token → Option ℕ
 ComesUntold s new number part lease request answer = (tokens : List Token) × Comes s new number part lease request answer [] tokens
 
 -- Where the parser of the connection of this number stands.
-abbrev pub reading_by : (Seat → Bool) → List seats.Seat → Option Reading
+abbrev pub reading_by : (Seat → Bool) → List seats.Seat → Option Parser
 reading_by test [] = None
 reading_by test (c ∷ cs) = if test (seat_in c) then Some c.connection.parser else reading_by test cs
 
-abbrev pub reading_on : ℕ → services.Service → Option Reading
+abbrev pub reading_on : ℕ → services.Service → Option Parser
 reading_on number s = reading_by (has_number number) s.seats.items
 
 -- Where each connection's next packet is read from stays.
 abbrev pub Keeps : services.Service → services.Service → Type 0
-Keeps old new = (n : ℕ) (r : Reading) → reading_on n old ≡ Some r → reading_on n new ≡ Some r
+Keeps old new = (n : ℕ) (r : Parser) → reading_on n old ≡ Some r → reading_on n new ≡ Some r
 
 -- So it does but for the connection of this number.
 abbrev pub KeepsOthers : ℕ → services.Service → services.Service → Type 0
-KeepsOthers number old new = (n : ℕ) (r : Reading) → n ≢ number → reading_on n old ≡ Some r → reading_on n new ≡ Some r
+KeepsOthers number old new = (n : ℕ) (r : Parser) → n ≢ number → reading_on n old ≡ Some r → reading_on n new ≡ Some r
 
 abbrev pub KeepsBy : Rest → ℕ → services.Service → services.Service → Type 0
 KeepsBy rests.Free number old new = Keeps old new
@@ -211,19 +211,19 @@ abbrev pub client_of : ℕ → services.Service → Option ClientSession
 client_of lease s = client_by (has_lease lease) s.seats.items
 
 -- The client of the connection that this lease holds was one, and is another.
-pub record Moves (lease : ℕ) (old new : services.Service) (before after : ClientSession) : Type 0 where
+pub record TurnsInto (lease : ℕ) (old new : services.Service) (before after : ClientSession) : Type 0 where
   pub was : client_of lease old ≡ Some before
   pub is : client_of lease new ≡ Some after
 
 -- It began a message of this kind.
-abbrev pub Opens : MessageKind → ℕ → services.Service → services.Service → Type 0
-Opens kind lease old new = (s : ClientSession) × Moves lease old new s (opened s kind)
+abbrev pub BeginsMessage : MessageKind → ℕ → services.Service → services.Service → Type 0
+BeginsMessage kind lease old new = (s : ClientSession) × TurnsInto lease old new s (opened s kind)
 
 -- It did this, and what goes out by that was appended.
 pub record DoesAt (act : ClientSession → Result (Effect (Unit {0})) ClientRefusal) (lease : ℕ) (old new : services.Service) (before after : List ℕ) : Type 0 where
   pub session : ClientSession
   pub next : ClientSession
-  pub moves : Moves lease old new session next
+  pub moves : TurnsInto lease old new session next
   pub does : sending.Does (act session) tt next before after
 
 -- What goes out by a cancel is appended.

@@ -5,7 +5,7 @@ use Rattle.tds_packet.specs.declared.kind.Kind.{Kind}
 use Rattle.tds_packet.specs.Resets.{reset_bit, header_descriptor}
 use Rattle.tds_packet.specs.Sent.{end_bit}
 use Rattle.tds_wire.specs.declared.told.Token.{Token}
-use Rattle.tds_wire.specs.Reading.{Reading, Found, Sees, Inside, Refuses, is_between}
+use Rattle.tds_wire.specs.Reading.{Parser, Found, Sees, Inside, Refuses, is_between}
 use Rattle.tds_client.specs.declared.state.Cancelled.{Cancelled}
 use Rattle.tds_client.specs.declared.state.Cancelled.TheVariants as how
 use Rattle.tds_client.specs.declared.state.Taken.{Taken}
@@ -21,14 +21,14 @@ use Rattle.tds_listen.specs.Signs.{sign_of}
 use Rattle.tds_service.specs.declared.connection.Connection.{Connection}
 use Rattle.tds_service.specs.Parts.{Item, Part, Goes, Ends, Cut, Fails}
 use Rattle.tds_service.specs.Line as line
-use Rattle.tds_service.specs.Line.{Line, Stage, Packet, OfRequest, Ignore, Attention, Act, Answer, Told, Nobody, To, turn, not_begun}
+use Rattle.tds_service.specs.Line.{Line, LineStage, Packet, OfRequest, Ignore, Attention, Act, Answer, Told, Nobody, To, line_turn, not_begun}
 use Rattle.tds_service.specs.History.{Done, history, line_after}
 use Rattle.tds_service.specs.Refusing.{packets}
 
 abbrev pub begun_of : ℕ → Bool
 begun_of packets = not_begun (packets == 0)
 
-abbrev pub stage_of : session.Stage → Stage
+abbrev pub stage_of : session.Stage → LineStage
 stage_of session.Idle = line.Idle
 stage_of (session.Sending kind left packets) = line.Sending (begun_of packets)
 stage_of session.Reading = line.Reading
@@ -50,7 +50,7 @@ abbrev pub IsBytes : Packet → List ℕ → Type 0
 IsBytes (OfRequest request first reset last) bytes =
     (kind : Kind) × (before : ℕ) × (content : List ℕ) × (first ≡ (before == 0)) × (bytes ≡ packet_bytes kind (end_bit last + reset_bit reset) before content)
 IsBytes (Ignore request) bytes = (kind : Kind) × (before : ℕ) × (bytes ≡ wire.ignore kind before)
-IsBytes Attention bytes = bytes ≡ wire.attention
+IsBytes Attention bytes = bytes ≡ wire.stop_bytes
 
 abbrev pub AreBytes : List Packet → List ℕ → Type 0
 AreBytes [] bytes = bytes ≡ []
@@ -64,13 +64,13 @@ Appends packets before after = (more : List ℕ) × (after ≡ before ++ more) �
 
 -- What the machine answers.
 abbrev pub answer_to : Line → Act Token → Answer
-answer_to l act = (turn l act).answer
+answer_to l act = (line_turn l act).answer
 
 -- What a call did is what the machine does.
 pub record Does (act : Act Token) (old new : Line) (answer : Answer) (before after : List ℕ) : Type 0 where
-  pub line_is : new ≡ (turn old act).line
-  pub answer_is : (turn old act).answer ≡ answer
-  pub bytes : Appends (turn old act).sent before after
+  pub line_is : new ≡ (line_turn old act).line
+  pub answer_is : (line_turn old act).answer ≡ answer
+  pub bytes : Appends (line_turn old act).sent before after
 
 -- A request's number, and the transaction that its header names.
 abbrev pub asked_answer : Connection → ℕ → Answer
@@ -86,8 +86,8 @@ cancel_answer n how.Asked = line.Stopped n
 -- the request's type and with the next number, that tells the server to ignore it (2.2.3.1.2).
 abbrev pub cancel_out : session.Stage → List ℕ
 cancel_out session.Idle = []
-cancel_out (session.Sending kind left packets) = if packets == 0 then [] else wire.ignore kind packets ++ wire.attention
-cancel_out session.Reading = wire.attention
+cancel_out (session.Sending kind left packets) = if packets == 0 then [] else wire.ignore kind packets ++ wire.stop_bytes
+cancel_out session.Reading = wire.stop_bytes
 cancel_out session.Cancelling = []
 cancel_out (session.Broken fault) = []
 
@@ -129,12 +129,12 @@ part_of (Inside r) = record { items = []; close = Goes }
 part_of (Refuses refusal) = record { items = []; close = Fails refusal }
 
 -- Where the parser stands behind it, and what is left of the piece.
-abbrev pub Stands : Found → Reading → List ℕ → Type 0
+abbrev pub Stands : Found → Parser → List ℕ → Type 0
 Stands (Sees token r rest) reading left = (reading ≡ r) × (left ≡ rest)
 Stands (Inside r) reading left = (reading ≡ r) × (left ≡ [])
 Stands (Refuses refusal) reading left = ⊥
 
-abbrev pub end_at : Reading → Part Token
+abbrev pub end_at : Parser → Part Token
 end_at r = record { items = []; close = if is_between r then Ends else Cut }
 
 abbrev pub tokens_in : Told Token → List Token
@@ -158,8 +158,8 @@ taken_answer n takes.NoMemory = line.More
 
 -- The machine hears this part: it answers so, nothing goes out, and the request that was asked last is told these tokens.
 pub record Hears (part : Part Token) (old new : Line) (answer : Answer) (tokens : List Token) : Type 0 where
-  pub line_is : new ≡ (turn old (line.Come part)).line
-  pub answer_is : (turn old (line.Come part)).answer ≡ answer
-  pub told_is : tokens_in (turn old (line.Come part)).told ≡ tokens
-  pub owner : IsTo old.asked (turn old (line.Come part)).told
-  pub quiet : (turn old (line.Come part)).sent ≡ []
+  pub line_is : new ≡ (line_turn old (line.Come part)).line
+  pub answer_is : (line_turn old (line.Come part)).answer ≡ answer
+  pub told_is : tokens_in (line_turn old (line.Come part)).told ≡ tokens
+  pub owner : IsTo old.asked (line_turn old (line.Come part)).told
+  pub quiet : (line_turn old (line.Come part)).sent ≡ []

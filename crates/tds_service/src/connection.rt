@@ -6,7 +6,7 @@ ghost use Rattle.tds_client.specs.Streams.{finished, opened, put};
 ghost use Rattle.tds_wire.specs.Reading.{next_token, restarted};
 ghost use Rattle.tds_wire.specs.declared.told.Token.{Token};
 ghost use Rattle.tds_service.specs.Packets.{awaiting, noted};
-ghost use Rattle.tds_service.specs.Parts.{Part, told};
+ghost use Rattle.tds_service.specs.Parts.{Part, items_told};
 ghost use Rattle.tds_service.specs.Line as line;
 ghost use Rattle.tds_service.specs.Ties.{Does, DoesAll, Hears, Stands, answer_to, asked_answer};
 ghost use Rattle.tds_service.specs.Ties.{cancel_answer, end_at, finishing, line_in, listed, part_of};
@@ -232,7 +232,7 @@ impl Connection {
             × ((line_in self.old).stage ≡ awaiting cancelling) }
         ensures ok { IfOk result (λ _. Hears
             (part_of (next_token self.old.parser piece.now)) (line_in self.old)
-            (line_in self.new) line.More (told (items_of token.new))) }
+            (line_in self.new) line.More (items_told (items_of token.new))) }
         ensures fault { IfErr result (λ fault. Hears
             (part_of (next_token self.old.parser piece.now)) (line_in self.old)
             (line_in self.new) (line.Fault fault) []) }
@@ -279,7 +279,7 @@ impl Connection {
         ensures ok { IfOk result (λ _. (tokens : List Token) × Hears
             (part_of (next_token self.old.parser piece.now)) (line_in self.old)
             (line_in self.new) line.More tokens
-            × (noted tells (told (items_of token.new)) ≡ noted tells tokens)) }
+            × (noted tells (items_told (items_of token.new)) ≡ noted tells tokens)) }
         ensures fault { IfErr result (λ fault. Hears
             (part_of (next_token self.old.parser piece.now)) (line_in self.old)
             (line_in self.new) (line.Fault fault) []) }
@@ -350,7 +350,7 @@ impl Connection {
 /// Whether a token is told: it is no change of a transaction and no end of a reset.
 #[inline(always)]
 pub(crate) fn is_told(token: &Token) -> bool
-    ensures { told (items_of (Some token.now)) ≡ noted result (listed (Some token.now)) }
+    ensures { items_told (items_of (Some token.now)) ≡ noted result (listed (Some token.now)) }
 {
     match sign_of(token) {
         Sign::Change(_) => false,
@@ -361,7 +361,7 @@ pub(crate) fn is_told(token: &Token) -> bool
 
 /// The token, where it is told.
 fn unless_change(token: Option<Token>) -> Option<Token>
-    ensures { listed result ≡ told (items_of token) }
+    ensures { listed result ≡ items_told (items_of token) }
 {
     let told = token?;
     if is_told(&told) { Some(told) } else { None }

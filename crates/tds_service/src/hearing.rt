@@ -1,7 +1,7 @@
 //! What a connection hears of a packet's data.
 ghost use Rattle.std.specs.Prelude.{◌≡◌, ◌≤◌, ◌<◌, ◌+◌, ◌++◌, ℕ, Bool, List, [], true, length, take, vec_len, vec_capacity, IfOk, IfErr, OnOk, OnErr};
 ghost use Rattle.tds_listen.specs.Hearing.{Stands, tokens_in};
-ghost use Rattle.tds_wire.specs.Reading.{Reading};
+ghost use Rattle.tds_wire.specs.Reading.{Parser};
 ghost use Rattle.tds_wire.specs.declared.told.Token.{Token};
 ghost use Rattle.tds_service.specs.Line as line;
 ghost use Rattle.tds_service.specs.Packets.{HeardSome, Reads, awaiting, behind_packet, noted, outcome_answer, packet_part, told_of_part};
@@ -17,12 +17,12 @@ use tds_wire::Token;
 /// Notes a token, where there is one that is told and the caller `tells`.
 #[inline(always)]
 fn note(told: &mut Vec<Token>, tells: bool, token: &Option<Token>)
-    requires { vec_len told.old + length (noted tells (parts.told (items_of token.now)))
+    requires { vec_len told.old + length (noted tells (parts.items_told (items_of token.now)))
         ≤ vec_capacity told.old }
     ensures items { told.new.items ≡ told.old.items
-        ++ noted tells (parts.told (items_of token.now)) }
+        ++ noted tells (parts.items_told (items_of token.now)) }
     ensures len { vec_len told.new
-        ≡ vec_len told.old + length (noted tells (parts.told (items_of token.now))) }
+        ≡ vec_len told.old + length (noted tells (parts.items_told (items_of token.now))) }
     ensures capacity { vec_capacity told.new ≡ vec_capacity told.old }
 {
     if !tells {
@@ -101,7 +101,7 @@ pub(crate) fn hear(
     ensures told { OnOk result (told.new.items ≡ told.old.items
         ++ noted tells (told_of_part (line_in connection.old)
         (packet_part connection.old.parser bytes.now ends))) }
-    ensures stands { OnOk result ((r : Reading)
+    ensures stands { OnOk result ((r : Parser)
         × ((tokens_in connection.old.parser bytes.now).stop ≡ Stands r)
         × (connection.new.parser ≡ behind_packet ends r)) }
     ensures fault { IfErr result (λ fault. Hears

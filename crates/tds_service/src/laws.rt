@@ -19,7 +19,7 @@ ghost use Rattle.tds_service.specs.Promises.{AsksAsOwed, LeavesNoneOwed, NamesAs
 ghost use Rattle.tds_service.specs.Promises.{nothing_known};
 ghost use Rattle.tds_service.specs.Sizes.{AllSized, Sized};
 ghost use Rattle.tds_service.specs.Spelling.{Spells, SpellsBy};
-ghost use Rattle.tds_service.specs.Table.{Moves, client_of};
+ghost use Rattle.tds_service.specs.Table.{TurnsInto, client_of};
 
 use tds_client::stream_laws::message_is_spelled;
 
@@ -87,7 +87,7 @@ pub fn request_is_spelled()
         (headers_of c.client.heard kind ++ joined parts) }
     ensures lease { (size lease : ℕ) (old asked next behind : Service) (s : ClientSession)
         (kind : MessageKind) (parts : List (List ℕ)) (bytes : List ℕ) → AllSized size old
-        → Moves lease old asked s (opened s kind) → client_of lease next ≡ client_of lease asked
+        → TurnsInto lease old asked s (opened s kind) → client_of lease next ≡ client_of lease asked
         → SpellsBy lease next parts bytes behind
         → (packets : List (List ℕ)) × (bytes ≡ joined packets)
         × AreParts size (packets_are kind) s.heard.mark 0 packets

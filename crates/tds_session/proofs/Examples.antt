@@ -1,7 +1,7 @@
 -- Answers that the checker computes.
 use Rattle.std.specs.Prelude.{◌≡◌, refl, pos, negsuc, [], ◌∷◌, ◌++◌, Some, None, replicate, codes, true, false}
-use Rattle.tds_session.specs.Session.{SessionState, new_session, no_settings, with_value, begun, last_descriptor}
-use Rattle.tds_session.specs.Effects.{error, done}
+use Rattle.tds_session.specs.Session.{SessionState, new_session, no_settings, with_value, transacting, last_descriptor}
+use Rattle.tds_session.specs.Effects.{error_token, done}
 use Rattle.tds_session.specs.Answer.{script_answers}
 use Rattle.tds_session.specs.Language.{statements_of}
 use Rattle.tds_session.specs.Script.{step_of}
@@ -13,13 +13,13 @@ use Rattle.tds_token.specs.declared.token.Token.TheVariants as token
 
 -- the session of a user who set x to 7 and is in transaction 1
 abbrev used : SessionState
-used = begun (with_value 120 (pos 7) new_session)
+used = transacting (with_value 120 (pos 7) new_session)
 
 -- after a full reset, of a header without a transaction: x is unset, and nothing is to commit
 fully_reset : script_answers used 0 (Some Full) (request.Batch (codes "get x;commit")) ≡
     record { tokens = token.Env change.ResetDone ∷ []; last = false; reset = Some Full; after = record { settings = no_settings; descriptor = 0; next_descriptor = 2 } }
     ∷ record { tokens = token.ReturnStatus (pos 0) ∷ done 1 ∷ []; last = false; reset = None; after = record { settings = no_settings; descriptor = 0; next_descriptor = 2 } }
-    ∷ record { tokens = error 50003 (codes "no transaction") ∷ []; last = false; reset = None; after = record { settings = no_settings; descriptor = 0; next_descriptor = 2 } }
+    ∷ record { tokens = error_token 50003 (codes "no transaction") ∷ []; last = false; reset = None; after = record { settings = no_settings; descriptor = 0; next_descriptor = 2 } }
     ∷ record { tokens = done 2 ∷ []; last = true; reset = None; after = record { settings = no_settings; descriptor = 0; next_descriptor = 2 } }
     ∷ []
 fully_reset = refl
@@ -35,13 +35,13 @@ kept = refl
 
 -- a batch and a commit of a header with another descriptor
 differing : script_answers used 2 None (request.Batch (codes "get x")) ≡
-    record { tokens = error 50010 (codes "descriptor") ∷ []; last = false; reset = None; after = used }
+    record { tokens = error_token 50010 (codes "descriptor") ∷ []; last = false; reset = None; after = used }
     ∷ record { tokens = done 2 ∷ []; last = true; reset = None; after = used }
     ∷ []
 differing = refl
 
 differing_commit : script_answers used 0 None (request.Commit None) ≡
-    record { tokens = error 50010 (codes "descriptor") ∷ done 2 ∷ []; last = true; reset = None; after = used } ∷ []
+    record { tokens = error_token 50010 (codes "descriptor") ∷ done 2 ∷ []; last = true; reset = None; after = used } ∷ []
 differing_commit = refl
 
 -- begin, commit, begin: descriptors 1 and 2
@@ -55,7 +55,7 @@ begun_twice = refl
 
 -- a begin where the descriptors are used up changes nothing
 used_up : step_of (record { settings = no_settings; descriptor = 0; next_descriptor = last_descriptor }) statement.Begin ≡
-    record { tokens = error 50004 (codes "no descriptor") ∷ []; after = record { settings = no_settings; descriptor = 0; next_descriptor = last_descriptor } }
+    record { tokens = error_token 50004 (codes "no descriptor") ∷ []; after = record { settings = no_settings; descriptor = 0; next_descriptor = last_descriptor } }
 used_up = refl
 
 -- each statement once

@@ -1,7 +1,7 @@
 -- Commits and rollbacks that begin anew, computed by the checker.
 use Rattle.std.specs.Prelude.{◌≡◌, ℕ, refl, [], ◌∷◌, Some, None, codes, true, false, flat_map}
 use Rattle.tds_session.specs.Session.{SessionState, no_settings, last_descriptor}
-use Rattle.tds_session.specs.Effects.{error, done}
+use Rattle.tds_session.specs.Effects.{error_token, done}
 use Rattle.tds_session.specs.Answer.{script_answers}
 use Rattle.tds_packet.specs.declared.status.Reset.TheVariants.{Full, KeepTransaction}
 use Rattle.tds_request.specs.declared.request.Request.TheVariants as request
@@ -32,7 +32,7 @@ rolled_back = refl
 
 -- outside a transaction nothing begins
 outside : script_answers (at 0 5) 0 None (request.Commit (Some 2)) ≡
-    record { tokens = error 50003 (codes "no transaction") ∷ done 2 ∷ []; last = true; reset = None; after = at 0 5 } ∷ []
+    record { tokens = error_token 50003 (codes "no transaction") ∷ done 2 ∷ []; last = true; reset = None; after = at 0 5 } ∷ []
 outside = refl
 
 -- the last descriptor but one begins; behind it no other does, and the transaction stays
@@ -41,23 +41,23 @@ last_but_one : script_answers (at 7 18446744073709551614) 7 None (request.Commit
 last_but_one = refl
 
 used_up : script_answers (at 18446744073709551614 last_descriptor) 18446744073709551614 None (request.Rollback (Some 2)) ≡
-    record { tokens = error 50004 (codes "no descriptor") ∷ done 2 ∷ []; last = true; reset = None; after = at 18446744073709551614 last_descriptor } ∷ []
+    record { tokens = error_token 50004 (codes "no descriptor") ∷ done 2 ∷ []; last = true; reset = None; after = at 18446744073709551614 last_descriptor } ∷ []
 used_up = refl
 
 -- with the descriptors used up, too, there is first of all no transaction
 used_up_outside : script_answers (at 0 last_descriptor) 0 None (request.Rollback (Some 2)) ≡
-    record { tokens = error 50003 (codes "no transaction") ∷ done 2 ∷ []; last = true; reset = None; after = at 0 last_descriptor } ∷ []
+    record { tokens = error_token 50003 (codes "no transaction") ∷ done 2 ∷ []; last = true; reset = None; after = at 0 last_descriptor } ∷ []
 used_up_outside = refl
 
 -- a header of another transaction ends and begins nothing
 differing : script_answers (at 2 3) 1 None (request.Commit (Some 2)) ≡
-    record { tokens = error 50010 (codes "descriptor") ∷ done 2 ∷ []; last = true; reset = None; after = at 2 3 } ∷ []
+    record { tokens = error_token 50010 (codes "descriptor") ∷ done 2 ∷ []; last = true; reset = None; after = at 2 3 } ∷ []
 differing = refl
 
 -- behind a full reset there is nothing to end; behind one that keeps the transaction there is
 fully_reset : script_answers (at 1 2) 0 (Some Full) (request.Commit (Some 2)) ≡
     record { tokens = token.Env change.ResetDone ∷ []; last = false; reset = Some Full; after = at 0 2 }
-    ∷ record { tokens = error 50003 (codes "no transaction") ∷ done 2 ∷ []; last = true; reset = None; after = at 0 2 }
+    ∷ record { tokens = error_token 50003 (codes "no transaction") ∷ done 2 ∷ []; last = true; reset = None; after = at 0 2 }
     ∷ []
 fully_reset = refl
 

@@ -2,7 +2,7 @@
 use Rattle.std.specs.Prelude.{ℕ, List, [], ◌∷◌, ◌++◌, map, Bool, true, false, ◌&&◌, Option, Some, None}
 use Rattle.tds_session.specs.declared.attention.OnAttention.{OnAttention}
 use Rattle.tds_session.specs.declared.attention.OnAttention.TheVariants.{Keep, RollBack}
-use Rattle.tds_session.specs.Session.{SessionState, ended, is_in_transaction}
+use Rattle.tds_session.specs.Session.{SessionState, out_of_transaction, is_in_transaction}
 use Rattle.tds_token.specs.declared.env_change.EnvChange.{EnvChange}
 use Rattle.tds_token.specs.declared.env_change.EnvChange.TheVariants as change
 use Rattle.tds_token.specs.declared.token.Token.{Token}
@@ -22,7 +22,7 @@ pub record Stop : Type 0 where
 
 -- one change, by which the transaction is gone; or none
 abbrev pub stop_by : Bool → SessionState → Stop
-stop_by true s = record { changes = change.Rollback s.descriptor ∷ []; after = ended s }
+stop_by true s = record { changes = change.Rollback s.descriptor ∷ []; after = out_of_transaction s }
 stop_by false s = record { changes = []; after = s }
 
 -- what an attention does to the session where it stops an answer in its middle, or elsewhere

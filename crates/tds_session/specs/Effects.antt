@@ -1,7 +1,7 @@
 -- What a statement or a transaction request does: the tokens that it gives, and the session after.
 use Rattle.std.specs.Prelude.{ℕ, pos, List, [], ◌∷◌, Bool, true, false, Option, Some, None, ◌==◌, codes}
 use Rattle.std.specs.List.{list_any}
-use Rattle.tds_session.specs.Session.{SessionState, begun, ended, renewed, last_descriptor}
+use Rattle.tds_session.specs.Session.{SessionState, transacting, out_of_transaction, renewed, last_descriptor}
 use Rattle.tds_session.specs.declared.transaction.Ending.{Ending}
 use Rattle.tds_session.specs.declared.transaction.Ending.TheVariants as ending
 use Rattle.tds_token.specs.declared.env_change.EnvChange.{EnvChange}
@@ -20,8 +20,8 @@ abbrev pub message : ℕ → ℕ → List ℕ → Message
 message number class text = record { number = pos number; state = 1; class = class; text = text; server = []; procedure = []; line = pos 0 }
 
 -- an ERROR, of class 16
-abbrev pub error : ℕ → List ℕ → Token
-error number text = token.Error (message number 16 text)
+abbrev pub error_token : ℕ → List ℕ → Token
+error_token number text = token.Error (message number 16 text)
 
 -- whether a token is an ERROR
 abbrev pub is_error : Token → Bool
@@ -33,12 +33,12 @@ abbrev pub has_error : Effect → Bool
 has_error e = list_any is_error e.tokens
 
 -- one token, in an unchanged session
-abbrev pub gives : Token → SessionState → Effect
-gives t s = record { tokens = t ∷ []; after = s }
+abbrev pub gives_token : Token → SessionState → Effect
+gives_token t s = record { tokens = t ∷ []; after = s }
 
 -- an ERROR alone
 abbrev pub fails : ℕ → List ℕ → SessionState → Effect
-fails number text s = gives (error number text) s
+fails number text s = gives_token (error_token number text) s
 
 -- a DONE without a row count (MS-TDS 2.2.7.6)
 abbrev pub done : ℕ → Token
@@ -48,7 +48,7 @@ done status = token.Done status 0 0
 abbrev pub begin_by : Bool → Bool → SessionState → Effect
 begin_by false used_up s = fails 50002 (codes "in transaction") s
 begin_by true true s = fails 50004 (codes "no descriptor") s
-begin_by true false s = record { tokens = token.Env (change.Begin s.next_descriptor) ∷ []; after = begun s }
+begin_by true false s = record { tokens = token.Env (change.Begin s.next_descriptor) ∷ []; after = transacting s }
 
 -- what begin does
 abbrev pub begins : SessionState → Effect
@@ -57,7 +57,7 @@ begins s = begin_by (s.descriptor == 0) (s.next_descriptor == last_descriptor) s
 -- the end of a transaction, as the change says: there is none, or it ends
 abbrev pub end_by : Bool → (ℕ → EnvChange) → SessionState → Effect
 end_by true change s = fails 50003 (codes "no transaction") s
-end_by false change s = record { tokens = token.Env (change s.descriptor) ∷ []; after = ended s }
+end_by false change s = record { tokens = token.Env (change s.descriptor) ∷ []; after = out_of_transaction s }
 
 -- what commit or rollback does
 abbrev pub ends : (ℕ → EnvChange) → SessionState → Effect

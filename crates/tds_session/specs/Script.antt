@@ -2,7 +2,7 @@
 use Rattle.std.specs.Prelude.{ℕ, zero, suc, ◌+◌, pos, List, [], ◌∷◌, ◌++◌, if◌then◌else◌, codes}
 use Rattle.std.specs.List.{list_any}
 use Rattle.tds_session.specs.Session.{SessionState, value_of, with_value}
-use Rattle.tds_session.specs.Effects.{Effect, message, gives, fails, is_error, done, begins, ends}
+use Rattle.tds_session.specs.Effects.{Effect, message, gives_token, fails, is_error, done, begins, ends}
 use Rattle.tds_session.specs.declared.statement.Statement.{Statement}
 use Rattle.tds_session.specs.declared.statement.Statement.TheVariants as statement
 use Rattle.tds_token.specs.DoneStatus as done_status
@@ -34,10 +34,10 @@ result_set first count = token.Columns (row_column ∷ []) ∷ (rows_from first 
 
 -- a statement's tokens, and the session after it
 abbrev pub step_of : SessionState → Statement → Effect
-step_of s (statement.Say word) = with_more (gives (token.Info (message 50000 0 word)) s)
+step_of s (statement.Say word) = with_more (gives_token (token.Info (message 50000 0 word)) s)
 step_of s (statement.Rows first count) = record { tokens = result_set first count; after = s }
 step_of s (statement.Set key value) = record { tokens = done done_status.more ∷ []; after = with_value key value s }
-step_of s (statement.Get key) = with_more (gives (token.ReturnStatus (value_of s key)) s)
+step_of s (statement.Get key) = with_more (gives_token (token.ReturnStatus (value_of s key)) s)
 step_of s statement.Begin = with_more (begins s)
 step_of s statement.Commit = with_more (ends change.Commit s)
 step_of s statement.Rollback = with_more (ends change.Rollback s)

@@ -53,12 +53,12 @@ abbrev pub can_begin : SessionState → Bool
 can_begin s = (s.descriptor == 0) && not (s.next_descriptor == last_descriptor)
 
 -- the session in a new transaction, of the next descriptor
-abbrev pub begun : SessionState → SessionState
-begun s = record s { descriptor = s.next_descriptor; next_descriptor = s.next_descriptor + 1 }
+abbrev pub transacting : SessionState → SessionState
+transacting s = record s { descriptor = s.next_descriptor; next_descriptor = s.next_descriptor + 1 }
 
 -- the session outside its transaction
-abbrev pub ended : SessionState → SessionState
-ended s = record s { descriptor = 0 }
+abbrev pub out_of_transaction : SessionState → SessionState
+out_of_transaction s = record s { descriptor = 0 }
 
 -- whether a transaction can end and the next one begin at once: there is one, and a descriptor is
 -- left
@@ -67,7 +67,7 @@ can_renew s = is_in_transaction s && not (s.next_descriptor == last_descriptor)
 
 -- the session behind its transaction, in a new one of the next descriptor
 abbrev pub renewed : SessionState → SessionState
-renewed s = begun (ended s)
+renewed s = transacting (out_of_transaction s)
 
 -- the session after a reset (MS-TDS 2.2.3.1.2): its settings are gone, and its transaction too
 -- unless the reset keeps it; the next descriptor survives both, so that none comes twice

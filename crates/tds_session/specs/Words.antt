@@ -46,12 +46,12 @@ digits_value n [] = n
 digits_value n (u ∷ us) = digits_value (n * 10 + (u - 48)) us
 
 -- the number that units spell
-abbrev pub number_of : List ℕ → Option ℕ
-number_of us = if is_numeral us then Some (digits_value 0 us) else None
+abbrev pub numeral_value : List ℕ → Option ℕ
+numeral_value us = if is_numeral us then Some (digits_value 0 us) else None
 
 -- the number from low to high that units spell
 abbrev pub number_within : ℕ → ℕ → List ℕ → Option ℕ
-number_within low high us = such (is_within low high) (number_of us)
+number_within low high us = such (is_within low high) (numeral_value us)
 
 -- the number after a minus sign; there is no minus zero
 abbrev pub minus : Option ℕ → Option ℤ
@@ -61,7 +61,7 @@ minus _ = None
 -- the number that units spell, perhaps with a minus sign
 abbrev pub signed_of : List ℕ → Option ℤ
 signed_of [] = None
-signed_of (u ∷ us) = if u == 45 then minus (number_of us) else option_map pos (number_of (u ∷ us))
+signed_of (u ∷ us) = if u == 45 then minus (numeral_value us) else option_map pos (numeral_value (u ∷ us))
 
 -- whether a number fits 32 bits with a sign
 abbrev pub fits_i32 : ℤ → Bool

@@ -1,6 +1,6 @@
 //! What a connection's server keeps for its user.
 ghost use Rattle.std.specs.Prelude.{◌≡◌, ◌≤◌, Some, None, if◌then◌else◌};
-ghost use Rattle.tds_session.specs.Session.{new_session, value_of, with_value, can_begin, begun, ended, is_in_transaction, can_renew, renewed, after_reset, IsSession};
+ghost use Rattle.tds_session.specs.Session.{new_session, value_of, with_value, can_begin, transacting, out_of_transaction, is_in_transaction, can_renew, renewed, after_reset, IsSession};
 
 use std::marker::Model;
 use tds_packet::Reset;
@@ -101,7 +101,7 @@ impl Session {
     pub fn begin(&mut self) -> Option<u64>
         ensures answer { result ≡
             (if can_begin self.old then Some self.old.next_descriptor else None) }
-        ensures after { self.new ≡ (if can_begin self.old then begun self.old else self.old) }
+        ensures after { self.new ≡ (if can_begin self.old then transacting self.old else self.old) }
     {
         if self.descriptor != 0 || self.next_descriptor == u64::MAX {
             return None;
@@ -116,7 +116,7 @@ impl Session {
     pub fn end(&mut self) -> Option<u64>
         ensures answer { result ≡
             (if is_in_transaction self.old then Some self.old.descriptor else None) }
-        ensures after { self.new ≡ ended self.old }
+        ensures after { self.new ≡ out_of_transaction self.old }
     {
         if self.descriptor == 0 {
             return None;

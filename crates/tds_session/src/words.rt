@@ -2,7 +2,7 @@
 ghost use Rattle.std.specs.Prelude.{◌≡◌, ◌<◌, nat_le};
 ghost use Rattle.std.specs.List.{list_all};
 ghost use Rattle.tds_session.specs.Language.{is_name};
-ghost use Rattle.tds_session.specs.Words.{such, is_digit, is_numeral, number_of, number_within, signed_of, fits_i32, key_of};
+ghost use Rattle.tds_session.specs.Words.{such, is_digit, is_numeral, numeral_value, number_within, signed_of, fits_i32, key_of};
 
 use crate::statement::{Key, Within};
 
@@ -62,7 +62,7 @@ pub(crate) fn signed_number(units: &[u16]) -> Option<i32>
 
 /// The number that units spell, if it is at most `most`.
 fn number(units: &[u16], most: u32) -> Option<u32>
-    ensures { result ≡ such (λ n. nat_le n most) (number_of units.now) }
+    ensures { result ≡ such (λ n. nat_le n most) (numeral_value units.now) }
 {
     if !is_numeral(units) {
         return None;

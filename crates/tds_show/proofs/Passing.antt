@@ -7,7 +7,7 @@ use Rattle.tds_wire.specs.declared.shape.Shape.{Shape}
 use Rattle.tds_wire.specs.declared.told.Token.{Token}
 use Rattle.tds_wire.specs.Layout.{Read, Got, Short, Wrong, Seen, token_at}
 use Rattle.tds_wire.specs.Told.{added}
-use Rattle.tds_wire.specs.Reading.{Reading, IsReady, Found, Sees, Inside, Refuses, Passed, Outcome, Ends, More, Refused, front_of, laid_by, laid_out, next_token, outcome_of, refusal_at, token_with}
+use Rattle.tds_wire.specs.Reading.{Parser, IsReady, Found, Sees, Inside, Refuses, Passed, Outcome, Ends, More, Refused, front_of, laid_by, laid_out, next_token, outcome_of, refusal_at, token_with}
 use Rattle.tds_show.specs.declared.tokens.message.Ending.{Ending}
 use Rattle.tds_show.specs.declared.tokens.message.Ending.TheVariants as ending
 use Rattle.tds_show.specs.Lines.{token_line}
@@ -21,12 +21,12 @@ any_kind : (most : ℕ) (features : Features) (kind : ℕ) (columns : List Shape
 unfolding token_at
 any_kind most features kind columns bytes = refl
 
-reads : (r : Reading) (piece : List ℕ) → IsPlain r
+reads : (r : Parser) (piece : List ℕ) → IsPlain r
     → token_at r.walk.most r.walk.features (record { kind = r.walk.at.kind; columns = r.walk.columns }) piece ≡ read_token r.walk.columns piece
 reads r piece p = rw p.most (rw p.features (any_kind 4096 plain r.walk.at.kind r.walk.columns piece))
 
 -- what the parser finds, as the layout has it
-found : (r : Reading) (piece : List ℕ) (f : Found) → IsPlain r → outcome_of (next_token r piece) ≡ laid_out r piece → f ≡ next_token r piece
+found : (r : Parser) (piece : List ℕ) (f : Found) → IsPlain r → outcome_of (next_token r piece) ≡ laid_out r piece → f ≡ next_token r piece
     → outcome_of f ≡ laid_by r piece (read_token r.walk.columns piece)
 found r piece f p law e = ap outcome_of e ∙ (law ∙ ap (laid_by r piece) (reads r piece p))
 
@@ -45,7 +45,7 @@ refusal_of d (Ends p rest) = d
 refusal_of d More = d
 refusal_of d (Refused refusal) = refusal
 
-record Ended (r v : Reading) (piece rest : List ℕ) (token : Token) : Type 0 where
+record Ended (r v : Parser) (piece rest : List ℕ) (token : Token) : Type 0 where
   pub read : read_token r.walk.columns piece ≡ Got (record { kind = token.kind; columns = v.walk.columns }) rest
   pub is : token ≡ token_with r token.kind (front_of piece rest)
 
@@ -53,7 +53,7 @@ same_got : (s : Seen) (kind : ℕ) (columns : List Shape) (rest more : List ℕ)
     → Got s more ≡ Got (record { kind = kind; columns = columns }) rest
 same_got s kind columns rest more h k m = rw h (rw k (rw m refl))
 
-ended_by : (r v : Reading) (piece rest : List ℕ) (token : Token) (x : Read Seen) → read_token r.walk.columns piece ≡ x
+ended_by : (r v : Parser) (piece rest : List ℕ) (token : Token) (x : Read Seen) → read_token r.walk.columns piece ≡ x
     → outcome_of (Sees token v rest) ≡ laid_by r piece x → Ended r v piece rest token
 unfolding passed_of rest_of
 ended_by r v piece rest token (Got s more) e h =
@@ -69,17 +69,17 @@ ended_by r v piece rest token (Got s more) e h =
 ended_by r v piece rest token Short e h = cc
 ended_by r v piece rest token (Wrong fault more) e h = cc
 
-short_by : (r : Reading) (piece : List ℕ) (x : Read Seen) → read_token r.walk.columns piece ≡ x → More ≡ laid_by r piece x → read_token r.walk.columns piece ≡ Short
+short_by : (r : Parser) (piece : List ℕ) (x : Read Seen) → read_token r.walk.columns piece ≡ x → More ≡ laid_by r piece x → read_token r.walk.columns piece ≡ Short
 short_by r piece (Got s more) e h = cc
 short_by r piece Short e h = e
 short_by r piece (Wrong fault more) e h = cc
 
-record Failed (r : Reading) (piece : List ℕ) (refusal : Refusal) : Type 0 where
+record Failed (r : Parser) (piece : List ℕ) (refusal : Refusal) : Type 0 where
   pub rest : List ℕ
   pub read : read_token r.walk.columns piece ≡ Wrong refusal.fault rest
   pub at : refusal.at ≡ added r.start (added r.passed (length (front_of piece rest)) - 1)
 
-failed_by : (r : Reading) (piece : List ℕ) (refusal : Refusal) (x : Read Seen) → read_token r.walk.columns piece ≡ x → Refused refusal ≡ laid_by r piece x
+failed_by : (r : Parser) (piece : List ℕ) (refusal : Refusal) (x : Read Seen) → read_token r.walk.columns piece ≡ x → Refused refusal ≡ laid_by r piece x
     → Failed r piece refusal
 unfolding refusal_of
 failed_by r piece refusal (Got s more) e h = cc
@@ -100,7 +100,7 @@ front_whole piece rest h = rw (length-take (length piece - length rest) piece) (
 added_fits : (a b : ℕ) → a + b ≤ 18446744073709551615 → added a b ≡ a + b
 added_fits a b h = omega (arith, h)
 
-plain_token : (r : Reading) (kind : ℕ) (bytes : List ℕ) → IsReady r → length bytes ≤ 18446744073709551615 → token_with r kind bytes ≡ token_of kind r.start bytes
+plain_token : (r : Parser) (kind : ℕ) (bytes : List ℕ) → IsReady r → length bytes ≤ 18446744073709551615 → token_with r kind bytes ≡ token_of kind r.start bytes
 plain_token r kind bytes ready few =
     let e : added 0 (length bytes) ≡ length bytes = omega (arith, few) in
     rw ready.passed (rw ready.head (rw e refl))
@@ -143,7 +143,7 @@ no_more total text zero columns at piece e h = closes total _ text ending.Betwee
 no_more total text (suc most) columns at piece e h = absurd (omega (arith, e))
 
 -- what is left ends inside a token
-pub ends_inside : (total : Lines) (text : List ℕ) (most : ℕ) (r v : Reading) (piece : List ℕ) → 0 < most → 0 < length piece → IsPlain r
+pub ends_inside : (total : Lines) (text : List ℕ) (most : ℕ) (r v : Parser) (piece : List ℕ) → 0 < most → 0 < length piece → IsPlain r
     → outcome_of (next_token r piece) ≡ laid_out r piece → Inside v ≡ next_token r piece
     → total ≡ after text (lines_from most r.walk.columns r.start piece) → record { text = text; ending = ending.Inside } ≡ total
 ends_inside total text most r v piece m n p law e h =
@@ -152,7 +152,7 @@ ends_inside total text most r v piece m n p law e h =
     (turned most r.walk.columns r.start piece m n ∙ ap (by_token (lines_from (most - 1)) r.start piece) s)
 
 -- it has a fault
-pub ends_refused : (total : Lines) (text : List ℕ) (most : ℕ) (r : Reading) (piece : List ℕ) (refusal : Refusal) → 0 < most → 0 < length piece → IsPlain r → IsReady r
+pub ends_refused : (total : Lines) (text : List ℕ) (most : ℕ) (r : Parser) (piece : List ℕ) (refusal : Refusal) → 0 < most → 0 < length piece → IsPlain r → IsReady r
     → r.start + length piece ≤ 18446744073709551615
     → outcome_of (next_token r piece) ≡ laid_out r piece → Refuses refusal ≡ next_token r piece
     → total ≡ after text (lines_from most r.walk.columns r.start piece) → record { text = text; ending = ending.Refused refusal.fault refusal.at } ≡ total
@@ -165,12 +165,12 @@ ends_refused total text most r piece refusal m n p ready fits law e h =
     ∙ (ap (by_token (lines_from (most - 1)) r.start piece) f.read
     ∙ ap (λ (k : ℕ). ends (ending.Refused refusal.fault k)) (sym a)))
 
-pub record Turned (total : Lines) (text : List ℕ) (most : ℕ) (r v : Reading) (piece rest : List ℕ) : Type 0 where
+pub record Turned (total : Lines) (text : List ℕ) (most : ℕ) (r v : Parser) (piece rest : List ℕ) : Type 0 where
   pub does : total ≡ after text (lines_from most v.walk.columns v.start rest)
   pub within : v.start + length rest ≡ r.start + length piece
 
 -- a token has ended
-pub one_more : (total : Lines) (text : List ℕ) (most : ℕ) (r v : Reading) (piece rest : List ℕ) (token : Token) → 0 < most → 0 < length piece → IsPlain r → IsReady r
+pub one_more : (total : Lines) (text : List ℕ) (most : ℕ) (r v : Parser) (piece rest : List ℕ) (token : Token) → 0 < most → 0 < length piece → IsPlain r → IsReady r
     → r.start + length piece ≤ 18446744073709551615 → length rest ≤ length piece
     → outcome_of (next_token r piece) ≡ laid_out r piece → Sees token v rest ≡ next_token r piece → v.start ≡ added token.start token.length
     → total ≡ after text (lines_from most r.walk.columns r.start piece) → Turned total (text ++ token_line token) (most - 1) r v piece rest

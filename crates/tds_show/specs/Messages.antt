@@ -7,7 +7,7 @@ use Rattle.tds_wire.specs.declared.features.Features.{Features}
 use Rattle.tds_wire.specs.declared.shape.Shape.{Shape}
 use Rattle.tds_wire.specs.declared.told.Token.{Token}
 use Rattle.tds_wire.specs.Layout.{Read, Got, Short, Wrong, Seen, token_at}
-use Rattle.tds_wire.specs.Reading.{Reading, front_of}
+use Rattle.tds_wire.specs.Reading.{Parser, front_of}
 use Rattle.tds_wire.specs.Told.{told_of}
 
 -- a login that acknowledged neither column encryption nor ranks
@@ -15,7 +15,7 @@ abbrev pub plain : Features
 plain = record { encryption = false; ranks = false }
 
 -- a parser over answers after such a login, of results with 4,096 columns at most
-pub record IsPlain (r : Reading) : Type 0 where
+pub record IsPlain (r : Parser) : Type 0 where
   pub most : r.walk.most ≡ 4096
   pub features : r.walk.features ≡ plain
 

@@ -2,13 +2,13 @@
 use Rattle.std.specs.Prelude.{◌&&◌, ◌||◌, not, Bool}
 use Rattle.tds_packet.specs.Passing.{is_apart}
 use Rattle.tds_wire.specs.Lent.{reading_of}
-use Rattle.tds_wire.specs.Reading.{Reading, is_between}
+use Rattle.tds_wire.specs.Reading.{Parser, is_between}
 use Rattle.tds_state.specs.declared.answers.Answers.{Answers}
 use Rattle.tds_state.specs.declared.watch.Watch.{Watch}
 use Rattle.tds_state.specs.Sessions.{is_quiet}
 
 -- where the walk is in the tokens of the server's answers
-abbrev pub answers_reading : Answers → Reading
+abbrev pub answers_reading : Answers → Parser
 answers_reading a = reading_of a.walk a.memory.value
 
 -- no answer is due, no request goes on, and nothing of an answer has come that hasn't ended

@@ -8,7 +8,7 @@ use Rattle.std.proofs.lemmas.List.Sums.{fold-append}
 use Rattle.std.proofs.Math.Logic.{∥∥₁_map}
 use Rattle.tds_packet.specs.declared.kind.Direction.{Direction}
 use Rattle.tds_packet.specs.declared.kind.Direction.TheVariants.{ToServer, ToClient}
-use Rattle.tds_play.specs.Pipe.{Begun, Changes, IsOpen, MayCarry, Pipe, brought_on, carried_on, since, stuck_on, traffic}
+use Rattle.tds_play.specs.Pipe.{BegunEvent, Changes, IsOpen, MayCarry, Pipe, brought_on, carried_on, since, stuck_on, traffic}
 use Rattle.tds_play.specs.declared.carrier.CarrierError.{CarrierError}
 use Rattle.tds_play.specs.declared.carrier.CarrierError.TheVariants.{Lost, Memory}
 use Rattle.tds_trace.specs.Calls.{AreCallsAt, brought_after, brought_of, handed_after, handed_of}
@@ -128,7 +128,7 @@ may_bring (Err Memory) bytes before now old after is_open may least count nothin
 
 -- ---- The record, with one call more
 
-pub all_kept : (event : Option ℕ) (calls all : List Call) (conn : ℕ) (made : Made) (failed : Bool) (before : List Begun) (pipes next : ℕ → Option Pipe)
+pub all_kept : (event : Option ℕ) (calls all : List Call) (conn : ℕ) (made : Made) (failed : Bool) (before : List BegunEvent) (pipes next : ℕ → Option Pipe)
     → event ≢ None → IfSome event (λ number. all ≡ calls ++ record { event = number; conn = conn; made = made; failed = failed } ∷ [])
     → Changes pipes next conn (made_on made failed (pipes conn)) → MayBe made failed (since before conn) (pipes conn)
     → AreCallsAt calls pipes → AreCallsAt all next
@@ -138,7 +138,7 @@ all_kept (Some number) calls all conn made failed before pipes next some is chan
     (kept_call calls (record { event = number; conn = conn; made = made; failed = failed }) pipes next (made_on made failed (pipes conn)) was changes
     (changed made failed (since before conn) (pipes conn) may))
 
-pub turn_kept : (event : Option ℕ) (calls all : List Call) (conn : ℕ) (made : Made) (failed : Bool) (before after : List Begun)
+pub turn_kept : (event : Option ℕ) (calls all : List Call) (conn : ℕ) (made : Made) (failed : Bool) (before after : List BegunEvent)
     (pipes next : ℕ → Option Pipe)
     → event ≢ None → IfSome event (λ number. all ≡ calls ++ record { event = number; conn = conn; made = made; failed = failed } ∷ [])
     → Changes pipes next conn (made_on made failed (pipes conn)) → MayBe made failed (since before conn) (pipes conn) → after ≡ before
@@ -156,7 +156,7 @@ none_kept calls pipes none unused n d = (
   ap (λ (p : Option Pipe). (traffic p d).came) (unused n) ∙ sym (ap (λ (cs : List Call). brought_of cs n d) none),
 )
 
-pub no_turn : (calls : List Call) (told : List Begun) (pipes : ℕ → Option Pipe) → calls ≡ [] → told ≡ [] → ((n : ℕ) → pipes n ≡ None)
+pub no_turn : (calls : List Call) (told : List BegunEvent) (pipes : ℕ → Option Pipe) → calls ≡ [] → told ≡ [] → ((n : ℕ) → pipes n ≡ None)
     → ∥ IsRecordOf None calls told pipes ∥₁
 no_turn calls told pipes none untold unused =
-    ∣ subst (λ (bs : List Begun). IsRecordOf None calls bs pipes) (sym untold) (record { now = refl; begins = unused; each = none }) ∣₁
+    ∣ subst (λ (bs : List BegunEvent). IsRecordOf None calls bs pipes) (sym untold) (record { now = refl; begins = unused; each = none }) ∣₁

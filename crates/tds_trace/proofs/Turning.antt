@@ -6,7 +6,7 @@ use Rattle.std.proofs.lemmas.List.Sums.{fold-append}
 use Rattle.std.proofs.lemmas.Option.{none-some, same_Some}
 use Rattle.std.specs.List.{AllByRecursion}
 use Rattle.tds_play.specs.Calls.{next_there}
-use Rattle.tds_play.specs.Pipe.{Begun, Changes, Pipe, newest_of, since}
+use Rattle.tds_play.specs.Pipe.{BegunEvent, Changes, Pipe, newest_of, since}
 use Rattle.tds_trace.specs.Turns.{AreCallsSince, IsRecordOf, MayAllBe, MayBe, left_of, made_on, newest}
 use Rattle.tds_trace.specs.declared.call.Call.{Call}
 
@@ -46,7 +46,7 @@ may_more front (c ∷ cs) call before all may = (
 )
 
 -- A call in the newest event.
-pub called_more : (b : Begun) (bs : List Begun) (old new : ℕ → Option Pipe) (calls : List Call) (call : Call)
+pub called_more : (b : BegunEvent) (bs : List BegunEvent) (old new : ℕ → Option Pipe) (calls : List Call) (call : Call)
     → newest bs (Some b.event) ≡ Some call.event
     → Changes old new call.conn (made_on call.made call.failed (old call.conn))
     → MayBe call.made call.failed (newest_of b.pipes bs call.conn) (old call.conn)
@@ -74,16 +74,16 @@ called_more b (b₂ ∷ bs) old new calls call now changes may (own, later, is, 
 
 -- ---- An event more
 
-newest_more : (bs : List Begun) (o : Option ℕ) (b : Begun) → newest (bs ++ b ∷ []) o ≡ Some b.event
+newest_more : (bs : List BegunEvent) (o : Option ℕ) (b : BegunEvent) → newest (bs ++ b ∷ []) o ≡ Some b.event
 newest_more [] o b = refl
 newest_more (c ∷ cs) o b = newest_more cs (Some c.event) b
 
-begins_more : (bs : List Begun) (b : Begun) (old new : ℕ → Option Pipe) (n : ℕ) → b.pipes ≡ old
+begins_more : (bs : List BegunEvent) (b : BegunEvent) (old new : ℕ → Option Pipe) (n : ℕ) → b.pipes ≡ old
     → next_there (bs ++ b ∷ []) new n ≡ next_there bs old n
 begins_more [] b old new n is = ap (λ (f : ℕ → Option Pipe). f n) is
 begins_more (c ∷ cs) b old new n is = refl
 
-told_more : (bs : List Begun) (b : Begun) (old new : ℕ → Option Pipe) (calls : List Call) → b.pipes ≡ old → new ≡ old
+told_more : (bs : List BegunEvent) (b : BegunEvent) (old new : ℕ → Option Pipe) (calls : List Call) → b.pipes ≡ old → new ≡ old
     → AreCallsSince bs old calls → AreCallsSince (bs ++ b ∷ []) new calls
 told_more [] b old new calls is still none =
     ([], [], none, record { numbered = tt; may = tt }, λ n. ap (λ (f : ℕ → Option Pipe). f n) (still ∙ sym is), refl)
@@ -92,25 +92,25 @@ told_more (c ∷ cs) b old new calls is still (own, later, parts, in', left, res
 
 -- ---- The record of a carrier's calls
 
-pub told_event : (event : Option ℕ) (calls : List Call) (before after : List Begun) (pipes next : ℕ → Option Pipe) (b : Begun)
+pub told_event : (event : Option ℕ) (calls : List Call) (before after : List BegunEvent) (pipes next : ℕ → Option Pipe) (b : BegunEvent)
     → b.pipes ≡ pipes → next ≡ pipes → after ≡ before ++ b ∷ []
     → IsRecordOf event calls before pipes → IsRecordOf (Some b.event) calls after next
 told_event event calls before after pipes next b is still more was =
-    subst (λ (bs : List Begun). IsRecordOf (Some b.event) calls bs next) (sym more) (record {
+    subst (λ (bs : List BegunEvent). IsRecordOf (Some b.event) calls bs next) (sym more) (record {
       now = sym (newest_more before None b);
       begins = λ n. begins_more before b pipes next n is ∙ was.begins n;
       each = told_more before b pipes next calls is still was.each;
     })
 
 -- The same, of what a carrier kept of the event.
-pub told_one_more : (event : Option ℕ) (number : ℕ) (calls : List Call) (before after : List Begun) (pipes : ℕ → Option Pipe) (b : Begun)
+pub told_one_more : (event : Option ℕ) (number : ℕ) (calls : List Call) (before after : List BegunEvent) (pipes : ℕ → Option Pipe) (b : BegunEvent)
     → b.event ≡ number → b.pipes ≡ pipes → after ≡ before ++ b ∷ []
     → IsRecordOf event calls before pipes → IsRecordOf (Some number) calls after pipes
 told_one_more event number calls before after pipes b at is more was =
     subst (λ (n : ℕ). IsRecordOf (Some n) calls after pipes) at (told_event event calls before after pipes pipes b is refl more was)
 
 -- One call more, by what was told.
-called_with : (told : List Begun) (call : Call) (calls : List Call) (pipes next : ℕ → Option Pipe)
+called_with : (told : List BegunEvent) (call : Call) (calls : List Call) (pipes next : ℕ → Option Pipe)
     → Changes pipes next call.conn (made_on call.made call.failed (pipes call.conn))
     → MayBe call.made call.failed (since told call.conn) (pipes call.conn)
     → IsRecordOf (Some call.event) calls told pipes → IsRecordOf (Some call.event) (calls ++ call ∷ []) told next
@@ -121,10 +121,10 @@ called_with (b ∷ bs) call calls pipes next changes may was = record {
   each = called_more b bs pipes next calls call (sym was.now) changes may was.each;
 }
 
-pub called : (call : Call) (calls : List Call) (before after : List Begun) (pipes next : ℕ → Option Pipe)
+pub called : (call : Call) (calls : List Call) (before after : List BegunEvent) (pipes next : ℕ → Option Pipe)
     → Changes pipes next call.conn (made_on call.made call.failed (pipes call.conn))
     → MayBe call.made call.failed (since before call.conn) (pipes call.conn) → after ≡ before
     → IsRecordOf (Some call.event) calls before pipes → IsRecordOf (Some call.event) (calls ++ call ∷ []) after next
 called call calls before after pipes next changes may same was =
-    subst (λ (bs : List Begun). IsRecordOf (Some call.event) (calls ++ call ∷ []) bs next) (sym same)
+    subst (λ (bs : List BegunEvent). IsRecordOf (Some call.event) (calls ++ call ∷ []) bs next) (sym same)
     (called_with before call calls pipes next changes may was)

@@ -2,8 +2,8 @@
 -- order, and do there what the event does in the model.
 use Rattle.std.specs.Prelude.{ℕ, suc, ◌≡◌, ◌<◌, ◌==◌, List, [], ◌∷◌, ◌++◌, length, Bool, true, false, Option, Some, None, if◌then◌else◌}
 use Rattle.std.specs.List.{AllByRecursion, fold}
-use Rattle.tds_play.specs.Calls.{Does, next_there}
-use Rattle.tds_play.specs.Pipe.{Begun, IsOpen, IsUncut, MayCarry, MaySend, Pipe, brought_on, cut_pipe, new_pipe, sent_on}
+use Rattle.tds_play.specs.Calls.{CarrierDoes, next_there}
+use Rattle.tds_play.specs.Pipe.{BegunEvent, IsOpen, IsUncut, MayCarry, MaySend, Pipe, brought_on, cut_pipe, new_pipe, sent_on}
 use Rattle.tds_session.specs.Answer.{Answers}
 use Rattle.tds_trace.specs.declared.call.Call.{Call}
 use Rattle.tds_trace.specs.declared.call.Made.{Made}
@@ -61,20 +61,20 @@ pub record AreCallsIn (event : ℕ) (before : ℕ → Option Pipe) (calls : List
 
 -- The calls of each event of which a carrier was told, one event behind the other: they take what there was of each
 -- connection when the event began to what there was when the next one did, or in the end.
-abbrev pub AreCallsSince : List Begun → (ℕ → Option Pipe) → List Call → Type 0
+abbrev pub AreCallsSince : List BegunEvent → (ℕ → Option Pipe) → List Call → Type 0
 AreCallsSince [] last calls = calls ≡ []
 AreCallsSince (b ∷ bs) last calls =
     (own : List Call) × (later : List Call) × (calls ≡ own ++ later) × AreCallsIn b.event b.pipes own
     × ((n : ℕ) → next_there bs last n ≡ left_of own n (b.pipes n)) × AreCallsSince bs last later
 
 -- The number of the newest of these events, or of one before them.
-abbrev pub newest : List Begun → Option ℕ → Option ℕ
+abbrev pub newest : List BegunEvent → Option ℕ → Option ℕ
 newest [] o = o
 newest (b ∷ bs) o = newest bs (Some b.event)
 
 -- All calls that a carrier was asked which was new at first, each in an event of which it was told. The newest event
 -- has this number; where there is none, it was asked nothing.
-pub record IsRecordOf (event : Option ℕ) (calls : List Call) (told : List Begun) (last : ℕ → Option Pipe) : Type 0 where
+pub record IsRecordOf (event : Option ℕ) (calls : List Call) (told : List BegunEvent) (last : ℕ → Option Pipe) : Type 0 where
   pub now : event ≡ newest told None
   pub begins : (n : ℕ) → next_there told last n ≡ None
   pub each : AreCallsSince told last calls
@@ -87,7 +87,7 @@ abbrev pub DoInTurn : Setup → Answers → ℕ → List Played → World → (�
 DoInTurn setup answers n [] w before calls = calls ≡ []
 DoInTurn setup answers n (p ∷ ps) w before calls =
     (own : List Call) × (later : List Call) × (calls ≡ own ++ later) × AreCallsIn n before own
-    × Does setup answers w p before (λ m. left_of own m (before m))
+    × CarrierDoes setup answers w p before (λ m. left_of own m (before m))
     × DoInTurn setup answers (suc n) ps (world_then setup answers w p) (λ m. left_of own m (before m)) later
 
 -- The calls of a play from nothing.

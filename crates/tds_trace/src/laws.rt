@@ -2,7 +2,7 @@
 //! nothing when they run: their contracts are the laws.
 ghost use Rattle.std.specs.Prelude.{[], ℕ, List, Option, true};
 ghost use Rattle.tds_play.specs.Calls.{MakesCalls};
-ghost use Rattle.tds_play.specs.Pipe.{Begun, Pipe};
+ghost use Rattle.tds_play.specs.Pipe.{BegunEvent, Pipe};
 ghost use Rattle.tds_play.specs.WholePlay.{CarriesBytesOf, HandsBytesOf};
 ghost use Rattle.tds_session.specs.Answer.{Answers};
 ghost use Rattle.tds_trace.specs.Attentions.{HaveOneAttention};
@@ -18,7 +18,7 @@ ghost use Rattle.tds_world.specs.declared.event.Setup.{Setup};
 /// each event's calls do there what the event does in the model.
 pub fn record_of_a_play()
     ensures { (setup : Setup) (answers : Answers) (ps : List Played) (event : Option ℕ)
-        (calls : List Call) (told : List Begun) (last : ℕ → Option Pipe)
+        (calls : List Call) (told : List BegunEvent) (last : ℕ → Option Pipe)
         → MakesCalls true setup answers ps [] told last → ∥ IsRecordOf event calls told last ∥₁
         → ∥ AreCallsOfPlay setup answers ps calls ∥₁ }
 {}

@@ -11,9 +11,9 @@ use Rattle.tds_wire.specs.declared.due.Standing.TheVariants.{Going}
 use Rattle.tds_wire.specs.declared.due.ValueField.TheVariants as in_value
 use Rattle.tds_wire.specs.declared.fault.Refusal.{Refusal}
 use Rattle.tds_wire.specs.declared.head.Head.{Head}
-use Rattle.tds_wire.specs.Bytes.{Within, onward, standing, step, to_end}
+use Rattle.tds_wire.specs.Bytes.{Within, onward, standing, walk_step, to_end}
 use Rattle.tds_wire.specs.Lent.{head_of}
-use Rattle.tds_wire.specs.Reading.{Inside, Reading, found_by, found_on, inside, kept, next_token}
+use Rattle.tds_wire.specs.Reading.{Inside, Parser, found_by, found_on, inside, kept, next_token}
 use Rattle.tds_wire.specs.Walking.{Walk, with_due, with_number, with_run}
 
 end_going : (w : Walk) (bytes : List ℕ) → standing w.at.due ≡ Going → to_end w bytes ≡ onward w bytes
@@ -26,7 +26,7 @@ due_again w left next h = ap (with_due w) (sym h)
 
 run_on : (w : Walk) (left n : ℕ) (next : Next) (bytes : List ℕ) → n ≤ left - 1 → n ≤ length bytes
     → onward (with_due w (Run left next)) bytes ≡ onward (with_due w (Run (left - n) next)) (drop n bytes)
-unfolding onward to_end step
+unfolding onward to_end walk_step
 run_on w left zero next bytes h g =
     let e : left - 0 ≡ left = omega arith in
     rw e refl
@@ -53,7 +53,7 @@ ran_within w v left next bytes d h s =
 
 -- a run before a number, of which all the bytes are there
 run_whole : (w : Walk) (n : ℕ) (f : Field) (bytes : List ℕ) → suc n ≤ length bytes → onward (with_due w (Run (suc n) (Then f))) bytes ≡ to_end (with_number w f) (drop (suc n) bytes)
-unfolding onward step
+unfolding onward walk_step
 run_whole w n f [] h = absurd (omega (arith, h))
 run_whole w zero f (b ∷ bytes) h = refl
 run_whole w (suc n) f (b ∷ bytes) h =
@@ -71,7 +71,7 @@ four_spelled a b c d = (((0 / 256 + 16777216 * a) / 256 + 16777216 * b) / 256 + 
 
 part_counted : (w : Walk) (a b c d n : ℕ) (bytes : List ℕ) → four_spelled a b c d ≡ n → (n == 0) ≡ false
     → to_end (with_number w (field.Value in_value.PartCount)) (a ∷ b ∷ c ∷ d ∷ bytes) ≡ to_end (with_run w n (Then (field.Value in_value.PartCount))) bytes
-unfolding to_end step
+unfolding to_end walk_step
 part_counted w a b c d n bytes e z = rw e (rw z refl)
 
 part_begins : (w : Walk) (n m : ℕ) (bytes : List ℕ) → 4 ≤ length bytes
@@ -123,6 +123,6 @@ pub inside_same : (w : Walk) (head more : List ℕ) (start passed : ℕ) → hea
     → Inside (record { walk = w; head = head; start = start; passed = passed; refused = None }) ≡ Inside (record { walk = w; head = more; start = start; passed = passed; refused = None })
 inside_same w head more start passed h = cc
 
-pub feeds_inside : (r : Reading) (piece : List ℕ) (w : Walk) → r.refused ≡ None → Within w ≡ onward r.walk piece → Inside (inside r w piece) ≡ next_token r piece
+pub feeds_inside : (r : Parser) (piece : List ℕ) (w : Walk) → r.refused ≡ None → Within w ≡ onward r.walk piece → Inside (inside r w piece) ≡ next_token r piece
 unfolding next_token
 feeds_inside r piece w e does = ap (found_by r piece) does ∙ sym (ap (λ (o : Option Refusal). found_on o r piece) e)

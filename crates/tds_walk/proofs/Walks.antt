@@ -10,7 +10,7 @@ use Rattle.tds_wire.specs.declared.shape.Shape.{Shape}
 use Rattle.tds_wire.specs.declared.told.Token.{Token as AnyToken}
 use Rattle.tds_wire.specs.Lent.{head_of, reading_of}
 use Rattle.tds_wire.specs.Memory.{shape_of, shapes_of}
-use Rattle.tds_wire.specs.Reading.{IsReady, Reading, Sees, found_to, is_between, next_token, restarted}
+use Rattle.tds_wire.specs.Reading.{IsReady, Parser, Sees, found_to, is_between, next_token, restarted}
 use Rattle.tds_wire.specs.Rows.{IsPassed, past_row, row_token}
 use Rattle.tds_wire.specs.Told.{added}
 use Rattle.tds_wire.specs.Whole.{IsNext, behind_whole}
@@ -60,7 +60,7 @@ ready_is p i m is few nulls = record {
 
 -- ---- Behind a token
 
-behind_is : (r : Reading) (piece : List ℕ) (kind start n : ℕ) → r.head ≡ [] → r.passed ≡ 0 → r.refused ≡ None
+behind_is : (r : Parser) (piece : List ℕ) (kind start n : ℕ) → r.head ≡ [] → r.passed ≡ 0 → r.refused ≡ None
     → kind ≡ get_or piece 0 0 → start ≡ added r.start n
     → record r { walk = record r.walk { at = record r.walk.at { kind = kind } }; start = start } ≡ behind_whole r piece n
 behind_is r piece kind start n head passed whole k s = cc
@@ -69,11 +69,11 @@ row_from : (c : ℕ) → inside_from (record { column = c; inside = 2; base = re
 unfolding inside_from
 row_from c = refl
 
-row_behind : (r : Reading) (start n c : ℕ) → r.walk.at.due ≡ Token → c ≡ length r.walk.columns - 1 → start ≡ added r.start n
+row_behind : (r : Parser) (start n c : ℕ) → r.walk.at.due ≡ Token → c ≡ length r.walk.columns - 1 → start ≡ added r.start n
     → record r { walk = record r.walk { at = record r.walk.at { kind = 0xD1; inside = of.Row c } }; start = start } ≡ past_row r n
 row_behind r start n c due last s = cc
 
-sees_same : (t u : AnyToken) (r s : Reading) (rest : List ℕ) → t ≡ u → r ≡ s → found_to (Some t) r rest ≡ found_to (Some u) s rest
+sees_same : (t u : AnyToken) (r s : Parser) (rest : List ℕ) → t ≡ u → r ≡ s → found_to (Some t) r rest ≡ found_to (Some u) s rest
 sees_same t u r s rest e f = cc
 
 -- a call that found a token of so many bytes
@@ -97,7 +97,7 @@ fed p q m piece n t old new w u is after found within shows =
     subst (λ (o : Option LentWalk). FeedsBy o (finding p q m piece n old new)) (sym is)
     (u, Ok (record { count = n; token = Some t }), after, found, within, (refl, (refl, shows)))
 
-read_by : (p : TdsWire) (m : Memory) (w : LentWalk) (r : Reading) → walk_from p ≡ Some w → reading_from p m ≡ Some r → r ≡ reading_of w m
+read_by : (p : TdsWire) (m : Memory) (w : LentWalk) (r : Parser) → walk_from p ≡ Some w → reading_from p m ≡ Some r → r ≡ reading_of w m
 read_by p m w r is at =
     let by : reading_from p m ≡ Some (reading_of w m) = rw is refl in
     let same : Some r ≡ Some (reading_of w m) = sym at ∙ by in
@@ -114,9 +114,9 @@ module _ (p : TdsWire) (m : Memory) (piece : List ℕ) (start n kind : ℕ) (t :
       let from = ready_from p i is.due is.whole inside in
       let behind : x ≡ behind_whole o piece n = behind_is o piece kind start n (no_head p is.head) is.passed refl k s in
       let found : next_token o piece ≡ Sees t x (drop n piece) =
-      sym (ap (λ (y : Reading). found_to (Some t) y (drop n piece)) behind ∙ next o (ready_is p i m is few nulls) refl) in
+      sym (ap (λ (y : Parser). found_to (Some t) y (drop n piece)) behind ∙ next o (ready_is p i m is few nulls) refl) in
       let there : reading_from q m ≡ Some x = rw (ready_from q i is.due is.whole inside) refl in
-      (x, there, subst (λ (y : Reading). next_token y piece ≡ Sees t x (drop n piece)) (sym (read_by p m (ready_walk p i) r from at)) found)
+      (x, there, subst (λ (y : Parser). next_token y piece ≡ Sees t x (drop n piece)) (sym (read_by p m (ready_walk p i) r from at)) found)
 
 some_many : (o : Option AnyToken) (n : ℕ) (t : AnyToken) → (n ≡ 0 → o ≡ None) → o ≡ Some t → 0 < n
 some_many o zero t none is = let no : o ≡ None = none refl in absurd (let u : ⊥ = cc in u)
@@ -139,11 +139,11 @@ module _ (p : TdsWire) (m : Memory) (piece : List ℕ) (start n : ℕ) (t : AnyT
       behind_is r piece kind start n (no_head p is.head) is.passed refl k s in
       fed p q m piece n t old new (ready_walk p i) (ready_walk q i)
       (ready_from p i is.due is.whole inside) (ready_from q i is.due is.whole inside)
-      (ap (λ (x : Reading). found_to (Some t) x (drop n piece)) behind ∙ next r (ready_is p i m is few nulls) refl) within shows
+      (ap (λ (x : Parser). found_to (Some t) x (drop n piece)) behind ∙ next r (ready_is p i m is few nulls) refl) within shows
 
   pub fed_row : (c : ℕ) (in_row : TdsWireInside) → IsReadyValue p → length (shapes_of m) ≤ 4096 → length m.nulls ≡ 512
-      → ((r : Reading) → IsReady r → r.walk.columns ≡ shapes_of m → IsPassed n r (past_row r n) piece)
-      → ((r : Reading) → r.start ≡ p.start → t ≡ row_token n r)
+      → ((r : Parser) → IsReady r → r.walk.columns ≡ shapes_of m → IsPassed n r (past_row r n) piece)
+      → ((r : Parser) → r.start ≡ p.start → t ≡ row_token n r)
       → in_row ≡ record { column = c; inside = 2; base = record { form = 0; bytes = 0 } } → c ≡ length (shapes_of m) - 1
       → start ≡ added p.start n → n ≤ length piece → Shows new t t.told
       → Feeds (finding p (record p { kind = 0xD1; start = start; inside = in_row }) m piece n old new)
@@ -171,7 +171,7 @@ no_columns : (m : Memory) → shapes_of (record m { count = 0 }) ≡ []
 unfolding shapes_of
 no_columns m = refl
 
-restart_is : (r : Reading) (columns : List Shape) → columns ≡ [] → r.head ≡ [] → r.passed ≡ 0
+restart_is : (r : Parser) (columns : List Shape) → columns ≡ [] → r.head ≡ [] → r.passed ≡ 0
     → record r { walk = record r.walk { at = record r.walk.at { due = Token }; columns = columns }; start = 0; refused = None } ≡ restarted r
 restart_is r columns none head passed = cc
 
@@ -185,7 +185,7 @@ restarts_ready p old is =
     subst (λ (o : Option LentWalk). RestartsBy o p q old new 0) (sym (ready_from p i is.due is.whole inside))
     (ready_walk q i, refl, ready_from q i is.due is.whole inside, again)
 
-pub ready_anew : (p : TdsWire) (old : Memory) → IsReadyValue p → (r : Reading) → reading_from p old ≡ Some r
+pub ready_anew : (p : TdsWire) (old : Memory) → IsReadyValue p → (r : Parser) → reading_from p old ≡ Some r
     → (is_between r ≡ true) × (reading_from (record p { start = 0 }) (record old { count = 0 }) ≡ Some (restarted r))
 ready_anew p old is r at =
     let (i, inside) = found_in (inside_from p.inside) is.inside in
@@ -197,5 +197,5 @@ ready_anew p old is r at =
     let between : is_between o ≡ true = rw none (rw is.passed refl) in
     let again : reading_of (ready_walk q i) new ≡ restarted o = restart_is o _ (no_columns old) (no_head p is.head) is.passed in
     let there : reading_from q new ≡ Some (reading_of (ready_walk q i) new) = rw (ready_from q i is.due is.whole inside) refl in
-    subst (λ (y : Reading). (is_between y ≡ true) × (reading_from q new ≡ Some (restarted y))) (sym (read_by p old (ready_walk p i) r from at))
-    (between, there ∙ ap (λ (y : Reading). let x : Option Reading = Some y in x) again)
+    subst (λ (y : Parser). (is_between y ≡ true) × (reading_from q new ≡ Some (restarted y))) (sym (read_by p old (ready_walk p i) r from at))
+    (between, there ∙ ap (λ (y : Parser). let x : Option Parser = Some y in x) again)

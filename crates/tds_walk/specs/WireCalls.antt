@@ -8,14 +8,14 @@ use Rattle.tds_wire.specs.declared.told.Token.{Token}
 use Rattle.tds_wire.specs.Faults.{fault_number}
 use Rattle.tds_wire.specs.Lent.{reading_of}
 use Rattle.tds_wire.specs.Memory.{shapes_of}
-use Rattle.tds_wire.specs.Reading.{IsReady, Reading, found_of, is_between, next_token, restarted}
+use Rattle.tds_wire.specs.Reading.{IsReady, Parser, found_of, is_between, next_token, restarted}
 use Rattle.tds_walk.specs.declared.token.TdsWireToken.{TdsWireToken}
 use Rattle.tds_walk.specs.declared.walk.TdsWire.{TdsWire}
 use Rattle.tds_walk.specs.Wire.{◌>>=◌, truth, walk_from}
 use Rattle.tds_walk.specs.WireTokens.{Shows}
 
 -- The parser that the value is, beside its memory. None where it is no walk's.
-abbrev pub reading_from : TdsWire → Memory → Option Reading
+abbrev pub reading_from : TdsWire → Memory → Option Parser
 reading_from walk memory = walk_from walk >>= λ w. Some (reading_of w memory)
 
 -- A walk between two tokens that knows no columns, at the first byte of a message.

@@ -1,7 +1,7 @@
 //! A token that stands whole between two tokens, for a caller who hears it by itself.
 
 ghost use Rattle.std.specs.Prelude.{◌≡◌, ◌≤◌, ◌<◌, None, IfNone, IfSome, Some, length, true};
-ghost use Rattle.tds_wire.specs.Reading.{Reading, is_between, restarted};
+ghost use Rattle.tds_wire.specs.Reading.{Parser, is_between, restarted};
 ghost use Rattle.tds_walk.specs.Taking.{IsReadyValue, TakesToken};
 ghost use Rattle.tds_walk.specs.WireCalls.{reading_from};
 
@@ -34,7 +34,7 @@ pub fn take_token(
 #[inline(always)]
 pub fn begin_anew(walk: &mut TdsWire, memory: &mut Memory)
     requires ready { IsReadyValue walk.old }
-    ensures { (r : Reading) → reading_from walk.old memory.old ≡ Some r → (is_between r ≡ true)
+    ensures { (r : Parser) → reading_from walk.old memory.old ≡ Some r → (is_between r ≡ true)
         × (reading_from walk.new memory.new ≡ Some (restarted r)) }
 {
     walk.start = 0;

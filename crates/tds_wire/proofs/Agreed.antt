@@ -23,7 +23,7 @@ use Rattle.tds_wire.specs.declared.due.Standing.TheVariants.{Between, Going, Fai
 use Rattle.tds_wire.specs.Types.{type_of}
 use Rattle.tds_wire.specs.Layout.{has_length, has_long_length, is_done}
 use Rattle.tds_wire.specs.Walking.{Walk, with_kind, with_inside, at_column, valued, columns_begun, parameter_typed, based, behind_table, behind_type, column_described, parameter_described, described, ciphered, parted, named, key_passed, key_valued, behind_labels, labelled, classified, go, pass, typed, row_begun, null_row_begun, begun, columns_listed, columns_counted, nulls_taken, keeping_nulls, null_byte, arrive}
-use Rattle.tds_wire.specs.Bytes.{step_by, step, standing, Went, Over, Within, Failed, went_by, went_on, to_end, onward}
+use Rattle.tds_wire.specs.Bytes.{step_by, walk_step, standing, Went, Over, Within, Failed, went_by, went_on, to_end, onward}
 
 -- both stay
 abbrev pub Same : Walk → Walk → Type 0
@@ -274,8 +274,8 @@ due_same (Number f left value) w byte = by _ w _ _ (refl, refl) (arrive_same f w
 due_same (Run left next) w byte = by _ w _ _ (refl, refl) (go_same next w)
 due_same (Broken fault) w byte = same w
 
-step_same : (w : Walk) (byte : ℕ) → Same w (step w byte)
-unfolding step
+step_same : (w : Walk) (byte : ℕ) → Same w (walk_step w byte)
+unfolding walk_step
 step_same w byte = due_same w.at.due w byte
 
 -- ---- Bytes, one after another
@@ -295,7 +295,7 @@ end_keeps : (w v : Walk) (bytes : List ℕ) → Same w v → Keeps w (to_end v b
 unfolding to_end
 end_keeps w v [] h = by_standing (standing v.at.due) w v [] (Within v) h h
 end_keeps w v (byte ∷ bytes) h =
-    by_standing (standing v.at.due) w v (byte ∷ bytes) _ h (end_keeps w (step v byte) bytes (then_same w v (step v byte) h (step_same v byte)))
+    by_standing (standing v.at.due) w v (byte ∷ bytes) _ h (end_keeps w (walk_step v byte) bytes (then_same w v (walk_step v byte) h (step_same v byte)))
 
 on_standing : (s : Standing) (w : Walk) (bytes : List ℕ) (x : Went) → Keeps w x → Keeps w (went_on s bytes x)
 on_standing Between w bytes x k = k
@@ -305,7 +305,7 @@ on_standing (Failing fault) w bytes x k = tt
 onward_keeps : (w : Walk) (bytes : List ℕ) → Keeps w (onward w bytes)
 unfolding onward
 onward_keeps w [] = on_standing (standing w.at.due) w [] (Within w) (same w)
-onward_keeps w (byte ∷ bytes) = on_standing (standing w.at.due) w (byte ∷ bytes) _ (end_keeps w (step w byte) bytes (step_same w byte))
+onward_keeps w (byte ∷ bytes) = on_standing (standing w.at.due) w (byte ∷ bytes) _ (end_keeps w (walk_step w byte) bytes (step_same w byte))
 
 pub keeps_over : (w v : Walk) (bytes rest : List ℕ) → Over v rest ≡ onward w bytes → Same w v
 keeps_over w v bytes rest e = let P : Went → Type 0 = λ x. Keeps w x in subst P (sym e) (onward_keeps w bytes)

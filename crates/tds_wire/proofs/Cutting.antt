@@ -8,9 +8,9 @@ use Rattle.tds_wire.specs.declared.due.Standing.{Standing}
 use Rattle.tds_wire.specs.declared.due.Standing.TheVariants.{Between, Going, Failing}
 use Rattle.tds_wire.specs.declared.told.Token.{Token}
 use Rattle.tds_wire.specs.Walking.{Walk}
-use Rattle.tds_wire.specs.Bytes.{Went, Over, Within, Failed, onward, seen, standing, step, then_piece, to_end, went_by, went_on}
+use Rattle.tds_wire.specs.Bytes.{Went, Over, Within, Failed, onward, seen, standing, walk_step, then_piece, to_end, went_by, went_on}
 use Rattle.tds_wire.specs.Told.{added, told_of}
-use Rattle.tds_wire.specs.Reading.{IsReady, Reading, Sees, Inside, Refuses, behind, found_by, found_on, front_of, inside, kept, laid_by, laid_out, next_token, outcome_of, refusal_at, then_found, token_with}
+use Rattle.tds_wire.specs.Reading.{IsReady, Parser, Sees, Inside, Refuses, behind, found_by, found_on, front_of, inside, kept, laid_by, laid_out, next_token, outcome_of, refusal_at, then_found, token_with}
 use Rattle.tds_wire.proofs.Kept.{kept_kept}
 use Rattle.tds_wire.proofs.TokensPassed.{token_seen}
 use Rattle.tds_wire.proofs.Walks.{cut}
@@ -45,7 +45,7 @@ left_by (Failing fault) w bytes went h = omega arith
 left_at_end : (w : Walk) (bytes : List ℕ) → LeavesAtMost (length bytes) (to_end w bytes)
 unfolding to_end
 left_at_end w [] = left_by (standing w.at.due) w [] (Within w) tt
-left_at_end w (byte ∷ bytes) = left_by (standing w.at.due) w (byte ∷ bytes) (to_end (step w byte) bytes) (more_left (length bytes) (to_end (step w byte) bytes) (left_at_end (step w byte) bytes))
+left_at_end w (byte ∷ bytes) = left_by (standing w.at.due) w (byte ∷ bytes) (to_end (walk_step w byte) bytes) (more_left (length bytes) (to_end (walk_step w byte) bytes) (left_at_end (walk_step w byte) bytes))
 
 left_on : (st : Standing) (bytes : List ℕ) (went : Went) → LeavesAtMost (length bytes) went → LeavesAtMost (length bytes) (went_on st bytes went)
 left_on Between bytes went h = h
@@ -55,7 +55,7 @@ left_on (Failing fault) bytes went h = omega arith
 left_onward : (w : Walk) (bytes : List ℕ) → LeavesAtMost (length bytes) (onward w bytes)
 unfolding onward
 left_onward w [] = left_on (standing w.at.due) [] (Within w) tt
-left_onward w (byte ∷ bytes) = left_on (standing w.at.due) (byte ∷ bytes) (to_end (step w byte) bytes) (more_left (length bytes) (to_end (step w byte) bytes) (left_at_end (step w byte) bytes))
+left_onward w (byte ∷ bytes) = left_on (standing w.at.due) (byte ∷ bytes) (to_end (walk_step w byte) bytes) (more_left (length bytes) (to_end (walk_step w byte) bytes) (left_at_end (walk_step w byte) bytes))
 
 -- a cursor that isn't broken
 abbrev IsGood : Standing → Type 0
@@ -69,7 +69,7 @@ fewer_on (Failing fault) bytes n went good h = absurd (good fault refl)
 fewer_onward : (w : Walk) (bytes : List ℕ) → IsGood (standing w.at.due) → LeavesFewer (length bytes) (onward w bytes)
 unfolding onward
 fewer_onward w [] good = fewer_on (standing w.at.due) [] 0 (Within w) good tt
-fewer_onward w (byte ∷ bytes) good = fewer_on (standing w.at.due) (byte ∷ bytes) (suc (length bytes)) (to_end (step w byte) bytes) good (fewer_left (length bytes) (to_end (step w byte) bytes) (left_at_end (step w byte) bytes))
+fewer_onward w (byte ∷ bytes) good = fewer_on (standing w.at.due) (byte ∷ bytes) (suc (length bytes)) (to_end (walk_step w byte) bytes) good (fewer_left (length bytes) (to_end (walk_step w byte) bytes) (left_at_end (walk_step w byte) bytes))
 
 -- inside a token it isn't broken
 abbrev StaysGood : Went → Type 0
@@ -85,7 +85,7 @@ good_by (Failing fault) w bytes went h = tt
 good_at_end : (w : Walk) (bytes : List ℕ) → StaysGood (to_end w bytes)
 unfolding to_end
 good_at_end w [] = good_by (standing w.at.due) w [] (Within w) (λ good. good)
-good_at_end w (byte ∷ bytes) = good_by (standing w.at.due) w (byte ∷ bytes) (to_end (step w byte) bytes) (λ good. good_at_end (step w byte) bytes)
+good_at_end w (byte ∷ bytes) = good_by (standing w.at.due) w (byte ∷ bytes) (to_end (walk_step w byte) bytes) (λ good. good_at_end (walk_step w byte) bytes)
 
 good_on : (st : Standing) (bytes : List ℕ) (went : Went) → (IsGood st → StaysGood went) → StaysGood (went_on st bytes went)
 good_on Between bytes went h = h (λ fault e. absurd cc)
@@ -95,7 +95,7 @@ good_on (Failing fault) bytes went h = tt
 good_onward : (w : Walk) (bytes : List ℕ) → StaysGood (onward w bytes)
 unfolding onward
 good_onward w [] = good_on (standing w.at.due) [] (Within w) (λ good. good)
-good_onward w (byte ∷ bytes) = good_on (standing w.at.due) (byte ∷ bytes) (to_end (step w byte) bytes) (λ good. good_at_end (step w byte) bytes)
+good_onward w (byte ∷ bytes) = good_on (standing w.at.due) (byte ∷ bytes) (to_end (walk_step w byte) bytes) (λ good. good_at_end (walk_step w byte) bytes)
 
 -- ---- The bytes before those that are left
 
@@ -120,22 +120,22 @@ added_added a b c = omega arith
 added_append : (a : ℕ) (first last : List ℕ) → added (added a (length first)) (length last) ≡ added a (length (first ++ last))
 added_append a first last = added_added a (length first) (length last) ∙ ap (added a) (sym (length-append first last))
 
-abbrev token_as : Reading → ℕ → ℕ → List ℕ → Token
+abbrev token_as : Parser → ℕ → ℕ → List ℕ → Token
 token_as r kind size head = record { kind = kind; start = r.start; length = size; told = told_of kind r.start size head }
 
-token_later : (r : Reading) (w : Walk) (kind : ℕ) (first last : List ℕ) → token_with (inside r w first) kind last ≡ token_with r kind (first ++ last)
+token_later : (r : Parser) (w : Walk) (kind : ℕ) (first last : List ℕ) → token_with (inside r w first) kind last ≡ token_with r kind (first ++ last)
 token_later r w kind first last =
     ap (λ (n : ℕ). token_as r kind n (kept (kept r.head first) last)) (added_append r.passed first last)
     ∙ ap (token_as r kind (added r.passed (length (first ++ last)))) (kept_kept r.head first last)
 
-behind_later : (r : Reading) (w v : Walk) (first last : List ℕ) → behind (inside r w first) v last ≡ behind r v (first ++ last)
+behind_later : (r : Parser) (w v : Walk) (first last : List ℕ) → behind (inside r w first) v last ≡ behind r v (first ++ last)
 behind_later r w v first last =
     ap (λ (n : ℕ). record { walk = v; head = []; start = added r.start n; passed = 0; refused = None }) (added_append r.passed first last)
 
-abbrev inside_as : Reading → Walk → ℕ → List ℕ → Reading
+abbrev inside_as : Parser → Walk → ℕ → List ℕ → Parser
 inside_as r v n head = record { walk = v; head = head; start = r.start; passed = n; refused = None }
 
-inside_later : (r : Reading) (w v : Walk) (first last : List ℕ) → inside (inside r w first) v last ≡ inside r v (first ++ last)
+inside_later : (r : Parser) (w v : Walk) (first last : List ℕ) → inside (inside r w first) v last ≡ inside r v (first ++ last)
 inside_later r w v first last =
     ap (λ (n : ℕ). inside_as r v n (kept (kept r.head first) last)) (added_append r.passed first last)
     ∙ ap (inside_as r v (added r.passed (length (first ++ last)))) (kept_kept r.head first last)
@@ -149,7 +149,7 @@ last_later first last some =
 abbrev refusal_as : WireFault → ℕ → ℕ → Refusal
 refusal_as fault byte at = record { fault = fault; byte = byte; at = at }
 
-refusal_later : (r : Reading) (w : Walk) (fault : WireFault) (first last : List ℕ) → 0 < length last → refusal_at (inside r w first) fault last ≡ refusal_at r fault (first ++ last)
+refusal_later : (r : Parser) (w : Walk) (fault : WireFault) (first last : List ℕ) → 0 < length last → refusal_at (inside r w first) fault last ≡ refusal_at r fault (first ++ last)
 refusal_later r w fault first last some =
     ap (λ (n : ℕ). refusal_as fault (get_or last (length last - 1) 0) (added r.start (n - 1))) (added_append r.passed first last)
     ∙ ap (λ (b : ℕ). refusal_as fault b (added r.start (added r.passed (length (first ++ last)) - 1))) (last_later first last some)
@@ -164,12 +164,12 @@ some_front (b ∷ bytes) rest h =
     let q : length (front_of (b ∷ bytes) rest) ≡ suc (length (take (length bytes - length rest) bytes)) = ap length p in
     omega (arith, q)
 
-later_by : (r : Reading) (w : Walk) (first second : List ℕ) (went : Went) → LeavesFewer (length second) went
+later_by : (r : Parser) (w : Walk) (first second : List ℕ) (went : Went) → LeavesFewer (length second) went
     → found_by (inside r w first) second went ≡ found_by r (first ++ second) went
 later_by r w first second (Over v rest) h =
     let f : front_of (first ++ second) rest ≡ first ++ front_of second rest = front_later first second rest (omega (arith, h)) in
     ap (λ (t : Token). Sees t (behind (inside r w first) v (front_of second rest)) rest) (token_later r w v.at.kind first (front_of second rest))
-    ∙ (ap (λ (s : Reading). Sees (token_with r v.at.kind (first ++ front_of second rest)) s rest) (behind_later r w v first (front_of second rest))
+    ∙ (ap (λ (s : Parser). Sees (token_with r v.at.kind (first ++ front_of second rest)) s rest) (behind_later r w v first (front_of second rest))
     ∙ ap (λ (last : List ℕ). Sees (token_with r v.at.kind last) (behind r v last) rest) (sym f))
 later_by r w first second (Within v) h = ap Inside (inside_later r w v first second)
 later_by r w first second (Failed fault rest) h =
@@ -177,7 +177,7 @@ later_by r w first second (Failed fault rest) h =
     ap Refuses (refusal_later r w fault first (front_of second rest) (some_front second rest h)
     ∙ ap (refusal_at r fault) (sym f))
 
-cut_by : (r : Reading) (first second : List ℕ) (went : Went) → LeavesAtMost (length first) went → StaysGood went
+cut_by : (r : Parser) (first second : List ℕ) (went : Went) → LeavesAtMost (length first) went → StaysGood went
     → then_found (found_by r first went) second ≡ found_by r (first ++ second) (then_piece went second)
 unfolding next_token
 cut_by r first second (Over w rest) few good =
@@ -186,25 +186,25 @@ cut_by r first second (Within w) few good = later_by r w first second (onward w 
 cut_by r first second (Failed fault rest) few good =
     ap (λ (last : List ℕ). Refuses (refusal_at r fault last)) (sym (front_more first second rest few))
 
-cut_on : (o : Option Refusal) (r : Reading) (first second : List ℕ) → then_found (found_on o r first) second ≡ found_on o r (first ++ second)
+cut_on : (o : Option Refusal) (r : Parser) (first second : List ℕ) → then_found (found_on o r first) second ≡ found_on o r (first ++ second)
 cut_on (Some refusal) r first second = refl
 cut_on None r first second =
     cut_by r first second (onward r.walk first) (left_onward r.walk first) (good_onward r.walk first)
     ∙ ap (found_by r (first ++ second)) (cut r.walk first second)
 
 -- two pieces do what both do as one
-pub cut_found : (r : Reading) (first second : List ℕ) → then_found (next_token r first) second ≡ next_token r (first ++ second)
+pub cut_found : (r : Parser) (first second : List ℕ) → then_found (next_token r first) second ≡ next_token r (first ++ second)
 unfolding next_token
 cut_found r first second = cut_on r.refused r first second
 
 -- ---- As the layout has it
 
-outcome_by : (r : Reading) (piece : List ℕ) (went : Went) → outcome_of (found_by r piece went) ≡ laid_by r piece (seen went)
+outcome_by : (r : Parser) (piece : List ℕ) (went : Went) → outcome_of (found_by r piece went) ≡ laid_by r piece (seen went)
 outcome_by r piece (Over w rest) = refl
 outcome_by r piece (Within w) = refl
 outcome_by r piece (Failed fault rest) = refl
 
-pub laid_found : (r : Reading) (piece : List ℕ) → IsReady r → outcome_of (next_token r piece) ≡ laid_out r piece
+pub laid_found : (r : Parser) (piece : List ℕ) → IsReady r → outcome_of (next_token r piece) ≡ laid_out r piece
 unfolding next_token
 laid_found r piece h =
     ap (λ (o : Option Refusal). outcome_of (found_on o r piece)) h.whole

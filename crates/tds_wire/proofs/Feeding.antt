@@ -10,7 +10,7 @@ use Rattle.tds_wire.specs.declared.due.Due.TheVariants as due
 use Rattle.tds_wire.specs.declared.due.Standing.TheVariants.{Between}
 use Rattle.tds_wire.specs.Walking.{Walk, with_kind}
 use Rattle.tds_wire.specs.Bytes.{Over, Within, Failed, onward, standing}
-use Rattle.tds_wire.specs.Reading.{IsReady, Reading, Sees, Inside, Refuses, behind, found_by, found_on, front_of, inside, next_token, refusal_at, token_with}
+use Rattle.tds_wire.specs.Reading.{IsReady, Parser, Sees, Inside, Refuses, behind, found_by, found_on, front_of, inside, next_token, refusal_at, token_with}
 use Rattle.tds_wire.specs.Told.{added, told_of}
 use Rattle.tds_wire.specs.Whole.{IsWhole, behind_whole}
 
@@ -20,14 +20,14 @@ between_is (due.Number f left value) e = absurd cc
 between_is (due.Run left next) e = absurd cc
 between_is (due.Broken fault) e = absurd cc
 
-pub sees_same : (t u : Token) (r s : Reading) (rest : List ℕ) → t ≡ u → r ≡ s → Sees t r rest ≡ Sees u s rest
+pub sees_same : (t u : Token) (r s : Parser) (rest : List ℕ) → t ≡ u → r ≡ s → Sees t r rest ≡ Sees u s rest
 sees_same t u r s rest e f = cc
 
 pub inside_same : (w : Walk) (head kept : List ℕ) (start passed count : ℕ) (refused : Option Refusal) → head ≡ kept → passed ≡ count → refused ≡ None
     → Inside (record { walk = w; head = head; start = start; passed = passed; refused = refused }) ≡ Inside (record { walk = w; head = kept; start = start; passed = count; refused = None })
 inside_same w head kept start passed count refused h p n = cc
 
-module _ (r : Reading) (piece : List ℕ) where
+module _ (r : Parser) (piece : List ℕ) where
   pub feeds_refusal : (refusal : Refusal) → r.refused ≡ Some refusal → Refuses refusal ≡ next_token r piece
   unfolding next_token
   feeds_refusal refusal e = sym (ap (λ (o : Option Refusal). found_on o r piece) e)
@@ -65,14 +65,14 @@ token_is kind start passed n head last first p h e f =
     let front : first ≡ take 24 (head ++ last) = f ∙ sym (ap (λ (xs : List ℕ). take 24 (xs ++ last)) h) in
     cc
 
-behind_is : (r : Reading) (piece : List ℕ) (count : ℕ) → IsReady r → count ≤ length piece
+behind_is : (r : Parser) (piece : List ℕ) (count : ℕ) → IsReady r → count ≤ length piece
     → behind_whole r piece count ≡ behind r (with_kind r.walk (get_or piece 0 0)) (take count piece)
 behind_is r piece count ready few =
     let l : length (take count piece) ≡ count = length-take-le count piece few in
     let e : min 18446744073709551615 (r.start + count) ≡ min 18446744073709551615 (r.start + min 18446744073709551615 (r.passed + length (take count piece))) = omega (arith, l, ready.passed) in
     ap (λ (n : ℕ). record { walk = with_kind r.walk (get_or piece 0 0); head = []; start = n; passed = 0; refused = None }) e
 
-pub takes_whole : (r : Reading) (piece : List ℕ) (count n : ℕ) (first : List ℕ) → IsReady r → count ≤ length piece → IsWhole count piece
+pub takes_whole : (r : Parser) (piece : List ℕ) (count n : ℕ) (first : List ℕ) → IsReady r → count ≤ length piece → IsWhole count piece
     → n ≡ added 0 (length (take count piece)) → first ≡ take 24 (take count piece)
     → Sees (record { kind = get_or piece 0 0; start = r.start; length = n; told = told_of (get_or piece 0 0) r.start n first }) (behind_whole r piece count) (drop count piece) ≡ next_token r piece
 takes_whole r piece count n first ready few whole e f =

@@ -9,7 +9,7 @@ use Rattle.tds_wire.specs.declared.due.Width.{Width}
 use Rattle.tds_wire.specs.declared.due.Width.TheVariants.{One, Two, Four}
 use Rattle.tds_wire.specs.Numbers.{width_of, bytes_of, shifted}
 use Rattle.tds_wire.specs.Walking.{Walk, with_due, with_number, with_run, ended, broken, go, pass, arrive}
-use Rattle.tds_wire.specs.Bytes.{step, to_end, seen, seen_of}
+use Rattle.tds_wire.specs.Bytes.{walk_step, to_end, seen, seen_of}
 use Rattle.tds_wire.specs.Layout.{Read, Got, Short, Wrong, ◌>>=◌, one, two, four, run, name, long_name, value, Seen}
 use Rattle.tds_wire.proofs.WhatIsDue.{arrive_due, go_due}
 
@@ -40,14 +40,14 @@ number_none w f left value = refl
 
 number_more : (w : Walk) (f : Field) (left value b : ℕ) (rest : List ℕ) → 1 < left
     → seen (to_end (with_due w (Number f left value)) (b ∷ rest)) ≡ seen (to_end (with_due w (Number f (left - 1) (shifted (width_of f) value b))) rest)
-unfolding to_end step
+unfolding to_end walk_step
 number_more w f left value b rest l =
     let t : nat_lt 1 left ≡ true = lt-ltb 1 left l in
     rw t refl
 
 number_last : (w : Walk) (f : Field) (value b : ℕ) (rest : List ℕ)
     → seen (to_end (with_due w (Number f 1 value)) (b ∷ rest)) ≡ seen (to_end (arrive w f (shifted (width_of f) value b)) rest)
-unfolding to_end step
+unfolding to_end walk_step
 number_last w f value b rest = ap (λ (x : Walk). seen (to_end x rest)) (arrive_due w (Number f 1 value) f (shifted (width_of f) value b))
 
 abbrev pub number_at : Width → List ℕ → Read ℕ
@@ -92,7 +92,7 @@ number_seen w f bytes = number_by (width_of f) w f bytes refl
 
 pub run_seen : (w : Walk) (n : ℕ) (next : Next) (bytes : List ℕ)
     → seen (to_end (with_run w (suc n) next) bytes) ≡ (run (suc n) bytes >>= λ u rest. seen (to_end (go w next) rest))
-unfolding to_end step run
+unfolding to_end walk_step run
 run_seen w n next [] = refl
 run_seen w zero next (b ∷ bytes) = ap (λ (x : Walk). seen (to_end x bytes)) (go_due w (Run 1 next) next)
 run_seen w (suc n) next (b ∷ bytes) =

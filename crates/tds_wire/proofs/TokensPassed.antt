@@ -6,7 +6,7 @@ use Rattle.tds_wire.specs.declared.due.TokenField.TheVariants as in_token
 use Rattle.tds_wire.specs.declared.due.Next.TheVariants.{Ended, Then}
 use Rattle.tds_wire.specs.declared.due.Due.TheVariants.{Token}
 use Rattle.tds_wire.specs.Walking.{Walk, with_due, with_number, with_run, ended, pass, with_kind, begun}
-use Rattle.tds_wire.specs.Bytes.{step, to_end, onward, seen, seen_of}
+use Rattle.tds_wire.specs.Bytes.{walk_step, to_end, onward, seen, seen_of}
 use Rattle.tds_wire.specs.Layout.{Read, Got, ◌>>=◌, one, two, four, run, Seen, counted, long_counted, passed, promoted, change, features_at, token_behind, token_at, has_length, has_long_length, is_done}
 use Rattle.tds_wire.proofs.FieldsPassed.{same_bind, number_none, number_seen, run_seen, pass_seen, ended_seen, broken_seen, run_shorter, four_shorter, one_shorter}
 use Rattle.tds_wire.proofs.ColumnsPassed.{parameter_seen, list_columns_seen}
@@ -99,7 +99,7 @@ begun_seen w byte rest m d =
 
 token_from : (w : Walk) (bytes : List ℕ) → length w.columns ≤ 4096 → length w.nulls ≡ 512
     → seen (onward (ended w) bytes) ≡ token_at w.most w.features (seen_of w) bytes
-unfolding onward step token_at
+unfolding onward walk_step token_at
 token_from w [] m d = refl
 token_from w (byte ∷ rest) m d = begun_seen (with_kind (ended w) byte) byte rest m d
 

@@ -11,7 +11,7 @@ use Rattle.std.proofs.lemmas.List.{drop-drop, drop_all, length-drop, take_all}
 use Rattle.tds_wire.specs.declared.due.Standing.{Standing}
 use Rattle.tds_wire.specs.declared.due.Standing.TheVariants.{Between, Going, Failing}
 use Rattle.tds_wire.specs.Walking.{Walk, go, with_due}
-use Rattle.tds_wire.specs.Bytes.{step, standing, Went, Over, Within, Failed, went_by, went_on, to_end, onward, then_piece}
+use Rattle.tds_wire.specs.Bytes.{walk_step, standing, Went, Over, Within, Failed, went_by, went_on, to_end, onward, then_piece}
 
 pub end_between : (w : Walk) (bytes : List ℕ) → standing w.at.due ≡ Between → to_end w bytes ≡ Over w bytes
 unfolding to_end
@@ -49,7 +49,7 @@ empty_by (Failing fault) w more h = sym (end_failing w more fault h)
 pub cut_end : (w : Walk) (bytes more : List ℕ) → then_piece (to_end w bytes) more ≡ to_end w (bytes ++ more)
 unfolding to_end
 cut_end w [] more = empty_by (standing w.at.due) w more refl
-cut_end w (b ∷ bytes) more = cut_by (standing w.at.due) w (b ∷ bytes) more _ _ (cut_end (step w b) bytes more)
+cut_end w (b ∷ bytes) more = cut_by (standing w.at.due) w (b ∷ bytes) more _ _ (cut_end (walk_step w b) bytes more)
 
 cut_on : (s : Standing) (bytes more : List ℕ) (x y : Went) → then_piece x more ≡ y → then_piece (went_on s bytes x) more ≡ went_on s (bytes ++ more) y
 cut_on Between bytes more x y h = h
@@ -64,7 +64,7 @@ nothing_by (Failing fault) w more h = sym (onward_failing w more fault h)
 pub cut : (w : Walk) (bytes more : List ℕ) → then_piece (onward w bytes) more ≡ onward w (bytes ++ more)
 unfolding onward
 cut w [] more = nothing_by (standing w.at.due) w more refl
-cut w (b ∷ bytes) more = cut_on (standing w.at.due) (b ∷ bytes) more _ _ (cut_end (step w b) bytes more)
+cut w (b ∷ bytes) more = cut_on (standing w.at.due) (b ∷ bytes) more _ _ (cut_end (walk_step w b) bytes more)
 
 -- ---- Bytes at once
 
@@ -73,7 +73,7 @@ due_again w left next h = ap (with_due w) (sym h)
 
 pub run_on : (w : Walk) (left n : ℕ) (next : Next) (bytes : List ℕ) → n ≤ left - 1 → n ≤ length bytes
     → onward (with_due w (Run left next)) bytes ≡ onward (with_due w (Run (left - n) next)) (drop n bytes)
-unfolding onward to_end step
+unfolding onward to_end walk_step
 run_on w left zero next bytes h g =
     let e : left - 0 ≡ left = omega arith in
     rw e refl
@@ -94,19 +94,19 @@ on_by Going bytes x h = refl
 on_by (Failing fault) bytes x h = absurd (h fault refl)
 
 pub stepped : (w : Walk) (piece : List ℕ) (i : ℕ) → i < length piece → ((fault : WireFault) → standing w.at.due ≡ Failing fault → ⊥)
-    → onward w (drop i piece) ≡ to_end (step w (get_or piece i 0)) (drop (i + 1) piece)
+    → onward w (drop i piece) ≡ to_end (walk_step w (get_or piece i 0)) (drop (i + 1) piece)
 unfolding onward
 stepped w piece i h on = rw (drop_more piece i 0 h) (on_by (standing w.at.due) _ _ on)
 
 -- a byte
-pub taken : (w v : Walk) (bytes : List ℕ) (b : ℕ) → 0 < length bytes → b ≡ get_or bytes 0 0 → v ≡ step w b → ((fault : WireFault) → standing w.at.due ≡ Failing fault → ⊥)
+pub taken : (w v : Walk) (bytes : List ℕ) (b : ℕ) → 0 < length bytes → b ≡ get_or bytes 0 0 → v ≡ walk_step w b → ((fault : WireFault) → standing w.at.due ≡ Failing fault → ⊥)
     → onward w bytes ≡ to_end v (drop 1 bytes)
-taken w v bytes b some c s on = stepped w bytes 0 some on ∙ ap (λ (x : Walk). to_end x (drop 1 bytes)) (ap (step w) (sym c) ∙ sym s)
+taken w v bytes b some c s on = stepped w bytes 0 some on ∙ ap (λ (x : Walk). to_end x (drop 1 bytes)) (ap (walk_step w) (sym c) ∙ sym s)
 
 -- a run, of which all the bytes are there
 run_whole : (w : Walk) (left count : ℕ) (next : Next) (bytes : List ℕ) → left ≤ length bytes → 0 < length bytes → count ≡ max left 1
     → onward (with_due w (Run left next)) bytes ≡ to_end (go w next) (drop count bytes)
-unfolding onward step
+unfolding onward walk_step
 run_whole w left count next [] h g e = absurd (omega (arith, g))
 run_whole w zero count next (b ∷ bytes) h g e =
     let z : count ≡ 1 = omega (arith, e) in

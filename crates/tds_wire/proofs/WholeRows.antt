@@ -13,8 +13,8 @@ use Rattle.tds_wire.specs.declared.due.ValueField.TheVariants as in_value
 use Rattle.tds_wire.specs.declared.shape.Shape.TheVariants as shape
 use Rattle.tds_wire.specs.declared.told.Token.{Token as AnyToken}
 use Rattle.tds_wire.specs.declared.told.Told.TheVariants as told
-use Rattle.tds_wire.specs.Bytes.{Over, onward, step, to_end}
-use Rattle.tds_wire.specs.Reading.{IsReady, Reading, Sees, front_of, next_token, token_with}
+use Rattle.tds_wire.specs.Bytes.{Over, onward, walk_step, to_end}
+use Rattle.tds_wire.specs.Reading.{IsReady, Parser, Sees, front_of, next_token, token_with}
 use Rattle.tds_wire.specs.Told.{told_of}
 use Rattle.tds_wire.specs.Walking.{Walk, at_column, begun, ended, has_no_bytes, next_value, pass, row_from, shape_at, value_due, valued, with_due, with_inside, with_kind, with_run}
 use Rattle.tds_wire.specs.Rows.{IsPassed, Passes, behind_row, past_row, row_token}
@@ -35,7 +35,7 @@ goes_on : (w : Walk) (d : Due) (bytes : List ℕ) → to_end (valued w.at.inside
 goes_on w d bytes = ap (λ (x : Walk). to_end x bytes) (valued_due w.at.inside w d)
 
 run_passed : (n : ℕ) (w : Walk) (bytes : List ℕ) → suc n ≤ length bytes → to_end (with_run w (suc n) Valued) bytes ≡ to_end (valued w.at.inside w) (drop (suc n) bytes)
-unfolding to_end step
+unfolding to_end walk_step
 run_passed n w [] h = absurd (omega (arith, h))
 run_passed zero w (b ∷ bytes) h = goes_on w (Run 1 Valued) bytes
 run_passed (suc n) w (b ∷ bytes) h =
@@ -56,7 +56,7 @@ fixed_passes zero bytes some h = absurd (omega (arith, some))
 fixed_passes (suc n) bytes some h = λ w. run_passed n w bytes h
 
 byte_passed : (w : Walk) (b : ℕ) (bytes : List ℕ) → b ≤ length bytes → to_end (with_due w (value_due shape.Byte)) (b ∷ bytes) ≡ to_end (valued w.at.inside w) (drop b bytes)
-unfolding to_end step
+unfolding to_end walk_step
 byte_passed w b bytes h = pass_passed b w (value_due shape.Byte) bytes h
 
 pub byte_passes : (n : ℕ) (bytes : List ℕ) → n ≡ 1 + get_or bytes 0 0 → n ≤ length bytes → Passes shape.Byte n bytes
@@ -71,7 +71,7 @@ spelled a b = (0 / 256 + 256 * a) / 256 + 256 * b
 
 short_passed : (z : Bool) (w : Walk) (a b m : ℕ) (bytes : List ℕ) → (spelled a b == 65535) ≡ z → m ≡ (if z then 0 else spelled a b) → m ≤ length bytes
     → to_end (with_due w (value_due shape.Short)) (a ∷ b ∷ bytes) ≡ to_end (valued w.at.inside w) (drop m bytes)
-unfolding to_end step
+unfolding to_end walk_step
 short_passed true w a b m bytes e k h = rw e (rw k (goes_on w (Number (field.Value in_value.ShortCount) 1 (0 / 256 + 256 * a)) bytes))
 short_passed false w a b m bytes e k h = rw e (rw k (pass_passed (spelled a b) w (Number (field.Value in_value.ShortCount) 1 (0 / 256 + 256 * a)) bytes (omega (arith, h, k))))
 
@@ -101,7 +101,7 @@ so_far w i = with_inside (with_kind w 0xD1) (if i == 0 then w.at.inside else ins
 
 pub row_begins : (w : Walk) (bytes : List ℕ) → w.at.due ≡ Token → 0 < length w.columns → 0 < length bytes → get_or bytes 0 0 ≡ 0xD1
     → onward w bytes ≡ to_end (row_from false (so_far w 0) 0) (drop 1 bytes)
-unfolding onward step begun
+unfolding onward walk_step begun
 row_begins w [] d some h e = absurd (omega (arith, h))
 row_begins w (b ∷ bytes) d some h e =
     let z : (length w.columns == 0) ≡ false = search rules in
@@ -173,7 +173,7 @@ front_length n piece h =
     let e : length piece - length (drop n piece) ≡ n = omega (arith, k, h) in
     rw e (length-take-le n piece h)
 
-sees_row : (r : Reading) (n : ℕ) (piece : List ℕ) → IsReady r → n ≤ length piece → onward r.walk piece ≡ Over (behind_row r.walk) (drop n piece)
+sees_row : (r : Parser) (n : ℕ) (piece : List ℕ) → IsReady r → n ≤ length piece → onward r.walk piece ≡ Over (behind_row r.walk) (drop n piece)
     → next_token r piece ≡ Sees (token_with r 0xD1 (front_of piece (drop n piece))) (past_row r n) (drop n piece)
 unfolding next_token
 sees_row r n piece ready few over =
@@ -182,7 +182,7 @@ sees_row r n piece ready few over =
     rw ready.whole (rw over (rw k (rw ready.passed (rw e (rw ready.head (search rules))))))
 
 -- what is told of it
-token_is : (r : Reading) (n : ℕ) (piece : List ℕ) → IsReady r → n ≤ length piece → n ≤ 18446744073709551615
+token_is : (r : Parser) (n : ℕ) (piece : List ℕ) → IsReady r → n ≤ length piece → n ≤ 18446744073709551615
     → token_with r 0xD1 (front_of piece (drop n piece)) ≡ row_token n r
 unfolding told_of
 token_is r n piece ready few counted =
@@ -190,22 +190,22 @@ token_is r n piece ready few counted =
     let e : min 18446744073709551615 (r.passed + length (front_of piece (drop n piece))) ≡ n = omega (arith, k, counted, ready.passed) in
     ap (λ (m : ℕ). record { kind = 0xD1; start = r.start; length = m; told = told.Other }) e
 
-pub row_passed : (r : Reading) (n : ℕ) (piece : List ℕ) → IsReady r → n ≤ length piece → n ≤ 18446744073709551615
+pub row_passed : (r : Parser) (n : ℕ) (piece : List ℕ) → IsReady r → n ≤ length piece → n ≤ 18446744073709551615
     → onward r.walk piece ≡ Over (behind_row r.walk) (drop n piece) → IsPassed n r (past_row r n) piece
 row_passed r n piece ready few counted over =
     sees_row r n piece ready few over ∙ ap (λ (t : AnyToken). Sees t (past_row r n) (drop n piece)) (token_is r n piece ready few counted)
 
 -- a parser that is ready, moved by a row: it was before a token
-abbrev moved : Reading → ℕ → ℕ → Reading
+abbrev moved : Parser → ℕ → ℕ → Parser
 moved r i start = record r { walk = record r.walk { at = record r.walk.at { kind = 0xD1; inside = inside.Row i } }; start = start }
 
-pub moved_on : (r : Reading) (i n start : ℕ) → IsReady r → i ≡ length r.walk.columns - 1 → start ≡ min 18446744073709551615 (r.start + n) → past_row r n ≡ moved r i start
+pub moved_on : (r : Parser) (i n start : ℕ) → IsReady r → i ≡ length r.walk.columns - 1 → start ≡ min 18446744073709551615 (r.start + n) → past_row r n ≡ moved r i start
 moved_on r i n start ready e f =
     ap (λ (k : ℕ). record r { walk = record r.walk { at = record r.walk.at { due = Token; kind = 0xD1; inside = inside.Row (length r.walk.columns - 1) } }; start = k }) (sym f)
     ∙ (ap (λ (k : ℕ). record r { walk = record r.walk { at = record r.walk.at { due = Token; kind = 0xD1; inside = inside.Row k } }; start = start }) (sym e)
     ∙ ap (λ (d : Due). record r { walk = record r.walk { at = record r.walk.at { due = d; kind = 0xD1; inside = inside.Row i } }; start = start }) (sym ready.walk.due))
 
-pub ready_again : (r : Reading) (i start : ℕ) → IsReady r → IsReady (moved r i start)
+pub ready_again : (r : Parser) (i start : ℕ) → IsReady r → IsReady (moved r i start)
 ready_again r i start ready = record {
   walk = record { due = ready.walk.due; columns = ready.walk.columns; nulls = ready.walk.nulls };
   head = ready.head;

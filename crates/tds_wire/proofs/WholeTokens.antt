@@ -8,7 +8,7 @@ use Rattle.tds_wire.specs.declared.due.Field.TheVariants as field
 use Rattle.tds_wire.specs.declared.due.Next.TheVariants.{Ended, Then}
 use Rattle.tds_wire.specs.declared.due.TokenField.TheVariants as in_token
 use Rattle.tds_wire.specs.declared.due.ValueField.TheVariants as in_value
-use Rattle.tds_wire.specs.Bytes.{Over, Within, onward, step, to_end}
+use Rattle.tds_wire.specs.Bytes.{Over, Within, onward, walk_step, to_end}
 use Rattle.tds_wire.specs.Walking.{Walk, begun, ended, pass, with_due, with_kind, with_number, with_run}
 use Rattle.tds_wire.specs.Whole.{IsWhole}
 use Rattle.tds_wire.proofs.Walks.{end_between, end_going, ran, ran_within}
@@ -16,7 +16,7 @@ use Rattle.tds_wire.proofs.Walks.{end_between, end_going, ran, ran_within}
 -- ---- Runs up to a token's end
 
 run_over : (n : ℕ) (w : Walk) (bytes : List ℕ) → suc n ≤ length bytes → to_end (with_run w (suc n) Ended) bytes ≡ Over (ended w) (drop (suc n) bytes)
-unfolding to_end step
+unfolding to_end walk_step
 run_over n w [] h = absurd (omega (arith, h))
 run_over zero w (b ∷ bytes) h = end_between (ended w) bytes refl
 run_over (suc n) w (b ∷ bytes) h =
@@ -35,7 +35,7 @@ pass_over (suc n) w bytes h =
 -- ---- Tokens
 
 begins : (w : Walk) (b : ℕ) (bytes : List ℕ) → w.at.due ≡ Token → onward w (b ∷ bytes) ≡ to_end (begun (with_kind w b) b) bytes
-unfolding onward step
+unfolding onward walk_step
 begins w b bytes d = rw d refl
 
 -- a walk that was before a token is behind it
@@ -57,7 +57,7 @@ spelled a b = (0 / 256 + 256 * a) / 256 + 256 * b
 
 counted_over : (w : Walk) (a b m : ℕ) (bytes : List ℕ) → m ≡ spelled a b → m ≤ length bytes
     → to_end (with_number w (field.Token in_token.Length)) (a ∷ b ∷ bytes) ≡ Over (ended w) (drop m bytes)
-unfolding to_end step
+unfolding to_end walk_step
 counted_over w a b m bytes k h = rw k (pass_over (spelled a b) (with_due w (Number (field.Token in_token.Length) 1 (0 / 256 + 256 * a))) bytes (omega (arith, h, k)))
 
 pub counted_is : (m : ℕ) (bytes : List ℕ) → 3 ≤ length bytes → m ≡ get_or bytes 1 0 + 256 * get_or bytes 2 0 + 3 → m ≤ length bytes
@@ -74,7 +74,7 @@ counted_is m (k ∷ a ∷ b ∷ bytes) l e few does = λ w d.
 
 change_over : (w : Walk) (a b c m : ℕ) (bytes : List ℕ) → (spelled a b % 65536 == 0) ≡ false → (c == 15) ≡ false → spelled a b % 65536 - 1 ≡ m → m ≤ length bytes
     → to_end (with_number w (field.Token in_token.ChangeLength)) (a ∷ b ∷ c ∷ bytes) ≡ Over (ended w) (drop m bytes)
-unfolding to_end step
+unfolding to_end walk_step
 change_over w a b c m bytes z t k h = rw z (rw t (rw k (pass_over m (with_due w (Number (field.Token (in_token.Change m)) 1 0)) bytes h)))
 
 change_begun : (w : Walk) → begun w 0xE3 ≡ with_number w (field.Token in_token.ChangeLength)
@@ -106,7 +106,7 @@ four_spelled a b c d = (((0 / 256 + 16777216 * a) / 256 + 16777216 * b) / 256 + 
 
 part_counted : (w : Walk) (a b c d n : ℕ) (bytes : List ℕ) → four_spelled a b c d ≡ n → (n == 0) ≡ false
     → to_end (with_number w (field.Value in_value.PartCount)) (a ∷ b ∷ c ∷ d ∷ bytes) ≡ to_end (with_run w n (Then (field.Value in_value.PartCount))) bytes
-unfolding to_end step
+unfolding to_end walk_step
 part_counted w a b c d n bytes e z = rw e (rw z refl)
 
 part_begins : (w : Walk) (n m : ℕ) (bytes : List ℕ) → 4 ≤ length bytes

@@ -21,8 +21,8 @@ step_by (Number f left value) w byte =
 step_by (Run left next) w byte = if nat_lt 1 left then with_run w (left - 1) next else go w next
 step_by (Broken fault) w byte = w
 
-unfoldable pub step : Walk → ℕ → Walk
-step w byte = step_by w.at.due w byte
+unfoldable pub walk_step : Walk → ℕ → Walk
+walk_step w byte = step_by w.at.due w byte
 
 -- how the cursor stands: between two tokens, inside one, or broken
 abbrev pub standing : Due → Standing
@@ -45,7 +45,7 @@ went_by (Failing fault) w bytes onward = Failed fault bytes
 -- up to the end of a token, or no further if it is between two
 unfoldable pub to_end : Walk → List ℕ → Went
 to_end w [] = went_by (standing w.at.due) w [] (Within w)
-to_end w (byte ∷ bytes) = went_by (standing w.at.due) w (byte ∷ bytes) (to_end (step w byte) bytes)
+to_end w (byte ∷ bytes) = went_by (standing w.at.due) w (byte ∷ bytes) (to_end (walk_step w byte) bytes)
 
 abbrev pub went_on : Standing → List ℕ → Went → Went
 went_on Between bytes onward = onward
@@ -55,7 +55,7 @@ went_on (Failing fault) bytes onward = Failed fault bytes
 -- up to the end of a token, by a byte at least
 unfoldable pub onward : Walk → List ℕ → Went
 onward w [] = went_on (standing w.at.due) [] (Within w)
-onward w (byte ∷ bytes) = went_on (standing w.at.due) (byte ∷ bytes) (to_end (step w byte) bytes)
+onward w (byte ∷ bytes) = went_on (standing w.at.due) (byte ∷ bytes) (to_end (walk_step w byte) bytes)
 
 -- what one more piece does
 abbrev pub then_piece : Went → List ℕ → Went
@@ -70,8 +70,8 @@ went_of steps.Within w piece = Within w
 went_of (steps.Failed fault count) w piece = Failed fault (drop count piece)
 
 -- before the first token of a message
-abbrev pub restarted : Walk → Walk
-restarted w = ended (record w { columns = [] })
+abbrev pub walk_restarted : Walk → Walk
+walk_restarted w = ended (record w { columns = [] })
 
 -- ---- As the layout has it
 

@@ -14,7 +14,7 @@ use Rattle.tds_wire.specs.Layout.{Read, Got, Short, Wrong, Seen, token_at}
 use Rattle.tds_wire.specs.Told.{added, told_of}
 use Rattle.tds_wire.specs.Walking.{Walk}
 
-pub record Reading : Type 0 where
+pub record Parser : Type 0 where
   pub walk : Walk
   pub head : List ℕ
   pub start : ℕ
@@ -28,7 +28,7 @@ kept head more = take 24 (head ++ more)
 -- ---- Up to the end of a token
 
 -- the token that has ended with these bytes
-abbrev pub token_with : Reading → ℕ → List ℕ → Token
+abbrev pub token_with : Parser → ℕ → List ℕ → Token
 token_with r kind last = record {
   kind = kind;
   start = r.start;
@@ -37,36 +37,36 @@ token_with r kind last = record {
 }
 
 -- the parser behind it, and inside it
-abbrev pub behind : Reading → Walk → List ℕ → Reading
+abbrev pub behind : Parser → Walk → List ℕ → Parser
 behind r w last = record { walk = w; head = []; start = added r.start (added r.passed (length last)); passed = 0; refused = None }
 
-abbrev pub inside : Reading → Walk → List ℕ → Reading
+abbrev pub inside : Parser → Walk → List ℕ → Parser
 inside r w more = record { walk = w; head = kept r.head more; start = r.start; passed = added r.passed (length more); refused = None }
 
 -- a fault at the last of these bytes
-abbrev pub refusal_at : Reading → WireFault → List ℕ → Refusal
+abbrev pub refusal_at : Parser → WireFault → List ℕ → Refusal
 refusal_at r fault last = record { fault = fault; byte = get_or last (length last - 1) 0; at = added r.start (added r.passed (length last) - 1) }
 
 pub data Found : Type 0 where
-  Sees : Token → Reading → List ℕ → Found
-  Inside : Reading → Found
+  Sees : Token → Parser → List ℕ → Found
+  Inside : Parser → Found
   Refuses : Refusal → Found
 
 -- the bytes before those that are left
 abbrev pub front_of : List ℕ → List ℕ → List ℕ
 front_of piece rest = take (length piece - length rest) piece
 
-abbrev pub found_by : Reading → List ℕ → Went → Found
+abbrev pub found_by : Parser → List ℕ → Went → Found
 found_by r piece (Over w rest) = Sees (token_with r w.at.kind (front_of piece rest)) (behind r w (front_of piece rest)) rest
 found_by r piece (Within w) = Inside (inside r w piece)
 found_by r piece (Failed fault rest) = Refuses (refusal_at r fault (front_of piece rest))
 
-abbrev pub found_on : Option Refusal → Reading → List ℕ → Found
+abbrev pub found_on : Option Refusal → Parser → List ℕ → Found
 found_on (Some refusal) r piece = Refuses refusal
 found_on None r piece = found_by r piece (onward r.walk piece)
 
 -- what is found in a piece
-unfoldable pub next_token : Reading → List ℕ → Found
+unfoldable pub next_token : Parser → List ℕ → Found
 next_token r piece = found_on r.refused r piece
 
 -- what one more piece does
@@ -76,16 +76,16 @@ then_found (Inside r) piece = next_token r piece
 then_found (Refuses refusal) piece = Refuses refusal
 
 -- what a call of `feed` has done, by what it answers
-abbrev pub found_to : Option Token → Reading → List ℕ → Found
+abbrev pub found_to : Option Token → Parser → List ℕ → Found
 found_to None r rest = Inside r
 found_to (Some token) r rest = Sees token r rest
 
-abbrev pub found_of : Result Fed Refusal → Reading → List ℕ → Found
+abbrev pub found_of : Result Fed Refusal → Parser → List ℕ → Found
 found_of (Ok fed) r piece = found_to fed.token r (drop fed.count piece)
 found_of (Err refusal) r piece = Refuses refusal
 
 -- the same where the token is left elsewhere
-abbrev pub found_with : Result ℕ Refusal → Option Token → Reading → List ℕ → Found
+abbrev pub found_with : Result ℕ Refusal → Option Token → Parser → List ℕ → Found
 found_with (Ok count) token r piece = found_to token r (drop count piece)
 found_with (Err refusal) token r piece = Refuses refusal
 
@@ -101,19 +101,19 @@ is_whole None = true
 is_whole (Some refusal) = false
 
 -- nothing of a token has been passed, and none is due
-abbrev pub is_between : Reading → Bool
+abbrev pub is_between : Parser → Bool
 is_between r = is_whole r.refused && (stands_between (standing r.walk.at.due) && ((length r.head == 0) && (r.passed == 0)))
 
 -- A parser between two tokens has passed nothing of the next one.
-pub record IsReady (r : Reading) : Type 0 where
+pub record IsReady (r : Parser) : Type 0 where
   pub walk : IsBetween r.walk
   pub head : r.head ≡ []
   pub passed : r.passed ≡ 0
   pub whole : r.refused ≡ None
 
 -- before the first token of a message
-abbrev pub restarted : Reading → Reading
-restarted r = record { walk = bytes.restarted r.walk; head = []; start = 0; passed = 0; refused = None }
+abbrev pub restarted : Parser → Parser
+restarted r = record { walk = bytes.walk_restarted r.walk; head = []; start = 0; passed = 0; refused = None }
 
 -- ---- As the layout has it
 
@@ -133,10 +133,10 @@ outcome_of (Inside r) = More
 outcome_of (Refuses refusal) = Refused refusal
 
 -- what the layout says of the same bytes
-abbrev pub laid_by : Reading → List ℕ → Read Seen → Outcome
+abbrev pub laid_by : Parser → List ℕ → Read Seen → Outcome
 laid_by r piece (Got s rest) = Ends (record { token = token_with r s.kind (front_of piece rest); columns = s.columns }) rest
 laid_by r piece Short = More
 laid_by r piece (Wrong fault rest) = Refused (refusal_at r fault (front_of piece rest))
 
-abbrev pub laid_out : Reading → List ℕ → Outcome
+abbrev pub laid_out : Parser → List ℕ → Outcome
 laid_out r piece = laid_by r piece (token_at r.walk.most r.walk.features (seen_of r.walk) piece)

@@ -1,6 +1,6 @@
 //! Where in the tokens of an answer its bytes have led.
 ghost use Rattle.std.specs.Prelude.{◌≡◌, min};
-ghost use Rattle.tds_wire.specs.Bytes.{restarted};
+ghost use Rattle.tds_wire.specs.Bytes.{walk_restarted};
 ghost use Rattle.tds_wire.specs.Inside.{IsBetween};
 ghost use Rattle.tds_wire.specs.Memory.{due_in, walk_of};
 ghost use Rattle.tds_wire.specs.Walking.{number_due};
@@ -74,7 +74,7 @@ impl Cursor {
 
     /// Begins anew, before the first token of a message, with no columns.
     pub fn restart(&mut self, memory: &mut Memory)
-        ensures state { walk_of self.new memory.new ≡ restarted (walk_of self.old memory.old) }
+        ensures state { walk_of self.new memory.new ≡ walk_restarted (walk_of self.old memory.old) }
         ensures between { IsBetween (walk_of self.new memory.new) }
     {
         memory.clear();

@@ -22,10 +22,10 @@ pub struct TokenParser {
 }
 
 impl Model for TokenParser {
-    ghost use Rattle.tds_wire.specs.Reading.{Reading};
+    ghost use Rattle.tds_wire.specs.Reading.{Parser};
     ghost use Rattle.tds_wire.specs.Owned.{owned_reading};
 
-    ghost Value = { Reading };
+    ghost Value = { Parser };
 
     ghost view = { owned_reading };
 }

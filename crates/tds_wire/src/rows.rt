@@ -5,7 +5,7 @@ ghost use Rattle.std.specs.Prelude.{◌≡◌, ◌≤◌, ◌<◌, ◌-◌, fals
 ghost use Rattle.tds_wire.specs.Bytes.{Over, onward};
 ghost use Rattle.tds_wire.specs.Lent.{reading_of};
 ghost use Rattle.tds_wire.specs.Memory.{shape_of, shapes_of};
-ghost use Rattle.tds_wire.specs.Reading.{IsReady, Reading};
+ghost use Rattle.tds_wire.specs.Reading.{IsReady, Parser};
 ghost use Rattle.tds_wire.specs.Rows.{IsPassed, Passes, behind_row, past_row, row_token};
 ghost use Rattle.tds_wire.specs.Told.{added};
 ghost use Rattle.tds_wire.specs.Walking.{Walk, has_no_bytes};
@@ -121,7 +121,7 @@ fn may_be_row(bytes: &[u8]) -> bool {
 #[inline(always)]
 pub fn whole_row(memory: &Memory, piece: &[u8]) -> usize
     ensures within { result ≤ length piece.now }
-    ensures row { 0 < result → (r : Reading) → IsReady r → r.walk.columns ≡ shapes_of memory.now
+    ensures row { 0 < result → (r : Parser) → IsReady r → r.walk.columns ≡ shapes_of memory.now
         → IsPassed result r (past_row r result) piece.now }
     ensures some { 0 < result → 0 < length (shapes_of memory.now) }
 {
@@ -131,7 +131,7 @@ pub fn whole_row(memory: &Memory, piece: &[u8]) -> usize
 /// A row of so many bytes.
 #[inline(always)]
 pub fn row_token(start: u64, count: usize) -> Token
-    ensures { (r : Reading) → r.start ≡ start → result ≡ row_token count r }
+    ensures { (r : Parser) → r.start ≡ start → result ≡ row_token count r }
 {
     Token {
         kind: ROW,

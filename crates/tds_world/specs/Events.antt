@@ -20,7 +20,7 @@ use Rattle.tds_world.specs.Connection.{Connection, phase, is_idle, up_underway, 
 use Rattle.tds_world.specs.Phase.{Phase, Asked, Sending}
 use Rattle.tds_world.specs.Pool.{Acted, Refuses, Does, is_free, to_lend, opens, lends, resumes, gives_back, abandons, keeps}
 use Rattle.tds_world.specs.Record.{Record}
-use Rattle.tds_world.specs.World.{World, Found, Missing, Here, Opens, put_numbered, next_number, holding, ended, ended_numbered, by_number, by_lease, by_ticket, not_cut}
+use Rattle.tds_world.specs.World.{World, Found, Missing, Here, Opens, put_numbered, next_number, holding, holding_ended, ended_numbered, by_number, by_lease, by_ticket, not_cut}
 
 -- A request is asked where nobody waits for an answer.
 abbrev pub asks_by : Bool → ℕ → ℕ → ℕ → Request → Connection → Acted
@@ -108,7 +108,7 @@ notes (event.Keep lease) n heard w = record w {
 }
 notes (event.Abandon ticket) n heard w = record w { tickets = ended_numbered ticket w.tickets }
 notes (event.Clean _) n heard w = record w {
-  leases = w.leases ++ ended (holding n heard None) ∷ [];
+  leases = w.leases ++ holding_ended (holding n heard None) ∷ [];
   asked_on = w.asked_on ++ n ∷ [];
 }
 notes (event.Ask lease q) n heard w = record w { asked_on = w.asked_on ++ n ∷ [] }
@@ -136,8 +136,8 @@ happens setup answers event.RestartClient w = (
   outcome.RestartedClient,
   record w {
     connections = map cut w.connections;
-    leases = map ended w.leases;
-    tickets = map ended w.tickets;
+    leases = map holding_ended w.leases;
+    tickets = map holding_ended w.tickets;
   },
 )
 happens setup answers e w = happens_at setup answers e w (about setup w e)

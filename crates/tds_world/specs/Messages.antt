@@ -2,7 +2,7 @@
 use Rattle.std.specs.Prelude.{ℕ, ◌+◌, ◌≡◌, ◌≢◌, ◌≤◌, List, [], ◌∷◌, ◌++◌, length, Bool, true, false, Option, Some, None}
 use Rattle.tds_packet.specs.declared.status.Reset.{Reset}
 use Rattle.tds_packet.specs.Layout.{bits_of}
-use Rattle.tds_request.specs.Layout.{IsRequest, kind_of_request, spelling, packet_kind}
+use Rattle.tds_request.specs.Layout.{IsRequest, kind_of_request, request_spelling, packet_kind}
 use Rattle.tds_packet.specs.Resets.{reset_bit}
 use Rattle.tds_world.specs.Connection.{Connection}
 use Rattle.tds_world.specs.Entries.{Packet, Asking, Up, Part, End, Drop, Attention}
@@ -12,7 +12,7 @@ use Rattle.tds_world.specs.World.{World}
 
 -- A request's message.
 abbrev pub message_of : Asking → List ℕ
-message_of a = spelling a.descriptor a.request
+message_of a = request_spelling a.descriptor a.request
 
 -- It is one that has a spelling.
 abbrev pub IsSpelled : Asking → Type 0

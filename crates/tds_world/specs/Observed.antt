@@ -15,7 +15,7 @@ use Rattle.tds_world.specs.Connection.{Connection, records, phase, Standing, In,
 use Rattle.tds_world.specs.Entries.{up_bytes, down_bytes}
 use Rattle.tds_world.specs.Events.{happens, world_after}
 use Rattle.tds_world.specs.Lane.{sent_bytes}
-use Rattle.tds_world.specs.Phase.{state_of, status_of}
+use Rattle.tds_world.specs.Phase.{state_of, request_status}
 use Rattle.tds_world.specs.Record.{Record}
 use Rattle.tds_world.specs.World.{World, new_world, numbered}
 
@@ -61,7 +61,7 @@ abbrev pub request_report : Bool → Record → RequestReport
 request_report cut q = record {
   lease = q.lease;
   conn = q.conn;
-  status = status_of cut q;
+  status = request_status cut q;
   ran = q.ran;
   tokens = q.given;
 }

@@ -55,5 +55,5 @@ status_by fate false Cancelling = status.Cancelling
 status_by fate false phase = status.Open
 
 -- The status of a request on a connection that is cut, or isn't.
-abbrev pub status_of : Bool → Record → RequestStatus
-status_of cut q = status_by q.fate cut (phase_of q)
+abbrev pub request_status : Bool → Record → RequestStatus
+request_status cut q = status_by q.fate cut (phase_of q)

@@ -61,7 +61,7 @@ new_record number lease conn q mark heard = record {
   lease = lease;
   conn = conn;
   asking = record { request = q; descriptor = header_descriptor mark heard; mark = mark };
-  left = request.spelling (header_descriptor mark heard) q;
+  left = request.request_spelling (header_descriptor mark heard) q;
   out = NotBegun;
   fate = Open;
   ran = None;

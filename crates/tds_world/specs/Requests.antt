@@ -2,7 +2,7 @@
 -- of one that is dropped; and attentions between them.
 use Rattle.std.specs.Prelude.{ℕ, ◌≡◌, ◌+◌, List, [], ◌∷◌, ◌++◌, Option}
 use Rattle.tds_packet.specs.declared.status.Reset.{Reset}
-use Rattle.tds_request.specs.Layout.{kind_of_request, spelling, packet_kind}
+use Rattle.tds_request.specs.Layout.{kind_of_request, request_spelling, packet_kind}
 use Rattle.tds_packet.specs.Resets.{reset_bit}
 use Rattle.tds_world.specs.Connection.{Connection}
 use Rattle.tds_world.specs.Entries.{Packet, packet, Asking, Up, Part, End, Drop, Attention}
@@ -53,7 +53,7 @@ AreRequests m (Part r p ∷ es) out =
     × AreRequests (Partly a (content_of m ++ p.body) (packets_in m + 1)) es out
 AreRequests m (End r a p ∷ es) out =
     AsksThis m a × (p ≡ packet_in m a 1 p.body)
-    × (content_of m ++ p.body ≡ spelling a.descriptor a.request) × AreRequests Nothing es out
+    × (content_of m ++ p.body ≡ request_spelling a.descriptor a.request) × AreRequests Nothing es out
 AreRequests m (Drop r p ∷ es) out = Drops m p × AreRequests Nothing es out
 AreRequests m (Attention r ∷ es) out = (m ≡ Nothing) × AreRequests Nothing es out
 

@@ -48,12 +48,12 @@ abbrev pub holding : ℕ → ℕ → Option ℕ → Holding
 holding n heard ticket = record { conn = n; over = false; resumed = ticket; descriptor = heard }
 
 -- A lease or ticket that ended.
-abbrev pub ended : Holding → Holding
-ended h = record h { over = true }
+abbrev pub holding_ended : Holding → Holding
+holding_ended h = record h { over = true }
 
 abbrev pub ended_at : ℕ → List Holding → List Holding
 ended_at n [] = []
-ended_at zero (h ∷ hs) = ended h ∷ hs
+ended_at zero (h ∷ hs) = holding_ended h ∷ hs
 ended_at (suc n) (h ∷ hs) = h ∷ ended_at n hs
 
 -- The list with the lease or ticket of this number ended.

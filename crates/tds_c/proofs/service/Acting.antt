@@ -23,12 +23,12 @@ use Rattle.tds_service.specs.declared.refusal.Refusal.{Refusal}
 use Rattle.tds_service.specs.declared.refusal.Refusal.TheVariants as refusals
 use Rattle.tds_service.specs.History.{Done, history}
 use Rattle.tds_service.specs.Line as line
-use Rattle.tds_service.specs.Line.{Act, Answer, Line, Packet, Stage, Idle, Sending, Reading, Cancelling, Broken, Told, mark_on, not_begun, turn}
+use Rattle.tds_service.specs.Line.{Act, Answer, Line, Packet, LineStage, Idle, Sending, Reading, Cancelling, Broken, Told, mark_on, not_begun, line_turn}
 use Rattle.tds_service.specs.Parts.{Part}
 use Rattle.tds_service.specs.Refusing.{packets, refusal_in}
 use Rattle.tds_service.specs.Service as calls
-use Rattle.tds_service.specs.Service.{Place, Seat, Service, Step, Did, drained, find_by, has_lease, has_number, lease_at, lease_in, acts, acts_unless, hears}
-use Rattle.tds_service.specs.Table.{AllTo, Comes, RefusedBy, Refuses, RefusesIn, StepsIn, answers_in, refusal_of, told_in}
+use Rattle.tds_service.specs.Service.{Place, Seat, Service, ServiceStep, Did, drained, find_by, has_lease, has_number, lease_at, lease_in, acts, acts_unless, hears}
+use Rattle.tds_service.specs.Table.{AllTo, Comes, RefusedBy, Denies, RefusesIn, StepsIn, answers_in, refusal_of, told_in}
 use Rattle.tds_service.specs.Ties.{Appends, AreBytes, Hears, IsTo, begun_of, cancel_answer, sent_in, tokens_in}
 use Rattle.tds_c.specs.declared.service.answers.Stop.{Stop}
 use Rattle.tds_c.specs.declared.service.answers.Stop.TheVariants as stops
@@ -84,7 +84,7 @@ acts_here last given count seats i test c y first all bytes le met at a =
 
 -- what the connection answered to the one act
 pub answers_here : (last given count : ℕ) (seats : List TdsSeat) (i : ℕ) (test : Seat → Bool) (c : TdsSeat) (act : Act Token) (answer : Answer)
-    → count ≤ length seats → FirstMet test (take count seats) i → c ≡ get_or seats i c → (turn (line_of c) act).answer ≡ answer → refusal_in (turn (line_of c) act).answer ≡ None
+    → count ≤ length seats → FirstMet test (take count seats) i → c ≡ get_or seats i c → (line_turn (line_of c) act).answer ≡ answer → refusal_in (line_turn (line_of c) act).answer ≡ None
     → answers_in (acts (record { max = length seats; last = last; given = given; seats = seats_of (take count seats) }) test act (act ∷ []) (find_by test (seats_of (take count seats)))).dones ≡ answer ∷ []
 answers_here last given count seats i test c act answer le met at is may =
     let s : Service = record { max = length seats; last = last; given = given; seats = seats_of (take count seats) } in
@@ -103,13 +103,13 @@ unless_refuses s test c all (Some clients.Memory) why is never = absurd (never r
 
 pub refuses_here : (last given count : ℕ) (seats : List TdsSeat) (i : ℕ) (test : Seat → Bool) (c : TdsSeat) (first : Act Token) (all : List (Act Token)) (refusal : Refusal)
     → count ≤ length seats → FirstMet test (take count seats) i → c ≡ get_or seats i c → RefusedOn first c refusal
-    → (refusal_in (turn (line_of c) first).answer ≡ Some clients.Memory → ⊥)
+    → (refusal_in (line_turn (line_of c) first).answer ≡ Some clients.Memory → ⊥)
     → (let s : Service = record { max = length seats; last = last; given = given; seats = seats_of (take count seats) } in RefusesIn s (acts s test first all (find_by test s.seats)) refusal)
 refuses_here last given count seats i test c first all refusal le met at by never =
     let s : Service = record { max = length seats; last = last; given = given; seats = seats_of (take count seats) } in
     subst (λ (o : Option Seat). RefusesIn s (acts s test first all o) refusal) (sym (found_seat test count seats i c le met at))
-    (subst (λ (r : Refusal). RefusesIn s (acts_unless s test (seat_of c) all (refusal_in (turn (line_of c) first).answer)) r) (sym by.1)
-    (unless_refuses s test (seat_of c) all (refusal_in (turn (line_of c) first).answer) by.0 by.2 never))
+    (subst (λ (r : Refusal). RefusesIn s (acts_unless s test (seat_of c) all (refusal_in (line_turn (line_of c) first).answer)) r) (sym by.1)
+    (unless_refuses s test (seat_of c) all (refusal_in (line_turn (line_of c) first).answer) by.0 by.2 never))
 
 -- ---- One packet that goes out
 
@@ -134,14 +134,14 @@ sent_bytes : (l : Line) (b last : Bool) (kind : Kind) (out : ℕ) (content : Lis
 sent_bytes l b last kind out content st is =
     let bytes = packet_bytes kind (end_bit last + mark_bit out l.heard.mark) out content in
     let status = ap (λ (n : ℕ). packet_bytes kind (end_bit last + n) out content) (sym (first_alone (out == 0) b l.heard.mark is)) in
-    subst (λ (s : Stage). AreBytes ((line.sends {T = Token} l last s).sent ++ []) bytes) (sym st)
+    subst (λ (s : LineStage). AreBytes ((line.sends {T = Token} l last s).sent ++ []) bytes) (sym st)
     (bytes, [], sym (append-nil bytes), (kind, out, content, not_not (out == 0) b is, status), refl)
 
-may_send : (l : Line) (b last : Bool) → l.stage ≡ Sending b → refusal_in (turn {T = Token} l (line.Send last)).answer ≡ None
-may_send l b last st = subst (λ (s : Stage). refusal_in (line.sends {T = Token} l last s).answer ≡ None) (sym st) refl
+may_send : (l : Line) (b last : Bool) → l.stage ≡ Sending b → refusal_in (line_turn {T = Token} l (line.Send last)).answer ≡ None
+may_send l b last st = subst (λ (s : LineStage). refusal_in (line.sends {T = Token} l last s).answer ≡ None) (sym st) refl
 
 pub sends_one : (c y : TdsSeat) (last : Bool) (content : List ℕ) → (b : Bool) × ((line_of c).stage ≡ Sending b)
-    → line_of y ≡ (turn {T = Token} (line_of c) (line.Send last)).line → place_of y ≡ place_of c → y.number ≡ c.number
+    → line_of y ≡ (line_turn {T = Token} (line_of c) (line.Send last)).line → place_of y ≡ place_of c → y.number ≡ c.number
     → ActsOn (line.Send last) (line.Send last ∷ []) c y (packet_of c last content)
 sends_one c y last content sending moved placed numbered = record {
   becomes = record { number_is = numbered; place_is = placed; line_is = moved };
@@ -159,21 +159,21 @@ sends_none c sending = record {
 
 -- ---- Acts are refused, but for no want of memory
 
-asks_never : (l : Line) (s : Stage) → refusal_in (line.asks {T = Token} l s).answer ≡ Some clients.Memory → ⊥
+asks_never : (l : Line) (s : LineStage) → refusal_in (line.asks {T = Token} l s).answer ≡ Some clients.Memory → ⊥
 asks_never l Idle e = let u : ⊥ = cc in u
 asks_never l (Sending b) e = let u : ⊥ = cc in u
 asks_never l Reading e = let u : ⊥ = cc in u
 asks_never l Cancelling e = let u : ⊥ = cc in u
 asks_never l (Broken fault) e = let u : ⊥ = cc in u
 
-sends_never : (l : Line) (last : Bool) (s : Stage) → refusal_in (line.sends {T = Token} l last s).answer ≡ Some clients.Memory → ⊥
+sends_never : (l : Line) (last : Bool) (s : LineStage) → refusal_in (line.sends {T = Token} l last s).answer ≡ Some clients.Memory → ⊥
 sends_never l last Idle e = let u : ⊥ = cc in u
 sends_never l last (Sending b) e = let u : ⊥ = cc in u
 sends_never l last Reading e = let u : ⊥ = cc in u
 sends_never l last Cancelling e = let u : ⊥ = cc in u
 sends_never l last (Broken fault) e = let u : ⊥ = cc in u
 
-cancels_never : (l : Line) (s : Stage) → refusal_in (line.cancels {T = Token} l s).answer ≡ Some clients.Memory → ⊥
+cancels_never : (l : Line) (s : LineStage) → refusal_in (line.cancels {T = Token} l s).answer ≡ Some clients.Memory → ⊥
 cancels_never l Idle e = let u : ⊥ = cc in u
 cancels_never l (Sending false) e = let u : ⊥ = cc in u
 cancels_never l (Sending true) e = let u : ⊥ = cc in u
@@ -181,7 +181,7 @@ cancels_never l Reading e = let u : ⊥ = cc in u
 cancels_never l Cancelling e = let u : ⊥ = cc in u
 cancels_never l (Broken fault) e = let u : ⊥ = cc in u
 
-asks_answer : (l : Line) (s : Stage) → refusal_in (line.asks {T = Token} l s).answer ≡ None
+asks_answer : (l : Line) (s : LineStage) → refusal_in (line.asks {T = Token} l s).answer ≡ None
     → (line.asks {T = Token} l s).answer ≡ line.Asked (suc l.asked) (header_descriptor l.heard.mark l.heard.descriptor)
 asks_answer l Idle e = refl
 asks_answer l (Sending b) e = absurd (let u : ⊥ = cc in u)
@@ -197,10 +197,10 @@ cancels_may n cancels.Asked = refl
 
 -- ---- What the core's client does
 
-ends_on : (c y : TdsSeat) (kept : List ℕ) → Sends c → y ≡ sent_seat true c → line_of y ≡ (turn {T = Token} (line_of c) (line.Send true)).line → IsPacketSize c.client.size → length kept + 8 ≤ c.client.size
+ends_on : (c y : TdsSeat) (kept : List ℕ) → Sends c → y ≡ sent_seat true c → line_of y ≡ (line_turn {T = Token} (line_of c) (line.Send true)).line → IsPacketSize c.client.size → length kept + 8 ≤ c.client.size
     → finished (session_of c kept) ≡ Ok (record { answer = tt; session = session_of y []; bytes = packet_of c true kept })
 ends_on c y kept at is moved range holds =
-    let reads : (line_of y).stage ≡ Reading = ap (λ (l : Line). l.stage) moved ∙ ap (λ (s : Stage). (line.sends {T = Token} (line_of c) true s).line.stage) at.1 in
+    let reads : (line_of y).stage ≡ Reading = ap (λ (l : Line). l.stage) moved ∙ ap (λ (s : LineStage). (line.sends {T = Token} (line_of c) true s).line.stage) at.1 in
     ends_so c kept at (subst (λ (s : TdsSeat). (line_of s).stage ≡ Reading) is reads) range holds
     ∙ ap (λ (s : TdsSeat). let r : Result (Effect (Unit {0})) ClientRefusal = Ok (record { answer = tt; session = session_of s []; bytes = packet_of c true kept }) in r) (sym is)
 
@@ -293,7 +293,7 @@ module _ (s : TdsService) (seats : List TdsSeat) (i lease : ℕ) (d : TdsSeat) (
   )
 
   pub has_finished : (y : TdsSeat) (kept : List ℕ) (out : Buffer) → ActsOn (line.Send true) (line.Send true ∷ []) the_seat y (packet_of the_seat true kept)
-      → Sends the_seat → y ≡ sent_seat true the_seat → line_of y ≡ (turn {T = Token} (line_of the_seat) (line.Send true)).line → IsPacketSize the_seat.client.size
+      → Sends the_seat → y ≡ sent_seat true the_seat → line_of y ≡ (line_turn {T = Token} (line_of the_seat) (line.Send true)).line → IsPacketSize the_seat.client.size
       → length kept + 8 ≤ the_seat.client.size → out.after ≡ with_front (packet_of the_seat true kept) out.before → out.count ≡ 8 + length kept
       → HasFinished lease the_table (table_with y) kept out
   has_finished y kept out acts sending is moved range holds written counted = record {
@@ -321,19 +321,19 @@ module _ (s : TdsService) (seats : List TdsSeat) (i lease : ℕ) (d : TdsSeat) (
     n.1,
   )
 
-  pub has_cancelled : (y : TdsSeat) (how : Cancelled) (bytes copied written out : List ℕ) → (turn {T = Token} (line_of the_seat) line.Cancel).answer ≡ cancel_answer the_seat.asked how
-      → line_of y ≡ (turn {T = Token} (line_of the_seat) line.Cancel).line → place_of y ≡ place_of the_seat → y.number ≡ the_seat.number
-      → y ≡ cancelled_seat the_seat → AreBytes (turn {T = Token} (line_of the_seat) line.Cancel).sent written → written ≡ cancel_bytes the_seat → bytes ≡ written → copied ≡ bytes
+  pub has_cancelled : (y : TdsSeat) (how : Cancelled) (bytes copied written out : List ℕ) → (line_turn {T = Token} (line_of the_seat) line.Cancel).answer ≡ cancel_answer the_seat.asked how
+      → line_of y ≡ (line_turn {T = Token} (line_of the_seat) line.Cancel).line → place_of y ≡ place_of the_seat → y.number ≡ the_seat.number
+      → y ≡ cancelled_seat the_seat → AreBytes (line_turn {T = Token} (line_of the_seat) line.Cancel).sent written → written ≡ cancel_bytes the_seat → bytes ≡ written → copied ≡ bytes
       → HasCancelled lease the_table (table_with y) (record { before = out; after = copied ++ drop (length bytes) out; count = length bytes }) how
   has_cancelled y how bytes copied written out answers moved placed numbered seat_is sent bytes_are wrote same =
       let l = line_of the_seat in
       let behind = drop (length bytes) out in
-      let may : refusal_in (turn {T = Token} l line.Cancel).answer ≡ None = ap refusal_in answers ∙ cancels_may the_seat.asked how in
+      let may : refusal_in (line_turn {T = Token} l line.Cancel).answer ≡ None = ap refusal_in answers ∙ cancels_may the_seat.asked how in
       let acts : ActsOn line.Cancel (line.Cancel ∷ []) the_seat y bytes = record {
         becomes = record { number_is = numbered; place_is = placed; line_is = moved };
         may = may;
-        sent = subst (λ (ps : List Packet). AreBytes ps bytes) (sym (append-nil (turn {T = Token} l line.Cancel).sent))
-            (subst (λ (b : List ℕ). AreBytes (turn {T = Token} l line.Cancel).sent b) (sym wrote) sent);
+        sent = subst (λ (ps : List Packet). AreBytes ps bytes) (sym (append-nil (line_turn {T = Token} l line.Cancel).sent))
+            (subst (λ (b : List ℕ). AreBytes (line_turn {T = Token} l line.Cancel).sent b) (sym wrote) sent);
       } in
       let is : take (length bytes) (copied ++ behind) ≡ bytes = ap (λ (front : List ℕ). take (length bytes) (front ++ behind)) same ∙ take-append_seam bytes behind in
       let long : length (copied ++ behind) ≡ length bytes + length behind = length-append copied behind ∙ ap (λ (front : List ℕ). length front + length behind) same in
@@ -350,7 +350,7 @@ module _ (s : TdsService) (seats : List TdsSeat) (i lease : ℕ) (d : TdsSeat) (
         client_does = λ (left : List ℕ). cancels_so the_seat y how (take (length bytes) (copied ++ behind)) left seat_is moved answers (is ∙ wrote ∙ bytes_are);
       }
 
-  pub cancel_stops : (room count : ℕ) (stop : Stop) → stop ≡ stops.Refused refusals.Broken → (turn {T = Token} (line_of the_seat) line.Cancel).answer ≡ line.Refused clients.Broken
+  pub cancel_stops : (room count : ℕ) (stop : Stop) → stop ≡ stops.Refused refusals.Broken → (line_turn {T = Token} (line_of the_seat) line.Cancel).answer ≡ line.Refused clients.Broken
       → Stops (calls.Cancel lease) the_table room count stop
   cancel_stops room count stop is answers =
       let broken = subst (λ (a : Answer). IsRefusal (refusal_in a) clients.Broken) (sym answers) refl in

@@ -7,11 +7,11 @@ use Rattle.tds_wire.specs.declared.told.Token.{Token}
 use Rattle.tds_service.specs.declared.refusal.Refusal.{Refusal}
 use Rattle.tds_service.specs.declared.refusal.Refusal.TheVariants as refusals
 use Rattle.tds_service.specs.Line as line
-use Rattle.tds_service.specs.Line.{Answer, Line, Packet, turn}
+use Rattle.tds_service.specs.Line.{Answer, Line, Packet, line_turn}
 use Rattle.tds_service.specs.Parts.{Part}
 use Rattle.tds_service.specs.Service as calls
 use Rattle.tds_service.specs.Service.{Place, Seat, Service, Did, drained, find_by, has_number, lease_at, lease_in, hears}
-use Rattle.tds_service.specs.Table.{AllTo, Comes, Refuses, answers_in, told_in}
+use Rattle.tds_service.specs.Table.{AllTo, Comes, Denies, answers_in, told_in}
 use Rattle.tds_service.specs.Ties.{Appends, Hears, sent_in, tokens_in}
 use Rattle.tds_c.specs.declared.service.plain.TdsSeat.{TdsSeat}
 use Rattle.tds_c.specs.declared.service.plain.TdsService.{TdsService}
@@ -39,7 +39,7 @@ comes_here last given count seats i number c y z part answer tokens lease le met
       place_is = place_is ∙ (ap (λ (p : Place). drained p (stage_of y.client)) placed ∙ ap (λ (l : Line). drained (place_of c) l.stage) (sym line_is));
       line_is = line_is ∙ heard.line_is;
     } in
-    let t = turn (line_of c) (line.Come part) in
+    let t = line_turn (line_of c) (line.Come part) in
     record {
       steps =
           record {
@@ -61,9 +61,9 @@ comes_here last given count seats i number c y z part answer tokens lease le met
 -- ---- In the table
 
 pub comes_unknown : (s : Service) (number : ℕ) (part : Part Token) (refusal : Refusal) → refusal ≡ refusals.Unknown → find_by (has_number number) s.seats ≡ None
-    → Refuses (calls.Came number part) s refusal
+    → Denies (calls.Came number part) s refusal
 comes_unknown s number part refusal is none =
-    subst (λ (r : Refusal). Refuses (calls.Came number part) s r) (sym is) (ap (hears {T = Token} s (has_number number) part) none)
+    subst (λ (r : Refusal). Denies (calls.Came number part) s r) (sym is) (ap (hears {T = Token} s (has_number number) part) none)
 
 -- Whose it is, whatever the default.
 pub comes_at : (s : TdsService) (seats : List TdsSeat) (i number : ℕ) (d y z : TdsSeat) (part : Part Token) (answer : Answer) (tokens : List Token) (lease : Option ℕ)

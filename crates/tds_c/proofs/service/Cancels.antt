@@ -6,13 +6,13 @@ use Rattle.tds_client.specs.declared.fault.ClientFault.{ClientFault}
 use Rattle.tds_client.specs.declared.fault.ClientRefusal.{ClientRefusal}
 use Rattle.tds_client.specs.declared.state.Cancelled.{Cancelled}
 use Rattle.tds_client.specs.declared.state.Cancelled.TheVariants as cancels
-use Rattle.tds_client.specs.Packets.{attention, ignore}
+use Rattle.tds_client.specs.Packets.{stop_bytes, ignore}
 use Rattle.tds_client.specs.Sending.{Effect, cancelled, cancelled_in, cancelled_sending}
 use Rattle.tds_client.specs.Session as session
 use Rattle.tds_client.specs.Session.{ClientSession, with_stage}
 use Rattle.tds_wire.specs.declared.told.Token.{Token}
 use Rattle.tds_service.specs.Line as line
-use Rattle.tds_service.specs.Line.{Answer, Line, Stage, Idle, Sending, Reading, Cancelling, Broken, not_begun, turn}
+use Rattle.tds_service.specs.Line.{Answer, Line, LineStage, Idle, Sending, Reading, Cancelling, Broken, not_begun, line_turn}
 use Rattle.tds_service.specs.Ties.{begun_of, cancel_answer}
 use Rattle.tds_c.specs.declared.service.plain.TdsSeat.{TdsSeat}
 use Rattle.tds_c.specs.service.Clients.{cancel_bytes, cancel_bytes_at, cancelled_seat, session_of, stage_with}
@@ -64,7 +64,7 @@ unsent s kind packets true e begun = rw e refl
 unsent s kind packets false e begun = absurd (let u : ⊥ = cc in u)
 
 sent : (s : ClientSession) (kind : Kind) (packets : ℕ) (b : Bool) → (packets == 0) ≡ b → true ≡ not_begun b
-    → (let r : Done = Ok (cancelled_sending s kind packets) in r) ≡ done cancels.Asked (with_stage s session.Cancelling) (ignore kind packets ++ attention)
+    → (let r : Done = Ok (cancelled_sending s kind packets) in r) ≡ done cancels.Asked (with_stage s session.Cancelling) (ignore kind packets ++ stop_bytes)
 unfolding cancelled_sending
 sent s kind packets true e begun = absurd (let u : ⊥ = cc in u)
 sent s kind packets false e begun = rw e refl
@@ -76,7 +76,7 @@ never l fault cancels.Unsent e = let u : ⊥ = cc in u
 never l fault cancels.Asked e = let u : ⊥ = cc in u
 
 -- where it answers so, the client is there, and these bytes go out
-by_stage : (t : ClientSession) (kind : Kind) (packets : ℕ) (left : List ℕ) (l : Line) (st : Stage) (how : Cancelled)
+by_stage : (t : ClientSession) (kind : Kind) (packets : ℕ) (left : List ℕ) (l : Line) (st : LineStage) (how : Cancelled)
     → ((b : Bool) → st ≡ Sending b → b ≡ begun_of packets) → (line.cancels {T = Token} l st).answer ≡ cancel_answer l.asked how
     → cancelled_in (with_stage t (stage_with l.stage kind packets left)) (stage_with st kind packets left)
     ≡ done how (with_stage t (stage_with (line.cancels {T = Token} l st).line.stage kind packets left)) (cancel_bytes_at (seen st) kind packets)
@@ -87,23 +87,23 @@ by_stage t kind packets left l (Sending false) how begun e =
     ∙ ap (λ (h : Cancelled). done h (with_stage t session.Idle) []) (same_how l.asked cancels.Unsent how e)
 by_stage t kind packets left l (Sending true) how begun e =
     sent (with_stage t (stage_with l.stage kind packets left)) kind packets (packets == 0) refl (begun true refl)
-    ∙ ap (λ (h : Cancelled). done h (with_stage t session.Cancelling) (ignore kind packets ++ attention)) (same_how l.asked cancels.Asked how e)
+    ∙ ap (λ (h : Cancelled). done h (with_stage t session.Cancelling) (ignore kind packets ++ stop_bytes)) (same_how l.asked cancels.Asked how e)
 by_stage t kind packets left l Reading how begun e =
-    ap (λ (h : Cancelled). done h (with_stage t session.Cancelling) attention) (same_how l.asked cancels.Asked how e)
+    ap (λ (h : Cancelled). done h (with_stage t session.Cancelling) stop_bytes) (same_how l.asked cancels.Asked how e)
 by_stage t kind packets left l Cancelling how begun e =
     ap (λ (h : Cancelled). done h (with_stage t (stage_with l.stage kind packets left)) []) (same_how l.asked cancels.Already how e)
 by_stage t kind packets left l (Broken fault) how begun e = absurd (never l fault how e)
 
-pub cancels_so : (c y : TdsSeat) (how : Cancelled) (bytes left : List ℕ) → y ≡ cancelled_seat c → line_of y ≡ (turn {T = Token} (line_of c) line.Cancel).line
-    → (turn {T = Token} (line_of c) line.Cancel).answer ≡ cancel_answer c.asked how → bytes ≡ cancel_bytes c
+pub cancels_so : (c y : TdsSeat) (how : Cancelled) (bytes left : List ℕ) → y ≡ cancelled_seat c → line_of y ≡ (line_turn {T = Token} (line_of c) line.Cancel).line
+    → (line_turn {T = Token} (line_of c) line.Cancel).answer ≡ cancel_answer c.asked how → bytes ≡ cancel_bytes c
     → cancelled (session_of c left) ≡ Ok (record { answer = how; session = session_of y left; bytes = bytes })
 cancels_so c y how bytes left is moved answers bytes_are =
     let kind = kind_at c.client.kind in
     let out = c.client.packets in
     let s = session_of c left in
-    let stage_is : (line_of (cancelled_seat c)).stage ≡ (turn {T = Token} (line_of c) line.Cancel).line.stage =
+    let stage_is : (line_of (cancelled_seat c)).stage ≡ (line_turn {T = Token} (line_of c) line.Cancel).line.stage =
     ap (λ (z : TdsSeat). (line_of z).stage) (sym is) ∙ ap (λ (l : Line). l.stage) moved in
     by_stage s kind out left (line_of c) (stage_of c.client) how (begun_at c.client.stage out c.client.fault) answers
-    ∙ ap (λ (stage : Stage). done how (with_stage s (stage_with stage kind out left)) (cancel_bytes c)) (sym stage_is)
+    ∙ ap (λ (stage : LineStage). done how (with_stage s (stage_with stage kind out left)) (cancel_bytes c)) (sym stage_is)
     ∙ ap (λ (z : TdsSeat). done how (session_of z left) (cancel_bytes c)) (sym is)
     ∙ ap (λ (b : List ℕ). done how (session_of y left) b) (sym bytes_are)

@@ -17,7 +17,7 @@ use Rattle.tds_client.specs.Sending.{Effect, room}
 use Rattle.tds_client.specs.Session as session
 use Rattle.tds_client.specs.Session.{ClientSession, with_stage}
 use Rattle.tds_client.specs.Streams.{finished, finished_in, full_packets, opened, packets_are, packets_of, put, put_in, put_of}
-use Rattle.tds_service.specs.Line.{Stage, Sending, Reading}
+use Rattle.tds_service.specs.Line.{LineStage, Sending, Reading}
 use Rattle.tds_c.specs.declared.service.plain.TdsSeat.{TdsSeat}
 use Rattle.tds_c.specs.service.Asking.{headers_by, packet_of, with_front}
 use Rattle.tds_c.specs.service.Clients.{asked_seat, sent_seat, session_of, stage_with}
@@ -83,7 +83,7 @@ abbrev pub Sends : TdsSeat → Type 0
 Sends c = (b : Bool) × ((line_of c).stage ≡ Sending b)
 
 stage_there : (c : TdsSeat) (left : List ℕ) → Sends c → (session_of c left).stage ≡ session.Sending (kind_at c.client.kind) left c.client.packets
-stage_there c left at = ap (λ (s : Stage). stage_with s (kind_at c.client.kind) c.client.packets left) at.1
+stage_there c left at = ap (λ (s : LineStage). stage_with s (kind_at c.client.kind) c.client.packets left) at.1
 
 puts_so : (c : TdsSeat) (left more : List ℕ) → Sends c → put (session_of c left) more ≡ (let r : Done = Ok (put_of (session_of c left) (kind_at c.client.kind) (left ++ more) c.client.packets) in r)
 puts_so c left more at = ap (λ (s : session.Stage). put_in (session_of c left) more s) (stage_there c left at)
@@ -139,4 +139,4 @@ ends_so c kept at behind range fits =
     ∙ ap (λ (n : ℕ). done reads (packets_of (room s) kind s.heard.mark out n kept ++ last_bytes s kind (out + n) (drop (n * room s) kept))) (full_none (c.client.size - 8) (length kept) (some_room c range) (omega (arith, fits)))
     ∙ ap (λ (n : ℕ). done reads (last_bytes s kind (out + 0) (drop n kept))) (zero-mul (room s))
     ∙ ap (λ (n : ℕ). done reads (last_bytes s kind n kept)) (let e : out + 0 ≡ out = omega arith in e)
-    ∙ ap (λ (stage : Stage). done (with_stage s (stage_with stage kind out [])) (packet_of c true kept)) (sym behind)
+    ∙ ap (λ (stage : LineStage). done (with_stage s (stage_with stage kind out [])) (packet_of c true kept)) (sym behind)

@@ -16,9 +16,9 @@ use Rattle.tds_wire.specs.declared.told.Token.{Token}
 use Rattle.tds_wire.specs.declared.lent.LentWalk.{LentWalk}
 use Rattle.tds_wire.specs.declared.memory.Memory.{Memory}
 use Rattle.tds_wire.specs.Lent.{reading_of}
-use Rattle.tds_wire.specs.Reading.{Found, Inside, Reading, Refuses, Sees, is_between}
+use Rattle.tds_wire.specs.Reading.{Found, Inside, Parser, Refuses, Sees, is_between}
 use Rattle.tds_service.specs.Line as line
-use Rattle.tds_service.specs.Line.{Answer, Line, Stage, Told, comes, heard_at, reads, skips, skips_to_end}
+use Rattle.tds_service.specs.Line.{Answer, Line, LineStage, Told, comes, heard_at, reads, skips, skips_to_end}
 use Rattle.tds_service.specs.Parts.{Part}
 use Rattle.tds_service.specs.Service.{Place as Held, Seat, Leased, Cleaning, Kept, Free, Draining, drained, find_by, has_number, is_idle, lease_in}
 use Rattle.tds_service.specs.Table.{Comes, ReadsAt}
@@ -69,7 +69,7 @@ asked_skipped l b u (Err fault) = refl
 asked_skipped l false u (Ok heard) = refl
 asked_skipped l true u (Ok heard) = asked_ended l heard heard.done
 
-asked_same : (l : Line) (part : Part Token) (s : Stage) → (comes l part s).line.asked ≡ l.asked
+asked_same : (l : Line) (part : Part Token) (s : LineStage) → (comes l part s).line.asked ≡ l.asked
 asked_same l part line.Idle = refl
 asked_same l part (line.Sending begun) = refl
 asked_same l part line.Reading = asked_read l part _ _ _
@@ -80,7 +80,7 @@ none_drains : (b : Bool) → lease_in (if b then Free else Draining) ≡ None
 none_drains true = refl
 none_drains false = refl
 
-lease_same : (place : Held) (stage : Stage) → lease_in (drained place stage) ≡ lease_in place
+lease_same : (place : Held) (stage : LineStage) → lease_in (drained place stage) ≡ lease_in place
 lease_same (Leased lease) stage = refl
 lease_same (Cleaning lease) stage = refl
 lease_same (Kept ticket) stage = refl
@@ -157,7 +157,7 @@ module _ (s : Spot) (is : IsSpot s) where
       (subst (λ (n : ℕ). Comes (table_with s c) (table_with s z) s.number part (lease_in (place_of c)) n answer [] tokens) kept.asked_is
       (comes_on part c z answer tokens named on))
 
-  pub moves_by : (b c z : TdsSeat) (r next : Reading) (bytes left : List ℕ) (told : List Token) (f : Found) → c.number ≡ s.number → KeptOn b c → MovesOn f c z next left told
+  pub moves_by : (b c z : TdsSeat) (r next : Parser) (bytes left : List ℕ) (told : List Token) (f : Found) → c.number ≡ s.number → KeptOn b c → MovesOn f c z next left told
       → PassesBy (owner_on s b) (record { table = table_with s c; reading = r; rest = bytes }) f (record { told = told; to = record { table = table_with s z; reading = next; rest = left } })
   moves_by b c z r next bytes left told (Sees token x rest) named kept m = (m.0, m.1, comes_owned (part_of (Sees token x rest)) b c z line.More told named kept m.2)
   moves_by b c z r next bytes left told (Inside x) named kept m = (m.3, rw (m.0, m.1, m.2) refl)
@@ -247,7 +247,7 @@ goes_skipped : (l : Line) (u : Heard) (r : Result Heard ListenFault) → Goes (s
 goes_skipped l u (Ok heard) = tt
 goes_skipped l u (Err fault) = tt
 
-goes : (l : Line) (sign : Sign) (token : Token) (s : Stage) → Goes (comes l (one_part sign token) s).answer
+goes : (l : Line) (sign : Sign) (token : Token) (s : LineStage) → Goes (comes l (one_part sign token) s).answer
 goes l sign token line.Idle = tt
 goes l sign token (line.Sending begun) = tt
 goes l sign token line.Reading = goes_read l (one_part sign token) _ _
@@ -272,7 +272,7 @@ untold l false u (Ok heard) = refl
 untold l true u (Ok heard) = untold_end l heard heard.done
 
 -- a token that is told is an answer's that is read
-told_reading : (l : Line) (part : Part Token) (s : Stage) (token : Token) → tokens_in (comes l part s).told ≡ token ∷ [] → is_reading s ≡ true
+told_reading : (l : Line) (part : Part Token) (s : LineStage) (token : Token) → tokens_in (comes l part s).told ≡ token ∷ [] → is_reading s ≡ true
 told_reading l part line.Idle token e = absurd (none_told_of line.Nobody refl token e)
 told_reading l part (line.Sending begun) token e = absurd (none_told_of line.Nobody refl token e)
 told_reading l part line.Reading token e = refl
@@ -284,13 +284,13 @@ may_be_told part l new answer token hears = told_reading l part l.stage token he
 
 -- ---- The end of a message
 
-pub end_is : (r : Reading) (b : Bool) → b ≡ is_between r → end_part (not b) ≡ end_at r
+pub end_is : (r : Parser) (b : Bool) → b ≡ is_between r → end_part (not b) ≡ end_at r
 end_is r true is = rw (sym is) refl
 end_is r false is = rw (sym is) refl
 
 -- ---- What stays, whatever is found
 
-pub kept_moved : (f : Found) (c z : TdsSeat) (next : Reading) (left : List ℕ) (told : List Token) → MovesOn f c z next left told → KeptOn c z
+pub kept_moved : (f : Found) (c z : TdsSeat) (next : Parser) (left : List ℕ) (told : List Token) → MovesOn f c z next left told → KeptOn c z
 kept_moved (Sees token x rest) c z next left told m = kept_on (part_of (Sees token x rest)) c z line.More told m.2
 kept_moved (Inside x) c z next left told m = subst (λ (y : TdsSeat). KeptOn c y) (sym m.2) (kept_none c)
 kept_moved (Refuses refusal) c z next left told m = absurd m
@@ -302,7 +302,7 @@ kept_broken (Refuses refusal) c z fault m = kept_on (part_of (Refuses refusal)) 
 
 -- ---- Where it is found
 
-pub reading_is : (s : Stage) → is_reading s ≡ true → s ≡ line.Reading
+pub reading_is : (s : LineStage) → is_reading s ≡ true → s ≡ line.Reading
 reading_is line.Idle e = absurd (let u : ⊥ = cc in u)
 reading_is (line.Sending begun) e = absurd (let u : ⊥ = cc in u)
 reading_is line.Reading e = refl

@@ -20,7 +20,7 @@ use Rattle.tds_client.specs.Faults.{fault_number}
 use Rattle.tds_client.specs.Machine.{signed, with_heard}
 use Rattle.tds_client.specs.Parts.{session_from}
 use Rattle.tds_client.specs.Session.{ClientSession}
-use Rattle.tds_client.specs.Hearing.{◌>>=◌, acknowledges_by, change_fault, change_placed, changed, hear_sign, place_change, place_done, with_done, done_behind}
+use Rattle.tds_client.specs.Hearing.{◌>>=◌, acknowledges_by, change_fault, change_placed, descriptor_changed, hear_sign, place_change, place_done, with_done, done_behind}
 use Rattle.tds_listen.specs.declared.fault.ListenFault.TheVariants as listens
 use Rattle.tds_service.specs.Line as line
 use Rattle.tds_service.specs.Line.{Line, heard_at}
@@ -43,7 +43,7 @@ change_known (changes.Commit d) = refl
 change_known (changes.Rollback d) = refl
 change_known changes.ResetDone = refl
 
-changed_known : (heard : Heard) (change : EnvChange) (o : Option ℕ) (fault : ClientFault) → changed heard change o ≡ Err fault → Known fault
+changed_known : (heard : Heard) (change : EnvChange) (o : Option ℕ) (fault : ClientFault) → descriptor_changed heard change o ≡ Err fault → Known fault
 changed_known heard change None fault e = subst Known (wrong_same (change_fault change) fault e) (change_known change)
 changed_known heard change (Some d) fault e = absurd (let u : ⊥ = cc in u)
 
@@ -75,7 +75,7 @@ module _ (l : Line) (part : Part Token) where
   broken_again fault st =
       let again : Hears part l (heard_at l (line.Broken fault) l.heard) (line.Fault (listens.Client fault)) [] =
       record { line_is = rw st refl; answer_is = rw st refl; told_is = rw st refl; owner = rw st tt; quiet = rw st refl } in
-      subst (λ (s : line.Stage). Hears part l (heard_at l s l.heard) (line.Fault (listens.Client fault)) []) (sym st) again
+      subst (λ (s : line.LineStage). Hears part l (heard_at l s l.heard) (line.Fault (listens.Client fault)) []) (sym st) again
 
 -- ---- A token
 

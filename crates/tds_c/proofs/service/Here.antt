@@ -9,7 +9,7 @@ use Rattle.tds_wire.specs.declared.lent.LentWalk.{LentWalk}
 use Rattle.tds_wire.specs.declared.memory.Memory.{Memory}
 use Rattle.tds_wire.specs.declared.told.Token.{Token}
 use Rattle.tds_wire.specs.Lent.{reading_of}
-use Rattle.tds_wire.specs.Reading.{Found, Reading, Sees, next_token, restarted}
+use Rattle.tds_wire.specs.Reading.{Found, Parser, Sees, next_token, restarted}
 use Rattle.tds_listen.specs.Signs.{sign_of}
 use Rattle.tds_walk.specs.declared.token.TdsWireToken.{TdsWireToken}
 use Rattle.tds_walk.specs.declared.walk.TdsWire.{TdsWire}
@@ -63,7 +63,7 @@ module _ (first at : Start) (room : Room TdsWireToken) (come : HasCome first at 
   pub stops_through : at.rest ≡ [] → (ends : Bool) → ends ≡ false → StopsHere first at ends room halts.Through
   stops_through none ends on = record { kept = come.kept; stops = λ s is named. (reached s at, come.passed s is named, refl, (none, on, refl)) }
 
-  pub stops_broken : (z : TdsSeat) (next : Reading) (fault : ListenFault) → BreaksOn (next_token at.reading at.rest) at.seat z fault → SaysFault fault next → (ends : Bool)
+  pub stops_broken : (z : TdsSeat) (next : Parser) (fault : ListenFault) → BreaksOn (next_token at.reading at.rest) at.seat z fault → SaysFault fault next → (ends : Bool)
       → StopsHere first (record { seat = z; reading = next; rest = at.rest }) ends room (halts.Broken fault)
   stops_broken z next fault broken says ends = record {
     kept = kept_again first.seat at.seat z come.kept (kept_broken (next_token at.reading at.rest) at.seat z fault broken);
@@ -75,7 +75,7 @@ module _ (first at : Start) (room : Room TdsWireToken) (come : HasCome first at 
     );
   }
 
-  pub stops_ended : (z : TdsSeat) (next : Reading) (taken : Taken) → at.rest ≡ [] → HeardOn (end_at at.reading) at.seat z (taken_answer at.seat.asked taken) []
+  pub stops_ended : (z : TdsSeat) (next : Parser) (taken : Taken) → at.rest ≡ [] → HeardOn (end_at at.reading) at.seat z (taken_answer at.seat.asked taken) []
       → next ≡ restarted at.reading → (ends : Bool) → ends ≡ true → StopsHere first (record { seat = z; reading = next; rest = at.rest }) ends room (halts.Ended taken)
   stops_ended z next taken none on anew ends last = record {
     kept = kept_again first.seat at.seat z come.kept (kept_on _ at.seat z _ [] on);
@@ -89,7 +89,7 @@ module _ (first at : Start) (room : Room TdsWireToken) (come : HasCome first at 
         );
   }
 
-  pub stops_broken_at_end : (z : TdsSeat) (next : Reading) (fault : ListenFault) → at.rest ≡ [] → HeardOn (end_at at.reading) at.seat z (line.Fault fault) []
+  pub stops_broken_at_end : (z : TdsSeat) (next : Parser) (fault : ListenFault) → at.rest ≡ [] → HeardOn (end_at at.reading) at.seat z (line.Fault fault) []
       → next ≡ restarted at.reading → (ends : Bool) → ends ≡ true → StopsHere first (record { seat = z; reading = next; rest = at.rest }) ends room (halts.BrokenAtEnd fault)
   stops_broken_at_end z next fault none on anew ends last = record {
     kept = kept_again first.seat at.seat z come.kept (kept_on _ at.seat z _ [] on);
@@ -113,22 +113,22 @@ broken_any first at room fault ends last is = record { kept = is.kept; stops = i
 pub read_in : (w : TdsWire) (m : Memory) (a : LentWalk) → walk_from w ≡ Some a → reading_from w m ≡ Some (reading_of a m)
 read_in w m a e = rw e refl
 
-same_in : (a b : Reading) → (let r : Option Reading = Some a in r) ≡ Some b → a ≡ b
+same_in : (a b : Parser) → (let r : Option Parser = Some a in r) ≡ Some b → a ≡ b
 same_in a b e = cc
 
-pub read_one : (w : TdsWire) (m : Memory) (a b : Reading) → reading_from w m ≡ Some a → reading_from w m ≡ Some b → a ≡ b
+pub read_one : (w : TdsWire) (m : Memory) (a b : Parser) → reading_from w m ≡ Some a → reading_from w m ≡ Some b → a ≡ b
 read_one w m a b e f = same_in a b (sym e ∙ f)
 
 pub read_none : (w : TdsWire) (m : Memory) → walk_from w ≡ None → reading_from w m ≡ None
 read_none w m e = rw e refl
 
-pub read_some : (o : Option Reading) (r : Reading) → o ≡ None → o ≡ Some r → ⊥
+pub read_some : (o : Option Parser) (r : Parser) → o ≡ None → o ≡ Some r → ⊥
 read_some o r e f = absurd (let u : ⊥ = cc in u)
 
 -- ---- A whole call
 
-pub hears_any : (o : Option Reading) (h : Hearing) (n : ℕ) → (o ≡ None → IsNothing h n)
-    → ((r : Reading) → o ≡ Some r → HearsHere (record { seat = h.before.seat; reading = r; rest = h.bytes }) h n) → HearsBy o h n
+pub hears_any : (o : Option Parser) (h : Hearing) (n : ℕ) → (o ≡ None → IsNothing h n)
+    → ((r : Parser) → o ≡ Some r → HearsHere (record { seat = h.before.seat; reading = r; rest = h.bytes }) h n) → HearsBy o h n
 hears_any None h n none some = none refl
 hears_any (Some x) h n none some = some x refl
 
@@ -146,18 +146,18 @@ ready_never w m ready none = let x = in_some (reading_from w m) (is_walk w m rea
 -- ---- Tokens that stand whole
 
 -- what a token says was heard, and it is the next one
-pub moved_by_token : (c z : TdsSeat) (r next : Reading) (bytes : List ℕ) (n : ℕ) (token : Token) (told : Option Token)
+pub moved_by_token : (c z : TdsSeat) (r next : Parser) (bytes : List ℕ) (n : ℕ) (token : Token) (told : Option Token)
     → next_token r bytes ≡ Sees token next (drop n bytes) → HeardOn (one_part (sign_of token) token) c z line.More (listed told)
     → MovesOn (next_token r bytes) c z next (drop n bytes) (listed told)
 moved_by_token c z r next bytes n token told is on = subst (λ (f : Found). MovesOn f c z next (drop n bytes) (listed told)) (sym is) (refl, refl, on)
 
-pub broken_by_token : (c z : TdsSeat) (r next : Reading) (bytes : List ℕ) (n : ℕ) (token : Token) (fault : ListenFault)
+pub broken_by_token : (c z : TdsSeat) (r next : Parser) (bytes : List ℕ) (n : ℕ) (token : Token) (fault : ListenFault)
     → next_token r bytes ≡ Sees token next (drop n bytes) → HeardOn (one_part (sign_of token) token) c z (line.Fault fault) []
     → BreaksOn (next_token r bytes) c z fault
 broken_by_token c z r next bytes n token fault is on = subst (λ (f : Found). BreaksOn f c z fault) (sym is) on
 
 -- whose it is was written behind some tokens
-pub here_walked : (first : Start) (h : Hearing) (n : ℕ) (next : Reading) (halt : Halt) → n ≡ halt_number halt → KeptOn first.seat h.before.seat
+pub here_walked : (first : Start) (h : Hearing) (n : ℕ) (next : Parser) (halt : Halt) → n ≡ halt_number halt → KeptOn first.seat h.before.seat
     → reading_from h.after.walk h.after.memory ≡ Some next → h.after.whose.lease ≡ lease_number (lease_in (place_of h.before.seat))
     → h.after.whose.request ≡ h.before.seat.asked → h.taken ≤ length h.bytes
     → StopsHere first (record { seat = h.after.seat; reading = next; rest = drop h.taken h.bytes }) (truth h.ends) h.room halt → HearsHere first h n
@@ -177,7 +177,7 @@ whose_is : (w : TdsWhose) (l r : ℕ) → w.lease ≡ l → w.request ≡ r → 
 whose_is w l r e f = rw (sym e, sym f) refl
 
 module _ (service : TdsService) (seats : List TdsSeat) (i number : ℕ) (d : TdsSeat) (fits : service.count ≤ length seats) (met : FirstMet (has_number number) (take service.count seats) i) where
-  pub hears_there : (r : Reading) (h : Hearing) (n : ℕ) → h.before.seat ≡ get_or seats i d → reading_from h.before.walk h.before.memory ≡ Some r
+  pub hears_there : (r : Parser) (h : Hearing) (n : ℕ) → h.before.seat ≡ get_or seats i d → reading_from h.before.walk h.before.memory ≡ Some r
       → HearsHere (record { seat = h.before.seat; reading = r; rest = h.bytes }) h n
       → (o : Result Halt Without) × (n ≡ packet_number o) × HearsPacket number (record {
         before = record { held = record { service = service; seats = seats }; walk = h.before.walk; memory = h.before.memory; whose = h.before.whose };
@@ -233,7 +233,7 @@ module _ (service : TdsService) (seats : List TdsSeat) (i number : ℕ) (d : Tds
   nothing_there h n at began nothing =
       (Err without.NoWalk, nothing.0, ((rw (nothing.1, at, set-get_or seats i d) refl, nothing.2, nothing.3, nothing.4), began))
 
-  pub hears_in : (o : Option Reading) (h : Hearing) (n : ℕ) → h.before.seat ≡ get_or seats i d → reading_from h.before.walk h.before.memory ≡ o → HearsBy o h n
+  pub hears_in : (o : Option Parser) (h : Hearing) (n : ℕ) → h.before.seat ≡ get_or seats i d → reading_from h.before.walk h.before.memory ≡ o → HearsBy o h n
       → (result : Result Halt Without) × (n ≡ packet_number result) × HearsPacket number (record {
         before = record { held = record { service = service; seats = seats }; walk = h.before.walk; memory = h.before.memory; whose = h.before.whose };
         after = record { held = record { service = service; seats = set seats i h.after.seat }; walk = h.after.walk; memory = h.after.memory; whose = h.after.whose };

@@ -9,7 +9,7 @@ use Rattle.tds_client.specs.declared.heard.Heard.{Heard}
 use Rattle.tds_client.specs.Hearing.{hear_sign, with_done}
 use Rattle.tds_wire.specs.declared.told.Token.{Token}
 use Rattle.tds_service.specs.Line as line
-use Rattle.tds_service.specs.Line.{Line, Stage, heard_at}
+use Rattle.tds_service.specs.Line.{Line, LineStage, heard_at}
 use Rattle.tds_service.specs.Service.{Place as Held, Leased, Cleaning, Kept, Free, Draining, drained}
 use Rattle.tds_service.specs.Parts.{told_by}
 use Rattle.tds_service.specs.Ties.{Hears as LineHears}
@@ -30,7 +30,7 @@ drained_reading Draining = refl
 
 nothing_heard : (l : Line) (token : Token) → l.stage ≡ line.Reading → LineHears (one_part signs.Nothing token) l l line.More (token ∷ [])
 nothing_heard l token st =
-    subst (λ (s : Stage). LineHears (one_part signs.Nothing token) l (heard_at l s l.heard) line.More (token ∷ [])) (sym st)
+    subst (λ (s : LineStage). LineHears (one_part signs.Nothing token) l (heard_at l s l.heard) line.More (token ∷ [])) (sym st)
     (reads_ok l signs.Nothing token l.heard st refl)
 
 pub passed_on : (c : TdsSeat) (sign : Sign) (token : Token) → (sign ≡ signs.Nothing) × (is_reading (line_of c).stage ≡ true) → HeardOn (one_part sign token) c c line.More (token ∷ [])
@@ -50,7 +50,7 @@ module _ (c z : TdsSeat) (placed : place_of z ≡ place_of c) (numbered : z.numb
       → line_of z ≡ heard_at (line_of c) (stage_of c.client) next → told_if told token ≡ told_by sign token []
       → HeardOn (one_part sign token) c z line.More (told_if told token)
   held_on sign token next told st e is told_is =
-      let there : line_of z ≡ heard_at (line_of c) line.Reading next = is ∙ ap (λ (s : Stage). heard_at (line_of c) s next) st in
+      let there : line_of z ≡ heard_at (line_of c) line.Reading next = is ∙ ap (λ (s : LineStage). heard_at (line_of c) s next) st in
       record {
         hears = subst (λ (ts : List Token). LineHears (one_part sign token) (line_of c) (line_of z) line.More ts) (sym told_is)
             (subst (λ (l : Line). LineHears (one_part sign token) (line_of c) l line.More (told_by sign token [])) (sym there) (reads_ok (line_of c) sign token next st e));
@@ -59,7 +59,7 @@ module _ (c z : TdsSeat) (placed : place_of z ≡ place_of c) (numbered : z.numb
         apart_is = alone;
       }
 
-  not_drained : (p : Held) (s : Stage) → (p ≡ Draining → ⊥) → p ≡ drained p s
+  not_drained : (p : Held) (s : LineStage) → (p ≡ Draining → ⊥) → p ≡ drained p s
   not_drained (Leased lease) s never = refl
   not_drained (Cleaning lease) s never = refl
   not_drained (Kept ticket) s never = refl

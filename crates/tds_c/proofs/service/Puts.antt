@@ -5,7 +5,7 @@ use Rattle.std.proofs.lemmas.List.{length-append, length-drop, length-take-le}
 use Rattle.tds_packet.specs.Size.{IsPacketSize}
 use Rattle.tds_wire.specs.declared.told.Token.{Token}
 use Rattle.tds_service.specs.Line as line
-use Rattle.tds_service.specs.Line.{Line, turn}
+use Rattle.tds_service.specs.Line.{Line, line_turn}
 use Rattle.tds_c.specs.declared.service.plain.TdsSeat.{TdsSeat}
 use Rattle.tds_c.specs.declared.service.sending.Putting.TheVariants.{All, Packet}
 use Rattle.tds_c.specs.service.Asking.{packet_of, with_front}
@@ -37,15 +37,15 @@ all_wait c kept after out bytes waiting count at range within fits is none =
       client_does = puts_all c left bytes at range (omega (arith, long, fits)) ∙ ap (λ (x : List ℕ). done (session_of c x) []) (sym front);
     }
 
-sends_on : (c y : TdsSeat) → Sends c → line_of y ≡ (turn {T = Token} (line_of c) (line.Send false)).line → Sends y
+sends_on : (c y : TdsSeat) → Sends c → line_of y ≡ (line_turn {T = Token} (line_of c) (line.Send false)).line → Sends y
 sends_on c y at moved =
-    (true, ap (λ (l : Line). l.stage) moved ∙ ap (λ (s : line.Stage). (line.sends {T = Token} (line_of c) false s).line.stage) at.1)
+    (true, ap (λ (l : Line). l.stage) moved ∙ ap (λ (s : line.LineStage). (line.sends {T = Token} (line_of c) false s).line.stage) at.1)
 
 header_and : (n : ℕ) → 8 + n ≡ suc (suc (suc (suc (suc (suc (suc (suc n)))))))
 header_and n = omega arith
 
 pub one_goes : (c y : TdsSeat) (kept after out written bytes : List ℕ) (waiting end count : ℕ) → Sends c → IsPacketSize c.client.size → waiting ≤ length kept → waiting + end + 8 ≡ c.client.size → end < length bytes
-    → line_of y ≡ (turn {T = Token} (line_of c) (line.Send false)).line → place_of y ≡ place_of c → y.number ≡ c.number → y ≡ sent_seat false c
+    → line_of y ≡ (line_turn {T = Token} (line_of c) (line.Send false)).line → place_of y ≡ place_of c → y.number ≡ c.number → y ≡ sent_seat false c
     → after ≡ with_front (take 1 (drop end bytes)) kept → written ≡ with_front (packet_of c false (take waiting kept ++ take end bytes)) out → count ≡ c.client.size
     → PutsOn c y (record { before = kept; after = after; waiting = waiting; waits = 1 }) bytes (end + 1) (record { before = out; after = written; count = count }) Packet
 one_goes c y kept after out written bytes waiting end count at range within full over moved placed numbered is waits wrote counts =

@@ -11,11 +11,11 @@ use Rattle.tds_wire.specs.declared.told.Token.{Token}
 use Rattle.tds_service.specs.declared.place.Rest.{Rest}
 use Rattle.tds_service.specs.History.{line_after}
 use Rattle.tds_service.specs.Line as line
-use Rattle.tds_service.specs.Line.{Line, Act, Mark, Cancel, Come, Lose, Stage, turn}
+use Rattle.tds_service.specs.Line.{Line, Act, Mark, Cancel, Come, Lose, LineStage, line_turn}
 use Rattle.tds_service.specs.Parts.{Part}
 use Rattle.tds_service.specs.Refusing.{refusal_in}
 use Rattle.tds_service.specs.Service as calls
-use Rattle.tds_service.specs.Service.{Place, Leased, Cleaning, Kept, Seat, Service, Step, Reply, Lent, Ticket, Did, Back, NotNow, drained, has_number, has_ticket, is_free, is_idle, is_lendable, may_keep, clean_place, rests, does, nothing, opens, find_by}
+use Rattle.tds_service.specs.Service.{Place, Leased, Cleaning, Kept, Seat, Service, ServiceStep, Reply, Lent, Ticket, Did, Back, NotNow, drained, has_number, has_ticket, is_free, is_idle, is_lendable, may_keep, clean_place, rests, does, nothing, opens, find_by}
 use Rattle.tds_service.specs.Table.{StepsIn, rest_of}
 use Rattle.tds_service.specs.Ties.{Appends, AreBytes}
 use Rattle.tds_c.specs.declared.service.keeping.Chosen.{Chosen}
@@ -116,17 +116,17 @@ unreached : (b : Bool) (n : ℕ) → b ≡ false → 0 ≡ (if b then n else 0)
 unreached true n e = absurd (let u : ⊥ = cc in u)
 unreached false n e = refl
 
-if_done : {T : Type 0} (P : Step T → Type 0) (t u : Step T) (b : Bool) → b ≡ true → P t → P (if b then t else u)
+if_done : {T : Type 0} (P : ServiceStep T → Type 0) (t u : ServiceStep T) (b : Bool) → b ≡ true → P t → P (if b then t else u)
 if_done P t u true e h = h
 if_done P t u false e h = absurd (let v : ⊥ = cc in v)
 
-pub if_refused : {T : Type 0} (s : Service) (t : Step T) (b : Bool) → b ≡ false → (if b then t else nothing s NotNow) ≡ nothing s NotNow
+pub if_refused : {T : Type 0} (s : Service) (t : ServiceStep T) (b : Bool) → b ≡ false → (if b then t else nothing s NotNow) ≡ nothing s NotNow
 if_refused s t true e = absurd (let v : ⊥ = cc in v)
 if_refused s t false e = refl
 
 module _ (s new : Service) (c : Seat) (lease l n : ℕ) (had : Bool) where
   -- the lease is the next one
-  abbrev lent_by : (Seat → Bool) → Place → Reset → ℕ → Step Token
+  abbrev lent_by : (Seat → Bool) → Place → Reset → ℕ → ServiceStep Token
   lent_by test place reset g = does s g test c (Some place) (Mark reset ∷ []) (Lent g c.number true)
 
   pub leases : find_by is_lendable s.seats ≡ Some c → lease ≡ s.given + 1 → StepsIn (lent_by is_lendable (Leased lease) Full lease) new (Lent l n had) n [] []
@@ -144,7 +144,7 @@ module _ (s new : Service) (c : Seat) (lease l n : ℕ) (had : Bool) where
       let next : lease ≡ suc s.given = is ∙ (let e : s.given + 1 ≡ suc s.given = omega arith in e) in
       chosen_lent chosen found allows (subst (λ (g : ℕ). StepsIn (lent_by (chosen_test chosen) (chosen_place chosen g) (chosen_reset chosen) g) new (Lent l n had) n [] []) next did)
     where
-      steps_lent : Step Token → Type 0
+      steps_lent : ServiceStep Token → Type 0
       steps_lent t = StepsIn t new (Lent l n had) n [] []
 
       chosen_lent : (chosen : Chosen) → find_by (chosen_test chosen) s.seats ≡ Some c → chosen_allows chosen c ≡ true
@@ -200,11 +200,11 @@ keeps s test count ticket seats i here x y table same may is put =
     let new : Service = record { max = length (set seats i y); last = s.last; given = ticket; seats = seats_of (take count (set seats i y)) } in
     let was = put ∙ ap (λ (z : TdsSeat). let t : Seat = record { number = z.number; place = Kept ticket; line = line_of z } in t) same in
     let did = put_in s.last ticket count seats i y here.under ∙ does_alike u ticket test (Kept ticket) [] (Ticket ticket) (take count seats) i c y refl here.first here.at_used was in
-    let kept : Step Token = does u ticket test (seat_of c) (Some (Kept ticket)) [] (Ticket ticket) in
+    let kept : ServiceStep Token = does u ticket test (seat_of c) (Some (Kept ticket)) [] (Ticket ticket) in
     let steps : StepsIn kept new (Ticket ticket) c.number [] [] = record { service_is = did; reply_is = refl; number_is = refl; bytes = ([], refl, refl) } in
     let by = subst (λ (k : ℕ). StepsIn (does u k test (seat_of c) (Some (Kept k)) [] (Ticket k)) new (Ticket ticket) c.number [] []) next steps in
     let may_here = ap (λ (z : TdsSeat). may_keep (seat_of z)) (sym same) ∙ may in
-    let whole = if_done (λ (t : Step Token). StepsIn t new (Ticket ticket) c.number [] []) (does u (suc g) test (seat_of c) (Some (Kept (suc g))) [] (Ticket (suc g))) (nothing u NotNow) (may_keep (seat_of c)) may_here by in (
+    let whole = if_done (λ (t : ServiceStep Token). StepsIn t new (Ticket ticket) c.number [] []) (does u (suc g) test (seat_of c) (Some (Kept (suc g))) [] (Ticket (suc g))) (nothing u NotNow) (may_keep (seat_of c)) may_here by in (
       c.number,
       subst (λ (t : Service). StepsIn (calls.keeps_it {T = Token} t test (find_by test t.seats)) new (Ticket ticket) c.number [] []) (sym table)
           (subst (λ (x : Option Seat). StepsIn (calls.keeps_it {T = Token} u test x) new (Ticket ticket) c.number [] []) (sym here.found) whole),
@@ -245,7 +245,7 @@ closes last given count seats front i test all reply c le lt first len moved =
 
 -- ---- A loss
 
-lost_sent : (l : Line) (s : Stage) → (line.loses {T = Token} l s).sent ≡ []
+lost_sent : (l : Line) (s : LineStage) → (line.line_loses {T = Token} l s).sent ≡ []
 lost_sent l line.Idle = refl
 lost_sent l (line.Sending begun) = refl
 lost_sent l line.Reading = refl
@@ -274,24 +274,24 @@ loses s new number count seats i here table did =
 
 pub gives_back : (s new : Service) (test : Seat → Bool) (count : ℕ) (seats : List TdsSeat) (i : ℕ) (here : Here test count seats i) (x m : TdsSeat) (rest : Rest) (bytes written : List ℕ)
     → s.seats ≡ seats_of (take count seats) → x ≡ here.seat
-    → line_of m ≡ (turn {T = Token} (line_of x) Cancel).line → rest_of rest ≡ rests (stage_of m.client)
-    → AreBytes (turn {T = Token} (line_of x) Cancel).sent written → bytes ≡ written
+    → line_of m ≡ (line_turn {T = Token} (line_of x) Cancel).line → rest_of rest ≡ rests (stage_of m.client)
+    → AreBytes (line_turn {T = Token} (line_of x) Cancel).sent written → bytes ≡ written
     → new ≡ (does {T = Token} s s.given test (seat_of here.seat) (rest_of rest) (Cancel ∷ []) (Back (rest_of rest))).service
     → StepsIn (calls.gives_back {T = Token} s test (find_by test s.seats)) new (Back (rest_of rest)) x.number [] bytes
 gives_back s new test count seats i here x m rest bytes written table same moved rested sent is did =
     let c = here.seat in
     let l = line_of c in
     let found = ap (find_by test) table ∙ here.found in
-    let goes = ap (λ (z : TdsSeat). (turn {T = Token} (line_of z) Cancel).line) same in
+    let goes = ap (λ (z : TdsSeat). (line_turn {T = Token} (line_of z) Cancel).line) same in
     let place : rest_of rest ≡ rests (line_after {T = Token} l (Cancel ∷ [])).stage = rested ∙ ap (λ (k : Line). rests k.stage) (moved ∙ goes) in
-    let out = subst (λ (z : TdsSeat). AreBytes (turn {T = Token} (line_of z) Cancel).sent written) same sent in
+    let out = subst (λ (z : TdsSeat). AreBytes (line_turn {T = Token} (line_of z) Cancel).sent written) same sent in
     subst (λ (o : Option Seat). StepsIn (calls.gives_back {T = Token} s test o) new (Back (rest_of rest)) x.number [] bytes) (sym found)
     (subst (λ (p : Option Place). StepsIn (does {T = Token} s s.given test (seat_of c) p (Cancel ∷ []) (Back p)) new (Back (rest_of rest)) x.number [] bytes) place
     (record {
       service_is = did;
       reply_is = refl;
       number_is = ap (λ (z : TdsSeat). z.number) (sym same);
-      bytes = (written, is, subst (λ ps. AreBytes ps written) (sym (append-nil (turn {T = Token} l Cancel).sent)) out);
+      bytes = (written, is, subst (λ ps. AreBytes ps written) (sym (append-nil (line_turn {T = Token} l Cancel).sent)) out);
     }))
 
 pub abandons : (s new : Service) (test : Seat → Bool) (count : ℕ) (seats : List TdsSeat) (i : ℕ) (here : Here test count seats i) (x : TdsSeat) (rest : Rest)
@@ -343,7 +343,7 @@ becomes c y place all b =
     ∙ ap (λ (l : Line). let t : Seat = record { number = c.number; place = place; line = l } in t) b.line_is)
 
 pub acts_by_lease : (last given count : ℕ) (seats : List TdsSeat) (i : ℕ) (test : Seat → Bool) (c y : TdsSeat) (first : Act Token) (all : List (Act Token))
-    → count ≤ length seats → FirstMet test (take count seats) i → c ≡ get_or seats i c → refusal_in (turn (line_of c) first).answer ≡ None → Becomes c y (place_of c) all
+    → count ≤ length seats → FirstMet test (take count seats) i → c ≡ get_or seats i c → refusal_in (line_turn (line_of c) first).answer ≡ None → Becomes c y (place_of c) all
     → (let t : Service = record { max = length (set seats i y); last = last; given = given; seats = seats_of (take count (set seats i y)) } in t)
     ≡ (calls.acts (record { max = length seats; last = last; given = given; seats = seats_of (take count seats) }) test first all (find_by test (seats_of (take count seats)))).service
 acts_by_lease last given count seats i test c y first all le met at may b =

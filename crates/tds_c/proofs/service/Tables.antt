@@ -12,7 +12,7 @@ use Rattle.tds_packet.specs.declared.kind.Kind.{Kind}
 use Rattle.tds_packet.specs.declared.status.Reset.{Reset}
 use Rattle.tds_wire.specs.declared.told.Token.{Token}
 use Rattle.tds_service.specs.History.{line_after}
-use Rattle.tds_service.specs.Line.{Line, Act, Mark, Marked, Stage, Idle, Sending, Reading, Cancelling, Broken, Turn, cancels, marked, marks, new_line, quiet}
+use Rattle.tds_service.specs.Line.{Line, Act, Mark, Marked, LineStage, Idle, Sending, Reading, Cancelling, Broken, Turn, cancels, marked, marks, new_line, quiet}
 use Rattle.tds_service.specs.Service.{Place, Leased, Seat, Service, Reply, Lent, is_idle, does, find_by, change_by, opens}
 use Rattle.tds_service.specs.Table.{StepsIn}
 use Rattle.tds_service.specs.Ties.{Appends, AreBytes}
@@ -96,7 +96,7 @@ put_in last given count seats i y lt =
 -- ---- Lending
 
 -- What is idle takes a mark, and nothing goes out.
-marks_at : (l : Line) (reset : Reset) (s : Stage) → is_idle s ≡ true → marks {T = Token} l reset s ≡ quiet (marked l reset) Marked
+marks_at : (l : Line) (reset : Reset) (s : LineStage) → is_idle s ≡ true → marks {T = Token} l reset s ≡ quiet (marked l reset) Marked
 marks_at l reset Idle e = refl
 marks_at l reset (Sending begun) e = absurd (let u : ⊥ = cc in u)
 marks_at l reset Reading e = absurd (let u : ⊥ = cc in u)
@@ -188,7 +188,7 @@ opens_here last given count lease seats y lt is new =
 
 -- ---- Cancelling
 
-seen_sending : (s : Stage) → seen s ≡ stages.Sending → s ≡ Sending true
+seen_sending : (s : LineStage) → seen s ≡ stages.Sending → s ≡ Sending true
 seen_sending Idle e = absurd (let u : ⊥ = cc in u)
 seen_sending (Sending false) e = absurd (let u : ⊥ = cc in u)
 seen_sending (Sending true) e = refl
@@ -196,11 +196,11 @@ seen_sending Reading e = absurd (let u : ⊥ = cc in u)
 seen_sending Cancelling e = absurd (let u : ⊥ = cc in u)
 seen_sending (Broken fault) e = absurd (let u : ⊥ = cc in u)
 
-pub both_written : (l : Line) (s : Stage) (kind : Kind) (before : ℕ) (bytes : List ℕ) → seen s ≡ stages.Sending → bytes ≡ wire.ignore kind before ++ wire.attention
+pub both_written : (l : Line) (s : LineStage) (kind : Kind) (before : ℕ) (bytes : List ℕ) → seen s ≡ stages.Sending → bytes ≡ wire.ignore kind before ++ wire.stop_bytes
     → AreBytes (cancels {T = Token} l s).sent bytes
 both_written l s kind before bytes e is =
-    subst (λ (k : Stage). AreBytes (cancels {T = Token} l k).sent bytes) (sym (seen_sending s e))
-    (wire.ignore kind before, wire.attention, is, (kind, before, refl), (wire.attention, [], sym (append-nil wire.attention), refl, refl))
+    subst (λ (k : LineStage). AreBytes (cancels {T = Token} l k).sent bytes) (sym (seen_sending s e))
+    (wire.ignore kind before, wire.stop_bytes, is, (kind, before, refl), (wire.stop_bytes, [], sym (append-nil wire.stop_bytes), refl, refl))
 
 -- The array is full.
 pub no_room : (count : ℕ) (seats : List TdsSeat) → count ≤ length seats → length seats ≤ count → nat_lt (length (seats_of (take count seats))) (length seats) ≡ false

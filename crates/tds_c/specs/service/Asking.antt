@@ -19,7 +19,7 @@ use Rattle.tds_service.specs.declared.refusal.Refusal.TheVariants.{Memory}
 use Rattle.tds_service.specs.declared.service.asking.Asked as asks
 use Rattle.tds_service.specs.Line as line
 use Rattle.tds_service.specs.Service.{Call, Ask, Put, Finish, Cancel, Did, Seat, has_lease}
-use Rattle.tds_service.specs.Table.{Answers, Refuses}
+use Rattle.tds_service.specs.Table.{Answers, Denies}
 use Rattle.tds_service.specs.Ties.{cancel_answer}
 use Rattle.tds_c.specs.declared.service.answers.Stop.{Stop}
 use Rattle.tds_c.specs.declared.service.answers.Stop.TheVariants as stops
@@ -57,7 +57,7 @@ UsedUp test h number most = (c : TdsSeat) × Found test h c × (most ≤ number 
 
 -- The machine refuses it so; 22 is answered only where a number is used up.
 abbrev pub RefusedAs : Call Token → Held → (Held → Type 0) → Refusal → Type 0
-RefusedAs call h used_up refusal = Fits h × Refuses call (table_of h.service h.seats) refusal × (refusal ≡ Memory → used_up h)
+RefusedAs call h used_up refusal = Fits h × Denies call (table_of h.service h.seats) refusal × (refusal ≡ Memory → used_up h)
 
 -- ---- Asking
 

@@ -5,9 +5,9 @@ use Rattle.tds_service.specs.declared.place.Rest.{Rest}
 use Rattle.tds_service.specs.declared.service.lending.Lent as leases
 use Rattle.tds_service.specs.declared.refusal.Refusal.{Refusal}
 use Rattle.tds_service.specs.declared.refusal.Refusal.TheVariants as refusals
-use Rattle.tds_service.specs.Line.{Stage}
+use Rattle.tds_service.specs.Line.{LineStage}
 use Rattle.tds_service.specs.Service.{Call, GiveBack, Keep, Lost, Reply, Back, Lent, Ticket, Did, Place, Leased, Cleaning, Kept, Free, Draining, Seat, Service, drained, does, find_by, has_number}
-use Rattle.tds_service.specs.Table.{Refuses, Steps, rest_of}
+use Rattle.tds_service.specs.Table.{Denies, Steps, rest_of}
 use Rattle.tds_c.specs.declared.service.answers.Stop.{Stop}
 use Rattle.tds_c.specs.declared.service.answers.Stop.TheVariants as stops
 use Rattle.tds_c.specs.declared.service.plain.TdsLent.{TdsLent}
@@ -52,7 +52,7 @@ abbrev pub Stops : Call Token → Held → (room count : ℕ) → Stop → Type 
 Stops call h room count stops.NoTable = length h.seats < h.service.count
 Stops call h room count stops.NoRoom = Fits h × (room < count)
 Stops call h room count stops.OutOfRange = ⊥
-Stops call h room count (stops.Refused refusal) = Fits h × Refuses call (table_of h.service h.seats) refusal
+Stops call h room count (stops.Refused refusal) = Fits h × Denies call (table_of h.service h.seats) refusal
 
 -- 0, or why it wasn't done.
 abbrev pub done_number : {A : Type 0} → Result A Stop → ℕ
@@ -134,7 +134,7 @@ Loses number old new n = (answer : Result (Unit {0}) Stop) × (n ≡ done_number
 -- ---- What drains
 
 -- A connection that drains is free once it is idle, as the machine puts it behind what came.
-abbrev pub drained_rest : Place → Stage → Option (Option Place)
+abbrev pub drained_rest : Place → LineStage → Option (Option Place)
 drained_rest Draining stage = Some (Some (drained Draining stage))
 drained_rest _ stage = None
 

@@ -3,11 +3,11 @@ use Rattle.std.specs.Prelude.{◌≡◌, ℕ, ◌+◌, ◌==◌, Bool, true, fal
 use Rattle.tds_packet.specs.declared.kind.Kind.{Kind}
 use Rattle.tds_packet.specs.Layout.{kind_byte}
 use Rattle.tds_client.specs.declared.message.MessageKind.{MessageKind}
-use Rattle.tds_client.specs.Packets.{attention, ignore}
+use Rattle.tds_client.specs.Packets.{stop_bytes, ignore}
 use Rattle.tds_client.specs.Session as session
 use Rattle.tds_client.specs.Session.{ClientSession}
 use Rattle.tds_client.specs.Streams.{packets_are}
-use Rattle.tds_service.specs.Line.{Stage, Idle, Sending, Reading, Cancelling, Broken}
+use Rattle.tds_service.specs.Line.{LineStage, Idle, Sending, Reading, Cancelling, Broken}
 use Rattle.tds_c.specs.declared.service.plain.TdsClient.{TdsClient}
 use Rattle.tds_c.specs.declared.service.plain.TdsSeat.{TdsSeat}
 use Rattle.tds_c.specs.declared.service.seat.Stage as code
@@ -17,7 +17,7 @@ use Rattle.tds_c.specs.service.Table.{seen}
 
 -- ---- The client of `tds_client` that it is
 
-abbrev pub stage_with : Stage → Kind → (packets : ℕ) → (left : List ℕ) → session.Stage
+abbrev pub stage_with : LineStage → Kind → (packets : ℕ) → (left : List ℕ) → session.Stage
 stage_with Idle kind packets left = session.Idle
 stage_with (Sending begun) kind packets left = session.Sending kind left packets
 stage_with Reading kind packets left = session.Reading
@@ -63,8 +63,8 @@ cancelled_seat c = record c { client = record c.client { stage = stage_cancelled
 
 -- What goes out for that.
 abbrev pub cancel_bytes_at : code.Stage → Kind → (packets : ℕ) → List ℕ
-cancel_bytes_at stages.Sending kind packets = ignore kind packets ++ attention
-cancel_bytes_at stages.Reading kind packets = attention
+cancel_bytes_at stages.Sending kind packets = ignore kind packets ++ stop_bytes
+cancel_bytes_at stages.Reading kind packets = stop_bytes
 cancel_bytes_at _ kind packets = []
 
 abbrev pub cancel_bytes : TdsSeat → List ℕ

@@ -2,9 +2,9 @@
 use Rattle.std.specs.Prelude.{◌≡◌, ℕ, ◌≤◌, Bool, true, false, List, [], length, slice_set}
 use Rattle.tds_listen.specs.declared.fault.ListenFault.{ListenFault}
 use Rattle.tds_wire.specs.declared.told.Token.{Token}
-use Rattle.tds_wire.specs.Reading.{Found, Inside, Reading, Refuses, Sees}
+use Rattle.tds_wire.specs.Reading.{Found, Inside, Parser, Refuses, Sees}
 use Rattle.tds_service.specs.Line as line
-use Rattle.tds_service.specs.Line.{Answer, Stage}
+use Rattle.tds_service.specs.Line.{Answer, LineStage}
 use Rattle.tds_service.specs.Parts.{Part}
 use Rattle.tds_service.specs.Service.{Service, drained, has_number, lease_in}
 use Rattle.tds_service.specs.Ties.{Hears, part_of}
@@ -23,7 +23,7 @@ pub record HeardOn (part : Part Token) (c z : TdsSeat) (answer : Answer) (tokens
   pub apart_is : apart z.client ≡ apart c.client
 
 -- What the parser finds next is heard on it; bytes that end no token are not.
-abbrev pub MovesOn : Found → (c z : TdsSeat) → Reading → List ℕ → List Token → Type 0
+abbrev pub MovesOn : Found → (c z : TdsSeat) → Parser → List ℕ → List Token → Type 0
 MovesOn (Sees token r rest) c z reading left told = (reading ≡ r) × (left ≡ rest) × HeardOn (part_of (Sees token r rest)) c z line.More told
 MovesOn (Inside r) c z reading left told = (reading ≡ r) × (left ≡ []) × (z ≡ c) × (told ≡ [])
 MovesOn (Refuses refusal) c z reading left told = ⊥
@@ -41,7 +41,7 @@ pub record KeptOn (c z : TdsSeat) : Type 0 where
   pub lease_is : lease_in (place_of z) ≡ lease_in (place_of c)
   pub apart_is : apart z.client ≡ apart c.client
 
-abbrev pub is_reading : Stage → Bool
+abbrev pub is_reading : LineStage → Bool
 is_reading line.Reading = true
 is_reading _ = false
 

@@ -2,7 +2,7 @@
 use Rattle.std.specs.Prelude.{◌≡◌, ◌≤◌, ℕ, List, [], Bool, false, Option, Some, None, Result, Ok, Err, length, drop}
 use Rattle.tds_listen.specs.declared.fault.ListenFault.{ListenFault}
 use Rattle.tds_wire.specs.declared.memory.Memory.{Memory}
-use Rattle.tds_wire.specs.Reading.{Reading}
+use Rattle.tds_wire.specs.Reading.{Parser}
 use Rattle.tds_walk.specs.declared.token.TdsWireToken.{TdsWireToken}
 use Rattle.tds_walk.specs.declared.walk.TdsWire.{TdsWire}
 use Rattle.tds_walk.specs.Rooms.{Room}
@@ -23,7 +23,7 @@ use Rattle.tds_c.specs.service.Plain.{place_of}
 -- A seat and a parser, before bytes that are left.
 pub record Start : Type 0 where
   pub seat : TdsSeat
-  pub reading : Reading
+  pub reading : Parser
   pub rest : List ℕ
 
 abbrev pub reached : Spot → Start → Reached
@@ -74,13 +74,13 @@ IsNothing h n = (n ≡ 20) × (h.after ≡ h.before) × (h.taken ≡ 0) × (h.ro
 pub record HearsHere (first : Start) (h : Hearing) (n : ℕ) : Type 0 where
   pub halt : Halt
   pub is : n ≡ halt_number halt
-  pub next : Reading
+  pub next : Parser
   pub stands : reading_from h.after.walk h.after.memory ≡ Some next
   pub lease_is : h.after.whose.lease ≡ lease_number (lease_in (place_of first.seat))
   pub request_is : h.after.whose.request ≡ first.seat.asked
   pub within : h.taken ≤ length h.bytes
   pub stops : StopsHere first (record { seat = h.after.seat; reading = next; rest = drop h.taken h.bytes }) (truth h.ends) h.room halt
 
-abbrev pub HearsBy : Option Reading → Hearing → ℕ → Type 0
+abbrev pub HearsBy : Option Parser → Hearing → ℕ → Type 0
 HearsBy None h n = IsNothing h n
 HearsBy (Some r) h n = HearsHere (record { seat = h.before.seat; reading = r; rest = h.bytes }) h n

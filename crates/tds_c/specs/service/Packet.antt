@@ -9,9 +9,9 @@ use Rattle.tds_listen.specs.declared.fault.ListenFault.TheVariants as faults
 use Rattle.tds_wire.specs.declared.memory.Memory.{Memory}
 use Rattle.tds_wire.specs.declared.told.Token.{Token}
 use Rattle.tds_wire.specs.Faults as wire
-use Rattle.tds_wire.specs.Reading.{Found, Inside, Reading, Refuses, Sees, next_token, restarted}
+use Rattle.tds_wire.specs.Reading.{Found, Inside, Parser, Refuses, Sees, next_token, restarted}
 use Rattle.tds_service.specs.Line as line
-use Rattle.tds_service.specs.Line.{Answer, Stage, Idle, Sending, Reading as IsRead, Cancelling, Broken}
+use Rattle.tds_service.specs.Line.{Answer, LineStage, Idle, Sending, Reading as IsRead, Cancelling, Broken}
 use Rattle.tds_service.specs.Parts.{Part}
 use Rattle.tds_service.specs.Service.{Seat, Service, find_by, has_number, lease_in}
 use Rattle.tds_service.specs.Table.{Comes, ReadsAt}
@@ -72,7 +72,7 @@ pub record Owner : Type 0 where
 -- The machine and the parser, before bytes that are left.
 pub record Reached : Type 0 where
   pub table : Service
-  pub reading : Reading
+  pub reading : Parser
   pub rest : List ℕ
 
 -- What the parser finds next is heard: these tokens are told, and it goes on there.
@@ -115,13 +115,13 @@ pub record HasPassed (o : Owner) (first last : Reached) (room : Room TdsWireToke
 -- What the machine and the parser are then.
 pub record Now : Type 0 where
   pub table : Service
-  pub reading : Reading
+  pub reading : Parser
 
 abbrev pub now_at : Reached → Now
 now_at place = record { table = place.table; reading = place.reading }
 
 -- Behind bytes that were refused it says which one.
-abbrev pub SaysFault : ListenFault → Reading → Type 0
+abbrev pub SaysFault : ListenFault → Parser → Type 0
 SaysFault (faults.Client fault) r = Unit {0}
 SaysFault (faults.Wire refusal) r = r.refused ≡ Some refusal
 SaysFault faults.Cut r = Unit {0}
@@ -189,8 +189,8 @@ OwnsSeat o (Some c) = (o.lease ≡ lease_in c.place) × (o.request ≡ c.line.as
 
 -- The bytes that are taken lead to where it stops. The table and the walk are what they are there, and whose it was is written.
 pub record HearsPacketFrom (o : Owner) (h : PacketHearing) (halt : Halt) : Type 0 where
-  pub first : Reading
-  pub last : Reading
+  pub first : Parser
+  pub last : Parser
   pub began : reading_from h.before.walk h.before.memory ≡ Some first
   pub stands : reading_from h.after.walk h.after.memory ≡ Some last
   pub fits : Fits h.before.held

@@ -8,7 +8,7 @@ use Rattle.tds_client.specs.declared.fault.ClientFault.{ClientFault}
 use Rattle.tds_client.specs.declared.fault.ClientFault.TheVariants as faults
 use Rattle.tds_client.specs.declared.heard.FinalDone.{FinalDone}
 use Rattle.tds_client.specs.declared.heard.FinalDone.TheVariants as dones
-use Rattle.tds_service.specs.Line.{Line, Stage, Idle, Sending, Reading, Cancelling, Broken}
+use Rattle.tds_service.specs.Line.{Line, LineStage, Idle, Sending, Reading, Cancelling, Broken}
 use Rattle.tds_service.specs.Service.{Place, Leased, Cleaning, Kept, Free, Draining, Seat, Service}
 use Rattle.tds_service.specs.Ties.{begun_of}
 use Rattle.tds_c.specs.declared.service.plain.TdsClient.{TdsClient}
@@ -28,7 +28,7 @@ fault_of n =
     else if n == 7 then faults.BehindFinalDone
     else faults.Lost
 
-unfoldable pub stage_at : (stage packets fault : ℕ) → Stage
+unfoldable pub stage_at : (stage packets fault : ℕ) → LineStage
 stage_at stage packets fault =
     if stage == 0 then Idle
     else if stage == 1 then Sending (begun_of packets)
@@ -36,7 +36,7 @@ stage_at stage packets fault =
     else if stage == 3 then Cancelling
     else Broken (fault_of fault)
 
-abbrev pub stage_of : TdsClient → Stage
+abbrev pub stage_of : TdsClient → LineStage
 stage_of c = stage_at c.stage c.packets c.fault
 
 unfoldable pub mark_of : ℕ → Option Reset

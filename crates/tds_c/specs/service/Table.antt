@@ -2,7 +2,7 @@
 use Rattle.std.specs.Prelude.{◌≡◌, ◌<◌, ℕ, zero, suc, Bool, true, false, List, [], ◌∷◌, length, None}
 use Rattle.tds_service.specs.declared.refusal.Refusal.{Refusal}
 use Rattle.tds_service.specs.History.{history, line_after}
-use Rattle.tds_service.specs.Line.{Act, Stage, Idle, Sending, Reading, Cancelling, Broken, turn}
+use Rattle.tds_service.specs.Line.{Act, LineStage, Idle, Sending, Reading, Cancelling, Broken, line_turn}
 use Rattle.tds_service.specs.Refusing.{refusal_in}
 use Rattle.tds_service.specs.Ties.{AreBytes, sent_in}
 use Rattle.tds_wire.specs.declared.told.Token.{Token}
@@ -12,7 +12,7 @@ use Rattle.tds_c.specs.declared.service.seat.Stage as code
 use Rattle.tds_c.specs.declared.service.seat.Stage.TheVariants as stages
 use Rattle.tds_c.specs.declared.service.seat.Wanted.{Wanted}
 use Rattle.tds_c.specs.declared.service.seat.Wanted.TheVariants as wants
-use Rattle.tds_service.specs.Table.{RefusedBy, Refuses}
+use Rattle.tds_service.specs.Table.{RefusedBy, Denies}
 use Rattle.tds_c.specs.declared.service.answers.Stop.{Stop}
 use Rattle.tds_c.specs.declared.service.answers.Stop.TheVariants as stops
 use Rattle.tds_c.specs.declared.service.cancel.Written.{Written}
@@ -20,7 +20,7 @@ use Rattle.tds_c.specs.declared.service.cancel.Written.TheVariants as sends
 use Rattle.tds_c.specs.service.Plain.{line_of, place_of, seat_of}
 
 -- What is seen of a stage.
-abbrev pub seen : Stage → code.Stage
+abbrev pub seen : LineStage → code.Stage
 seen Idle = stages.Idle
 seen (Sending false) = stages.Unsent
 seen (Sending true) = stages.Sending
@@ -60,7 +60,7 @@ abbrev pub StopsAt : Call Token → Service → (room count : ℕ) → Stop → 
 StopsAt call s room count stops.NoTable = ⊥
 StopsAt call s room count stops.NoRoom = room < count
 StopsAt call s room count stops.OutOfRange = ⊥
-StopsAt call s room count (stops.Refused refusal) = Refuses call s refusal
+StopsAt call s room count (stops.Refused refusal) = Denies call s refusal
 
 -- ---- A seat on whose client something was done
 
@@ -73,9 +73,9 @@ pub record Becomes (c y : TdsSeat) (place : Place) (all : List (Act Token)) : Ty
 
 pub record ActsOn (first : Act Token) (all : List (Act Token)) (c y : TdsSeat) (bytes : List ℕ) : Type 0 where
   pub becomes : Becomes c y (place_of c) all
-  pub may : refusal_in (turn (line_of c) first).answer ≡ None
+  pub may : refusal_in (line_turn (line_of c) first).answer ≡ None
   pub sent : AreBytes (sent_in (history (line_of c) all)) bytes
 
 -- The machine refuses the first.
 abbrev pub RefusedOn : Act Token → TdsSeat → Refusal → Type 0
-RefusedOn first c refusal = RefusedBy (refusal_in (turn (line_of c) first).answer) refusal
+RefusedOn first c refusal = RefusedBy (refusal_in (line_turn (line_of c) first).answer) refusal

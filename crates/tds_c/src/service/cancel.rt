@@ -4,8 +4,8 @@
 ghost use Rattle.std.specs.Prelude.{◌≡◌, ◌++◌, ◌<◌, ◌^◌, [], IfErr, IfOk};
 ghost use Rattle.tds_wire.specs.declared.told.Token.{Token};
 ghost use Rattle.tds_client.specs.declared.fault.ClientRefusal.TheVariants as clients;
-ghost use Rattle.tds_client.specs.Packets.{attention, ignore};
-ghost use Rattle.tds_service.specs.Line.{turn};
+ghost use Rattle.tds_client.specs.Packets.{stop_bytes, ignore};
+ghost use Rattle.tds_service.specs.Line.{line_turn};
 ghost use Rattle.tds_service.specs.Line as line;
 ghost use Rattle.tds_service.specs.Ties.{AreBytes, cancel_answer};
 ghost use Rattle.tds_c.specs.service.Clients.{cancel_bytes, cancelled_seat};
@@ -45,7 +45,7 @@ impl Written {
 /// An attention (MS-TDS 2.2.1.7).
 #[inline(always)]
 fn attention_packet() -> [u8; 8]
-    ensures { result ≡ attention }
+    ensures { result ≡ stop_bytes }
 {
     [6, 1, 0, 8, 0, 0, 1, 0]
 }
@@ -55,7 +55,7 @@ fn attention_packet() -> [u8; 8]
 #[inline(always)]
 fn both_packets(kind: Kind, before: usize) -> [u8; 16]
     requires { before < 2 ^ 63 }
-    ensures { result ≡ ignore kind before ++ attention }
+    ensures { result ≡ ignore kind before ++ stop_bytes }
 {
     let id = ((before + 1) % 256) as u8;
     [kind.byte(), 3, 0, 8, 0, 0, id, 0, 6, 1, 0, 8, 0, 0, 1, 0]
@@ -66,7 +66,7 @@ impl TdsSeat {
     #[inline(always)]
     #[tactic(auto, unfolding(crate::specs::service::Plain::stage_at))]
     pub(crate) fn cancelled(self) -> TdsSeat
-        ensures line { line_of result ≡ (turn {T = Token} (line_of self) line.Cancel).line }
+        ensures line { line_of result ≡ (line_turn {T = Token} (line_of self) line.Cancel).line }
         ensures place { place_of result ≡ place_of self }
         ensures number { result.number ≡ self.number }
         ensures is { result ≡ cancelled_seat self }
@@ -86,7 +86,7 @@ impl TdsSeat {
     /// What is to be sent for that.
     #[inline(always)]
     pub(crate) fn written(&self) -> Written
-        ensures sent { AreBytes (turn {T = Token} (line_of self.now) line.Cancel).sent
+        ensures sent { AreBytes (line_turn {T = Token} (line_of self.now) line.Cancel).sent
             (written_bytes result) }
         ensures bytes { written_bytes result ≡ cancel_bytes self.now }
     {
@@ -107,10 +107,10 @@ impl TdsSeat {
     #[inline(always)]
     #[tactic(auto, unfolding(crate::specs::service::Plain::stage_at))]
     pub(crate) fn how_cancelled(&self) -> Result<Cancelled, Stop>
-        ensures how { IfOk result (λ how. (turn {T = Token} (line_of self.now) line.Cancel).answer
+        ensures how { IfOk result (λ how. (line_turn {T = Token} (line_of self.now) line.Cancel).answer
             ≡ cancel_answer self.now.asked how) }
         ensures refused { IfErr result (λ stop. (stop ≡ Stop.Refused Refusal.Broken)
-            × ((turn {T = Token} (line_of self.now) line.Cancel).answer
+            × ((line_turn {T = Token} (line_of self.now) line.Cancel).answer
             ≡ line.Refused clients.Broken)) }
     {
         match self.stage() {

@@ -7,7 +7,7 @@ ghost use Rattle.tds_service.specs.History.{line_after};
 ghost use Rattle.tds_service.specs.Line.{Act};
 ghost use Rattle.tds_service.specs.Service as calls;
 ghost use Rattle.tds_service.specs.Service.{Reply, Seat, does};
-ghost use Rattle.tds_service.specs.Table.{Refuses, Steps, rest_of};
+ghost use Rattle.tds_service.specs.Table.{Denies, Steps, rest_of};
 ghost use Rattle.tds_c.specs.service.Calls.{Drains, DrainsNot, Leaves};
 ghost use Rattle.tds_c.specs.service.Clients.{apart};
 ghost use Rattle.tds_c.specs.service.Plain.{line_of, seat_of, table_of, used};
@@ -109,7 +109,7 @@ pub(crate) fn lost(
         (table_of service.new seats.new) (calls.Back None) number [] []) }
     ensures leaves { OnOk result (Leaves (record { service = service.old; seats = seats.old })
         (record { service = service.new; seats = seats.new })) }
-    ensures refused { IfErr result (Refuses (calls.Lost number) (table_of service.old seats.old)) }
+    ensures refused { IfErr result (Denies (calls.Lost number) (table_of service.old seats.old)) }
     ensures err { OnErr result (service.new ≡ service.old) }
     ensures same { OnErr result (seats.new ≡ seats.old) }
 {

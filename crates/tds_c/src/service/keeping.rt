@@ -2,7 +2,7 @@
 
 ghost use Rattle.std.specs.Prelude.{◌≡◌, ◌≤◌, [], ℕ, length, IfOk, IfErr, OnErr, OnOk};
 ghost use Rattle.tds_service.specs.Service as calls;
-ghost use Rattle.tds_service.specs.Table.{Refuses, Steps, rest_of};
+ghost use Rattle.tds_service.specs.Table.{Denies, Steps, rest_of};
 ghost use Rattle.tds_service.specs.Table.{place_of as place_named};
 ghost use Rattle.tds_c.specs.service.Calls.{Leaves};
 ghost use Rattle.tds_c.specs.service.Chosen.{chosen_allows, chosen_call, chosen_place, chosen_reset, chosen_test};
@@ -83,7 +83,7 @@ pub(crate) fn lend_chosen(
         lent.number [] []) }
     ensures leaves { OnOk result (Leaves (record { service = service.old; seats = seats.old })
         (record { service = service.new; seats = seats.new })) }
-    ensures refused { IfErr result (Refuses (chosen_call chosen)
+    ensures refused { IfErr result (Denies (chosen_call chosen)
         (table_of service.old seats.old)) }
     ensures err { OnErr result (service.new ≡ service.old) }
     ensures same { OnErr result (seats.new ≡ seats.old) }
@@ -112,7 +112,7 @@ pub(crate) fn keep(
         number [] []) }
     ensures leaves { OnOk result (Leaves (record { service = service.old; seats = seats.old })
         (record { service = service.new; seats = seats.new })) }
-    ensures refused { IfErr result (Refuses (calls.Keep lease) (table_of service.old seats.old)) }
+    ensures refused { IfErr result (Denies (calls.Keep lease) (table_of service.old seats.old)) }
     ensures err { OnErr result (service.new ≡ service.old) }
     ensures same { OnErr result (seats.new ≡ seats.old) }
 {
@@ -141,7 +141,7 @@ pub(crate) fn abandon(
         (table_of service.new seats.new) (calls.Back (rest_of done.1)) done.0 [] []) }
     ensures leaves { OnOk result (Leaves (record { service = service.old; seats = seats.old })
         (record { service = service.new; seats = seats.new })) }
-    ensures refused { IfErr result (Refuses (calls.Abandon ticket)
+    ensures refused { IfErr result (Denies (calls.Abandon ticket)
         (table_of service.old seats.old)) }
     ensures err { OnErr result (service.new ≡ service.old) }
     ensures same { OnErr result (seats.new ≡ seats.old) }
@@ -167,7 +167,7 @@ pub(crate) fn cleaned(
         (table_of service.new seats.new) (calls.Back (rest_of done.1)) done.0 [] []) }
     ensures leaves { OnOk result (Leaves (record { service = service.old; seats = seats.old })
         (record { service = service.new; seats = seats.new })) }
-    ensures refused { IfErr result (Refuses (calls.Cleaned lease)
+    ensures refused { IfErr result (Denies (calls.Cleaned lease)
         (table_of service.old seats.old)) }
     ensures err { OnErr result (service.new ≡ service.old) }
     ensures same { OnErr result (seats.new ≡ seats.old) }

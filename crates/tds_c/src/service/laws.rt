@@ -4,7 +4,7 @@
 ghost use Rattle.std.specs.Prelude.{◌≡◌, ◌≤◌, ◌∷◌, [], ℕ, List, None, length};
 ghost use Rattle.std.specs.Prelude.{slice_index_or, slice_set};
 ghost use Rattle.tds_wire.specs.declared.told.Token.{Token};
-ghost use Rattle.tds_service.specs.Line.{Act, Come, turn};
+ghost use Rattle.tds_service.specs.Line.{Act, Come, line_turn};
 ghost use Rattle.tds_service.specs.Parts.{Part};
 ghost use Rattle.tds_service.specs.Refusing.{refusal_in};
 ghost use Rattle.tds_service.specs.Service.{Came, acts, drained, find_by, has_lease, has_number, step};
@@ -20,7 +20,7 @@ pub fn acts_by_lease()
     ensures { (s : TdsService) (seats : List TdsSeat) (index lease : ℕ) (c y : TdsSeat)
         (first : Act Token) (all : List (Act Token)) → s.count ≤ length seats
         → FirstMet (has_lease lease) (used s seats) index → c ≡ slice_index_or seats index c
-        → refusal_in (turn (line_of c) first).answer ≡ None → Becomes c y (place_of c) all
+        → refusal_in (line_turn (line_of c) first).answer ≡ None → Becomes c y (place_of c) all
         → table_of s (slice_set seats index y) ≡ (acts (table_of s seats) (has_lease lease) first
         all (find_by (has_lease lease) (table_of s seats).seats)).service }
 {}

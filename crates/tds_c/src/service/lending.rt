@@ -5,7 +5,7 @@ ghost use Rattle.std.specs.Prelude.{slice_index_or, IfOk, IfErr, OnErr, OnOk};
 ghost use Rattle.tds_service.specs.Line as line;
 ghost use Rattle.tds_service.specs.Service as calls;
 ghost use Rattle.tds_service.specs.Service.{Seat, does, is_idle};
-ghost use Rattle.tds_service.specs.Table.{Refuses, RefusesIn, Steps, StepsIn};
+ghost use Rattle.tds_service.specs.Table.{Denies, RefusesIn, Steps, StepsIn};
 ghost use Rattle.tds_service.specs.Table.{place_of as place_named};
 ghost use Rattle.tds_c.specs.service.Calls.{Leaves, new_apart};
 ghost use Rattle.tds_c.specs.service.Clients.{apart};
@@ -138,7 +138,7 @@ pub(crate) fn lease(service: &mut TdsService, seats: &mut [TdsSeat]) -> Result<L
         (if lent.had then lent.number else 0) [] []) }
     ensures leaves { OnOk result (Leaves (record { service = service.old; seats = seats.old })
         (record { service = service.new; seats = seats.new })) }
-    ensures refused { IfErr result (Refuses calls.Lease (table_of service.old seats.old)) }
+    ensures refused { IfErr result (Denies calls.Lease (table_of service.old seats.old)) }
     ensures err { OnErr result (service.new ≡ service.old) }
     ensures same { OnErr result (seats.new ≡ seats.old) }
 {

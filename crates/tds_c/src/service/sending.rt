@@ -9,7 +9,7 @@ ghost use Rattle.tds_packet.specs.Size.{IsPacketSize};
 ghost use Rattle.tds_wire.specs.declared.told.Token.{Token};
 ghost use Rattle.tds_client.specs.Streams.{packets_are};
 ghost use Rattle.tds_service.specs.Line as line;
-ghost use Rattle.tds_service.specs.Line.{turn};
+ghost use Rattle.tds_service.specs.Line.{line_turn};
 ghost use Rattle.tds_c.specs.service.Asking.{WaitsWrong, headers_by, message_from, packet_of, with_front};
 ghost use Rattle.tds_c.specs.service.Clients.{asked_seat, sent_seat};
 ghost use Rattle.tds_c.specs.service.OnSeat.{AsksNot, FinishesNot, SendsNot};
@@ -151,7 +151,7 @@ impl TdsSeat {
         requires sends { (begun : Bool) × ((line_of self.old).stage ≡ line.Sending begun) }
         requires counted { self.old.client.packets < 9223372036854775807 }
         ensures line { line_of self.new
-            ≡ (turn {T = Token} (line_of self.old) (line.Send last)).line }
+            ≡ (line_turn {T = Token} (line_of self.old) (line.Send last)).line }
         ensures place { place_of self.new ≡ place_of self.old }
         ensures number { self.new.number ≡ self.old.number }
         ensures is { self.new ≡ sent_seat last self.old }
@@ -299,7 +299,7 @@ pub(crate) fn finish(
         × ((line_of seat.old).stage ≡ line.Sending begun)) }
     ensures is { OnOk result (seat.new ≡ sent_seat true seat.old) }
     ensures moved { OnOk result (line_of seat.new
-        ≡ (turn {T = Token} (line_of seat.old) (line.Send true)).line) }
+        ≡ (line_turn {T = Token} (line_of seat.old) (line.Send true)).line) }
     ensures size { OnOk result (IsPacketSize seat.old.client.size) }
     ensures holds { OnOk result (length kept.now + 8 ≤ seat.old.client.size) }
     ensures written { OnOk result (out.new

@@ -4,7 +4,7 @@
 ghost use Rattle.std.specs.Prelude.{◌≡◌, ◌≤◌, [], List, Some, drop, length};
 ghost use Rattle.tds_client.specs.Parts.{session_from};
 ghost use Rattle.tds_client.specs.Session.{ClientSession};
-ghost use Rattle.tds_wire.specs.Reading.{Reading};
+ghost use Rattle.tds_wire.specs.Reading.{Parser};
 ghost use Rattle.tds_c.specs.declared.wire.hearing.Came.{Came as AnyCame};
 ghost use Rattle.tds_walk.specs.declared.token.TdsWireToken.{TdsWireToken as AnyShown};
 ghost use Rattle.tds_c.specs.Hearing.{HasHeard, HearsAll, HearsFrom, Place, Ready, StopsBehind, came_number, fault_number};
@@ -79,7 +79,7 @@ fn end_ready(parts: &mut ClientParts, walk: &mut TdsWire, memory: &mut Memory, e
     ensures run { (first last : Place) (room : Room AnyShown)
         → HasHeard first last room → last.rest ≡ [] → last.session ≡ session_from parts.old []
         → reading_from walk.old memory.old ≡ Some last.reading
-        → (reading : Reading) × (reading_from walk.new memory.new ≡ Some reading)
+        → (reading : Parser) × (reading_from walk.new memory.new ≡ Some reading)
         × StopsBehind first [] (record {
           session = session_from parts.new [];
           reading = reading;
@@ -120,7 +120,7 @@ fn hear_other(
           taken = taken.new;
           room = record { before = tokens.old; after = tokens.new; count = count.new };
         }) came }
-    ensures behind { (s : ClientSession) (first : Place) (room : List AnyShown) (r : Reading)
+    ensures behind { (s : ClientSession) (first : Place) (room : List AnyShown) (r : Parser)
         → client_of client.old [] ≡ Some s → length room ≡ length tokens.old
         → reading_from walk.old memory.old ≡ Some r
         → HasHeard first (record { session = s; reading = r; rest = drop taken.old bytes.now })

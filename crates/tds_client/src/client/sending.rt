@@ -3,7 +3,7 @@
 ghost use Rattle.std.specs.Prelude.{◌≡◌, ◌≤◌, ◌++◌, ℕ, List, [], None, Some, Ok, IfOk, IfErr, OnErr, OnOk};
 ghost use Rattle.std.specs.Prelude.{drop, length};
 ghost use Rattle.tds_request.specs.declared.request.Request.{Request};
-ghost use Rattle.tds_request.specs.Layout.{kind_of_request, spelling};
+ghost use Rattle.tds_request.specs.Layout.{kind_of_request, request_spelling};
 ghost use Rattle.tds_client.specs.declared.client.parts.StageParts.TheVariants.{Sending};
 ghost use Rattle.tds_client.specs.Parts.{AreParts, left_by, session_from, stage_from};
 ghost use Rattle.tds_client.specs.Sending.{message_of, refusal_of, sent, started};
@@ -33,10 +33,10 @@ impl ClientParts {
     pub fn start(&mut self, kind: RequestKind) -> Result<u64, ClientRefusal>
         ensures ok { IfOk result (λ descriptor. (request : Request)
             → kind ≡ kind_of_request request
-            → session_from self.new (spelling descriptor request)
+            → session_from self.new (request_spelling descriptor request)
             ≡ started (session_from self.old []) request) }
         ensures message { IfOk result (λ descriptor. (request : Request)
-            → spelling descriptor request ≡ message_of self.old.heard request) }
+            → request_spelling descriptor request ≡ message_of self.old.heard request) }
         ensures accepted { OnOk result (unless_idle (stage_from self.old.stage []) ≡ None) }
         ensures refused { IfErr result (λ refusal.
             unless_idle (stage_from self.old.stage []) ≡ Some refusal) }

@@ -5,13 +5,13 @@ use Rattle.std.specs.Prelude.{◌==◌, ◌&&◌, ◌++◌, IfOk, IsSome, is_non
 use Rattle.tds_client.specs.declared.fault.ClientRefusal.{ClientRefusal}
 use Rattle.tds_client.specs.declared.state.Cancelled.{Cancelled}
 use Rattle.tds_client.specs.declared.state.Cancelled.TheVariants as answers
-use Rattle.tds_client.specs.Packets.{attention, ignore}
+use Rattle.tds_client.specs.Packets.{stop_bytes, ignore}
 use Rattle.tds_client.specs.Sending.{Effect, cancelled, cancelled_in, cancelled_sending}
 use Rattle.tds_client.specs.Session.{ClientSession, Stage, Idle, Sending, Reading, Cancelling, Broken, unless_idle, with_stage}
 use Rattle.tds_packet.specs.declared.kind.Kind.{Kind}
 use Rattle.tds_pool.specs.Calls.{Returned, abandoned, all_numbers, given_back, is_broken, is_idle, is_kept_for, is_lent_for, kept_for, lent_to, only, rested, rests_at, session_behind, standing}
 use Rattle.tds_pool.specs.Calls as calls
-use Rattle.tds_pool.specs.Connections.{Connection, PoolState, SameRest, connections, ended_at, numbered, taken_out, with_client}
+use Rattle.tds_pool.specs.Connections.{Connection, PoolState, SameRest, connections, lending_ended_at, numbered, taken_out, with_client}
 use Rattle.tds_pool.specs.declared.answers.GivenBack.{GivenBack}
 use Rattle.tds_pool.specs.declared.answers.GivenBack.TheVariants as given
 use Rattle.tds_pool.specs.declared.lease.Lease.{Lease}
@@ -104,7 +104,7 @@ pub back_rests : (n : ℕ) (idle : Bool) → rests_in (rest_answer idle n) ≡ t
 back_rests n true = refl
 back_rests n false = refl
 
-moved : (n : ℕ) (cs : List Connection) (c : Connection) (p : Place) → numbered n cs ≡ Some c → numbered n (ended_at n p cs) ≡ Some (ends p c)
+moved : (n : ℕ) (cs : List Connection) (c : Connection) (p : Place) → numbered n cs ≡ Some c → numbered n (lending_ended_at n p cs) ≡ Some (ends p c)
 moved n cs c p found = changed_here n (ends p) cs (λ d. refl) ∙ ap (option_map (ends p)) found
 
 rested_here : (n : ℕ) (cs : List Connection) (c : Connection) (s : Stage) → numbered n cs ≡ Some c → rests_in (rested n (rests_at s) cs).answer ≡ true → (p : Place) × (numbered n (rested n (rests_at s) cs).connections ≡ Some (ends p c))
@@ -135,7 +135,7 @@ sending_columns : (s : ClientSession) (kind : Kind) (packets : ℕ) → (cancell
 unfolding cancelled_sending
 sending_columns s kind packets = by_count (eqb packets 0)
   where
-    by_count : (b : Bool) → (cond {A = Effect Cancelled} b (record { answer = answers.Unsent; session = with_stage s Idle; bytes = [] }) (record { answer = answers.Asked; session = with_stage s Cancelling; bytes = ignore kind packets ++ attention })).session.columns ≡ s.columns
+    by_count : (b : Bool) → (cond {A = Effect Cancelled} b (record { answer = answers.Unsent; session = with_stage s Idle; bytes = [] }) (record { answer = answers.Asked; session = with_stage s Cancelling; bytes = ignore kind packets ++ stop_bytes })).session.columns ≡ s.columns
     by_count true = refl
     by_count false = refl
 

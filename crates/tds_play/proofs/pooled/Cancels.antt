@@ -3,7 +3,7 @@ use Rattle.std.proofs.Common.{◌≡◌, ◌∙◌, ℕ, Bool, true, false, [], 
 use Rattle.std.proofs.Math.Dec.{eqb}
 use Rattle.tds_client.specs.declared.state.Cancelled.{Cancelled}
 use Rattle.tds_client.specs.declared.state.Cancelled.TheVariants as answers
-use Rattle.tds_client.specs.Packets.{attention, ignore}
+use Rattle.tds_client.specs.Packets.{stop_bytes, ignore}
 use Rattle.tds_client.specs.Sending.{Effect, cancelled, cancelled_in, cancelled_sending}
 use Rattle.tds_client.specs.Session.{ClientSession, Stage, Idle, Sending, Reading, Cancelling, Broken, with_stage}
 use Rattle.tds_packet.specs.declared.kind.Kind.{Kind}
@@ -24,7 +24,7 @@ sending_no_more : (s : ClientSession) (kind : Kind) (packets : ℕ) → HasNoMor
 unfolding cancelled_sending
 sending_no_more s kind packets = by_count (eqb packets 0)
   where
-    by_count : (b : Bool) → HasNoMore (cond {A = Effect Cancelled} b (record { answer = answers.Unsent; session = with_stage s Idle; bytes = [] }) (record { answer = answers.Asked; session = with_stage s Cancelling; bytes = ignore kind packets ++ attention })).session
+    by_count : (b : Bool) → HasNoMore (cond {A = Effect Cancelled} b (record { answer = answers.Unsent; session = with_stage s Idle; bytes = [] }) (record { answer = answers.Asked; session = with_stage s Cancelling; bytes = ignore kind packets ++ stop_bytes })).session
     by_count true = no_more_in (with_stage s Idle) Idle refl refl refl
     by_count false = no_more_in (with_stage s Cancelling) Cancelling refl refl refl
 

@@ -5,7 +5,7 @@ use Rattle.std.proofs.lemmas.Bool.{eq-eqb}
 use Rattle.std.proofs.lemmas.Bool.Decides.{eqb_tells}
 use Rattle.std.specs.Prelude.{option_map}
 use Rattle.tds_pool.specs.Calls.{all_numbers}
-use Rattle.tds_pool.specs.Connections.{Connection, changed, numbered, taken_out}
+use Rattle.tds_pool.specs.Connections.{Connection, changed_in, numbered, taken_out}
 
 -- The pool has the same under each other number.
 abbrev pub SameBut : ℕ → List Connection → List Connection → Type 0
@@ -34,38 +34,38 @@ either_number : (b : Bool) (f : Connection → Connection) (c : Connection) → 
 either_number true f c keeps = keeps c
 either_number false f c keeps = refl
 
-pub changed_here : (n : ℕ) (f : Connection → Connection) (cs : List Connection) → KeepsNumber f → numbered n (changed n f cs) ≡ option_map f (numbered n cs)
+pub changed_here : (n : ℕ) (f : Connection → Connection) (cs : List Connection) → KeepsNumber f → numbered n (changed_in n f cs) ≡ option_map f (numbered n cs)
 changed_here n f [] keeps = refl
 changed_here n f (c ∷ cs) keeps =
     let number : (cond (eqb c.number n) (f c) c).number ≡ c.number = either_number (eqb c.number n) f c keeps in
     by_number _ c.number n
     (λ is e.
-    first_is (cond (eqb c.number n) (f c) c) (changed n f cs) n (number ∙ is)
+    first_is (cond (eqb c.number n) (f c) c) (changed_in n f cs) n (number ∙ is)
     ∙ ap (λ (b : Bool). Some (cond b (f c) c)) e
     ∙ sym (ap (option_map f) (first_is c cs n is)))
     (λ other e.
-    first_not (cond (eqb c.number n) (f c) c) (changed n f cs) n (λ is. other (sym number ∙ is))
+    first_not (cond (eqb c.number n) (f c) c) (changed_in n f cs) n (λ is. other (sym number ∙ is))
     ∙ changed_here n f cs keeps
     ∙ sym (ap (option_map f) (first_not c cs n other)))
 
-pub changed_others : (n : ℕ) (f : Connection → Connection) (cs : List Connection) → KeepsNumber f → SameBut n cs (changed n f cs)
+pub changed_others : (n : ℕ) (f : Connection → Connection) (cs : List Connection) → KeepsNumber f → SameBut n cs (changed_in n f cs)
 changed_others n f [] keeps m other = refl
 changed_others n f (c ∷ cs) keeps m other =
     let number : (cond (eqb c.number n) (f c) c).number ≡ c.number = either_number (eqb c.number n) f c keeps in
     by_number _ c.number m
     (λ is e.
-    first_is (cond (eqb c.number n) (f c) c) (changed n f cs) m (number ∙ is)
+    first_is (cond (eqb c.number n) (f c) c) (changed_in n f cs) m (number ∙ is)
     ∙ ap (λ (b : Bool). Some (cond b (f c) c)) (unlike c.number n (λ same. other (sym is ∙ same)))
     ∙ sym (first_is c cs m is))
     (λ far e.
-    first_not (cond (eqb c.number n) (f c) c) (changed n f cs) m (λ is. far (sym number ∙ is))
+    first_not (cond (eqb c.number n) (f c) c) (changed_in n f cs) m (λ is. far (sym number ∙ is))
     ∙ changed_others n f cs keeps m other
     ∙ sym (first_not c cs m far))
 
-pub changed_numbers : (n : ℕ) (f : Connection → Connection) (cs : List Connection) → KeepsNumber f → all_numbers (changed n f cs) ≡ all_numbers cs
+pub changed_numbers : (n : ℕ) (f : Connection → Connection) (cs : List Connection) → KeepsNumber f → all_numbers (changed_in n f cs) ≡ all_numbers cs
 changed_numbers n f [] keeps = refl
 changed_numbers n f (c ∷ cs) keeps =
-    ap (λ (m : ℕ). m ∷ all_numbers (changed n f cs)) (either_number (eqb c.number n) f c keeps)
+    ap (λ (m : ℕ). m ∷ all_numbers (changed_in n f cs)) (either_number (eqb c.number n) f c keeps)
     ∙ ap (λ (ms : List ℕ). c.number ∷ ms) (changed_numbers n f cs keeps)
 
 -- ---- One that is taken out

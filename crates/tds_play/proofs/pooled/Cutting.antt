@@ -14,7 +14,7 @@ use Rattle.tds_play.specs.declared.player.Player.{Player}
 use Rattle.tds_play.specs.declared.seat.Held.{Held}
 use Rattle.tds_play.specs.Failures.{FailsNoMore, LiveAreSound}
 use Rattle.tds_play.specs.Links.{cut_of}
-use Rattle.tds_play.specs.Pipe.{Begun, IsBeyond, Pipe, IsOpen, IsUncut}
+use Rattle.tds_play.specs.Pipe.{BegunEvent, IsBeyond, Pipe, IsOpen, IsUncut}
 use Rattle.tds_play.specs.Player.{AreHeld, all_of}
 use Rattle.tds_play.specs.Plays.{RepresentConnections, RepresentsConnection}
 use Rattle.tds_play.specs.Pooled.{AreKnown, ArePooled, number_unless, numbers_in, seat_in, seated_from, seated_in}
@@ -86,7 +86,7 @@ cut_seats {E} {S} place old new h k i =
 
 -- ---- What stays so
 
-pub cut_keeps : {E S : Type 0} (place : ℕ) (old new : Player E S) (h k : Held E S) (pipes pipes' : ℕ → Option Pipe) (told still : List Begun) → IsCutAt place old new h k → KeepsTies h.link.number k.link pipes pipes' told still → ReadsNoMore h.link k.link (pipes h.link.number) (pipes' h.link.number) → FailsNoMore (pipes h.link.number) (pipes' h.link.number)
+pub cut_keeps : {E S : Type 0} (place : ℕ) (old new : Player E S) (h k : Held E S) (pipes pipes' : ℕ → Option Pipe) (told still : List BegunEvent) → IsCutAt place old new h k → KeepsTies h.link.number k.link pipes pipes' told still → ReadsNoMore h.link k.link (pipes h.link.number) (pipes' h.link.number) → FailsNoMore (pipes h.link.number) (pipes' h.link.number)
     → AreTied (all_of old) pipes → AreHeld old → new ≡ record old { links = new.links; pool = new.pool } → CutsSome old new pipes pipes' told still
 cut_keeps {E} {S} place old new h k pipes pipes' told still i ties stays failed tied held rest = record {
   tied = subst (λ (ls : List (Seated E S)). AreTied ls pipes') (sym seats)
@@ -127,7 +127,7 @@ cut_keeps {E} {S} place old new h k pipes pipes' told still i ties stays failed 
 
 -- ---- What it stands for
 
-pub cut_played : {E S : Type 0} (place : ℕ) (old new : Player E S) (h k : Held E S) (pipes pipes' : ℕ → Option Pipe) (told still : List Begun) → IsCutAt place old new h k → KeepsTies h.link.number k.link pipes pipes' told still → (size : ℕ) (engine : E) (cs : List Connection) (c : Connection)
+pub cut_played : {E S : Type 0} (place : ℕ) (old new : Player E S) (h k : Held E S) (pipes pipes' : ℕ → Option Pipe) (told still : List BegunEvent) → IsCutAt place old new h k → KeepsTies h.link.number k.link pipes pipes' told still → (size : ℕ) (engine : E) (cs : List Connection) (c : Connection)
     → (RepresentsConnection h.link.number size engine h.link (seat_in h old.pool) (pipes h.link.number) c → RepresentsConnection h.link.number size engine k.link (seat_in h old.pool) (pipes' h.link.number) (cut c))
     → slice_get cs place ≡ Some c → RepresentConnections 1 size engine (all_of old) pipes cs → RepresentConnections 1 size engine (all_of new) pipes' (put place (cut c) cs)
 cut_played {E} {S} place old new h k pipes pipes' told still i ties size engine cs c cuts there all =
@@ -143,7 +143,7 @@ unmoved {E} {S} place old new h there is links pool =
     ap (λ (hs : List (Held E S)). seated_from 1 hs (connections new.pool)) (links ∙ set_again old.links.items place h (read_at old.links.items place h there is))
     ∙ ap (λ (p : PoolState). seated_from 1 old.links.items (connections p)) pool
 
-pub unmoved_keeps : {E S : Type 0} (place : ℕ) (old new : Player E S) (h : Held E S) (pipes : ℕ → Option Pipe) (told : List Begun) → AreTied (all_of old) pipes → AreHeld old → place < length old.links.items → h ≡ get_or old.links.items place h
+pub unmoved_keeps : {E S : Type 0} (place : ℕ) (old new : Player E S) (h : Held E S) (pipes : ℕ → Option Pipe) (told : List BegunEvent) → AreTied (all_of old) pipes → AreHeld old → place < length old.links.items → h ≡ get_or old.links.items place h
     → new.links.items ≡ slice_set old.links.items place h → new.pool ≡ old.pool → new ≡ record old { links = new.links; pool = new.pool } → CutsSome old new pipes pipes told told
 unmoved_keeps {E} {S} place old new h pipes told tied held there is links pool rest = record {
   tied = subst (λ (ls : List (Seated E S)). AreTied ls pipes) (sym same) tied;
@@ -180,7 +180,7 @@ still_cut {E} {S} place player h pipes tied there is cut_there size engine cs c 
 -- ---- All of them are cut
 
 -- Some are, and then others.
-pub cuts_more : {E S : Type 0} (old mid new : Player E S) (pipes between pipes' : ℕ → Option Pipe) (told so_far still : List Begun) → CutsSome old mid pipes between told so_far → CutsSome mid new between pipes' so_far still → CutsSome old new pipes pipes' told still
+pub cuts_more : {E S : Type 0} (old mid new : Player E S) (pipes between pipes' : ℕ → Option Pipe) (told so_far still : List BegunEvent) → CutsSome old mid pipes between told so_far → CutsSome mid new between pipes' so_far still → CutsSome old new pipes pipes' told still
 cuts_more {E} {S} old mid new pipes between pipes' told so_far still some more = record {
   tied = more.tied;
   held = more.held;
@@ -195,7 +195,7 @@ cuts_more {E} {S} old mid new pipes between pipes' told so_far still some more =
 }
 
 -- None is.
-pub cuts_none : {E S : Type 0} (player : Player E S) (pipes : ℕ → Option Pipe) (told : List Begun) → AreTied (all_of player) pipes → AreHeld player → CutsSome player player pipes pipes told told
+pub cuts_none : {E S : Type 0} (player : Player E S) (pipes : ℕ → Option Pipe) (told : List BegunEvent) → AreTied (all_of player) pipes → AreHeld player → CutsSome player player pipes pipes told told
 cuts_none player pipes told tied held = record {
   tied = tied;
   held = held;

@@ -21,7 +21,7 @@ use Rattle.tds_play.specs.Failures.{Fails, FailsOn, HasNoFailure, LiveAreSound, 
 use Rattle.tds_play.specs.Happening.{HappensAs}
 use Rattle.tds_play.specs.Lending.{Found, Here, Missing, standing_of}
 use Rattle.tds_play.specs.Noted.{about_of}
-use Rattle.tds_play.specs.Pipe.{AreFaithfulTo, AreSameBeyond, Begun, IsFaithful, AreSame, Pipe, traffic}
+use Rattle.tds_play.specs.Pipe.{AreFaithfulTo, AreSameBeyond, BegunEvent, IsFaithful, AreSame, Pipe, traffic}
 use Rattle.tds_play.specs.Player.{AreHeld, ModelGivesEach, RefinesEvent, RepresentsWorld, all_of}
 use Rattle.tds_play.specs.Plays.{RepresentConnections}
 use Rattle.tds_play.specs.Pooled.{numbers_kept, numbers_leased}
@@ -46,7 +46,7 @@ use Rattle.tds_play.proofs.pooled.Steps.{many_of, steps_lost, steps_reads, steps
 -- ---- Which event it is
 
 -- It is of the event that it is.
-pub happens_for : {E S B : Type 0} (answers : E → Answers) (e kind : Event) (old new : Player E S) (pipes pipes' : ℕ → Option Pipe) (told still : List Begun) (r : Result EventDone B) → e ≡ kind → IfOk r (λ done. HappensAs answers kind old new pipes pipes' told still done) → IfOk r (λ done. HappensAs answers e old new pipes pipes' told still done)
+pub happens_for : {E S B : Type 0} (answers : E → Answers) (e kind : Event) (old new : Player E S) (pipes pipes' : ℕ → Option Pipe) (told still : List BegunEvent) (r : Result EventDone B) → e ≡ kind → IfOk r (λ done. HappensAs answers kind old new pipes pipes' told still done) → IfOk r (λ done. HappensAs answers e old new pipes pipes' told still done)
 happens_for answers e kind old new pipes pipes' told still r is s = subst (λ (x : Event). IfOk r (λ done. HappensAs answers x old new pipes pipes' told still done)) (sym is) s
 
 -- What a play finds for an event, in each world that it stands for.
@@ -57,7 +57,7 @@ Finds {E} {S} e player pipes found =
 
 -- ---- On one connection
 
-pub steps_happen : {E S : Type 0} (answers : E → Answers) (e : Event) (place : ℕ) (old new : Player E S) (pipes pipes' : ℕ → Option Pipe) (told still : List Begun) (done : EventDone)
+pub steps_happen : {E S : Type 0} (answers : E → Answers) (e : Event) (place : ℕ) (old new : Player E S) (pipes pipes' : ℕ → Option Pipe) (told still : List BegunEvent) (done : EventDone)
     → AreTied (all_of old) pipes → IsAboutOne e → IsAbout e place → Finds e old pipes (Here place)
     → StepsAt answers e place old new pipes pipes' told still done → HappensAs answers e old new pipes pipes' told still done
 steps_happen {E} {S} answers e place old new pipes pipes' told still done tied one about found s = record {
@@ -81,7 +81,7 @@ steps_happen {E} {S} answers e place old new pipes pipes' told still done tied o
     there : (setup : Setup) (engine : E) (w : World) → RepresentsWorld setup engine old pipes w → ModelGivesEach E (answers engine) setup w → FoundHere setup (answers engine) w e place
     there setup engine w is promised = found_here setup engine (answers engine) w e old pipes place is promised.idle one (found setup engine w is promised.idle)
 
-pub all_steps_happen : {E S B : Type 0} (answers : E → Answers) (e : Event) (place : ℕ) (old new : Player E S) (pipes pipes' : ℕ → Option Pipe) (told still : List Begun) (r : Result EventDone B)
+pub all_steps_happen : {E S B : Type 0} (answers : E → Answers) (e : Event) (place : ℕ) (old new : Player E S) (pipes pipes' : ℕ → Option Pipe) (told still : List BegunEvent) (r : Result EventDone B)
     → AreTied (all_of old) pipes → IsAboutOne e → IsAbout e place → Finds e old pipes (Here place)
     → IfOk r (λ done. StepsAt answers e place old new pipes pipes' told still done) → IfOk r (λ done. HappensAs answers e old new pipes pipes' told still done)
 all_steps_happen answers e place old new pipes pipes' told still (Ok done) tied one about found s = steps_happen answers e place old new pipes pipes' told still done tied one about found s
@@ -90,7 +90,7 @@ all_steps_happen answers e place old new pipes pipes' told still (Err why) tied 
 -- ---- On none
 
 -- It is refused before it comes to a connection: the player is as it was.
-pub refuses_happen : {E S : Type 0} (answers : E → Answers) (e : Event) (why : Refusal) (old new : Player E S) (pipes : ℕ → Option Pipe) (told : List Begun) (done : EventDone)
+pub refuses_happen : {E S : Type 0} (answers : E → Answers) (e : Event) (why : Refusal) (old new : Player E S) (pipes : ℕ → Option Pipe) (told : List BegunEvent) (done : EventDone)
     → AreTied (all_of old) pipes → IsAboutOne e → Finds e old pipes (Missing why)
     → AreHeld new → all_of new ≡ all_of old → new.links.items ≡ old.links.items → HoldsAs old new → SameSetup old new → GrowsByOne old new
     → done ≡ done_as (outcome.Refused why) → HappensAs answers e old new pipes pipes told told done
@@ -126,7 +126,7 @@ refuses_happen {E} {S} answers e why old new pipes told done tied one found held
 
 -- ---- On a new one
 
-pub opens_happen : {E S : Type 0} (answers : E → Answers) (next conn : ℕ) (lease : Lease) (old mid new : Player E S) (p : PoolState) (pipes pipes' : ℕ → Option Pipe) (told still : List Begun) (done : EventDone)
+pub opens_happen : {E S : Type 0} (answers : E → Answers) (next conn : ℕ) (lease : Lease) (old mid new : Player E S) (p : PoolState) (pipes pipes' : ℕ → Option Pipe) (told still : List BegunEvent) (done : EventDone)
     → AreTied (all_of old) pipes → AreHeld old → AreFew 9999 old → LentNew conn lease old.pool p → next ≡ min (suc (length old.leases)) 4294967295
     → mid ≡ record old { pool = p; leases = mid.leases } → mid.leases ≡ old.leases ++ Some lease ∷ []
     → OpensAs conn next mid new pipes pipes' told still done → HappensAs answers event.Lease old new pipes pipes' told still done
@@ -194,7 +194,7 @@ opens_happen {E} {S} answers next conn lease old mid new p pipes pipes' told sti
 -- ---- On all of them
 
 -- The server is restarted: every connection is cut.
-pub server_happens : {E S : Type 0} (answers : E → Answers) (e : Event) (old new : Player E S) (pipes pipes' : ℕ → Option Pipe) (told still : List Begun)
+pub server_happens : {E S : Type 0} (answers : E → Answers) (e : Event) (old new : Player E S) (pipes pipes' : ℕ → Option Pipe) (told still : List BegunEvent)
     → e ≡ event.RestartServer → CutsSome old new pipes pipes' told still
     → ((size : ℕ) (engine : E) (cs : List Connection) → RepresentConnections 1 size engine (all_of old) pipes cs → RepresentConnections 1 size engine (all_of new) pipes' (map cut cs))
     → HappensAs answers e old new pipes pipes' told still (done_as outcome.RestartedServer)
@@ -215,7 +215,7 @@ server_happens answers e old new pipes pipes' told still same cuts refines = sub
 })
 
 -- The client is restarted: every lease and ticket ends too.
-pub client_happens : {E S : Type 0} (answers : E → Answers) (e : Event) (old mid new : Player E S) (pipes pipes' : ℕ → Option Pipe) (told still : List Begun)
+pub client_happens : {E S : Type 0} (answers : E → Answers) (e : Event) (old mid new : Player E S) (pipes pipes' : ℕ → Option Pipe) (told still : List BegunEvent)
     → e ≡ event.RestartClient → CutsSome old mid pipes pipes' told still → EndsAs mid new
     → ((size : ℕ) (engine : E) (cs : List Connection) → RepresentConnections 1 size engine (all_of old) pipes cs → RepresentConnections 1 size engine (all_of mid) pipes' (map cut cs))
     → HappensAs answers e old new pipes pipes' told still (done_as outcome.RestartedClient)

@@ -5,7 +5,7 @@ use Rattle.std.proofs.lemmas.List.{length-map}
 use Rattle.std.specs.List.{slice_get}
 use Rattle.std.specs.Prelude.{option_map, slice_set}
 use Rattle.tds_pool.specs.Calls.{all_numbers}
-use Rattle.tds_pool.specs.Connections.{Connection, SameRest, changed, connections, numbered}
+use Rattle.tds_pool.specs.Connections.{Connection, SameRest, changed_in, connections, numbered}
 use Rattle.tds_pool.specs.declared.lease.Lease.{Lease}
 use Rattle.tds_pool.specs.declared.lease.Ticket.{Ticket}
 use Rattle.tds_world.specs.World.{World, next_number}
@@ -35,7 +35,7 @@ pub record ChangesInPlace {E S : Type 0} (place : ℕ) (was now : Connection) (o
 pub changes_in_place : {E S : Type 0} (place : ℕ) (f : Connection → Connection) (c : Connection) (old new : Player E S) (h k : Held E S)
     → KeepsNumber f → (f c).client.columns ≡ c.client.columns → h.link.number ≡ suc place → k.link ≡ h.link
     → slice_get old.links.items place ≡ Some h → AreHeld old → numbered (suc place) (connections old.pool) ≡ Some c
-    → connections new.pool ≡ changed (suc place) f (connections old.pool) → SameRest old.pool new.pool → ChangesInPlace place c (f c) old new h k
+    → connections new.pool ≡ changed_in (suc place) f (connections old.pool) → SameRest old.pool new.pool → ChangesInPlace place c (f c) old new h k
 changes_in_place {E} {S} place f c old new h k keeps same number link at held there moved rest = record {
   others = λ m other. ap (numbered m) moved ∙ changed_others (suc place) f (connections old.pool) keeps m other;
   there = now;

@@ -5,7 +5,7 @@ use Rattle.std.proofs.lemmas.Option.{slice_get_within}
 use Rattle.std.specs.List.{slice_get}
 use Rattle.std.specs.Prelude.{option_map, slice_set}
 use Rattle.tds_pool.specs.Calls.{all_numbers}
-use Rattle.tds_pool.specs.Connections.{Connection, PoolState, SameRest, changed, connections, numbered, taken_out}
+use Rattle.tds_pool.specs.Connections.{Connection, PoolState, SameRest, changed_in, connections, numbered, taken_out}
 use Rattle.tds_pool.specs.declared.lease.Lease.{Lease}
 use Rattle.tds_pool.specs.declared.lease.Ticket.{Ticket}
 use Rattle.tds_pool.specs.declared.seat.Place.TheVariants.{Kept, Leased}
@@ -101,24 +101,24 @@ pooled_more_lost max size hs h c p q all out number last max_same size_same cut 
 -- ---- What leases and tickets stand for
 
 -- A connection changes, but not its key, its turn, its place or its holder. It may be in the pool no longer.
-pub known_changed : {E S : Type 0} (leases : List (Option Lease)) (tickets : List (Option Ticket)) (n : ℕ) (f : Connection → Connection) (hs new : List (Held E S)) (pcs : List Connection) → AreKnown leases tickets hs pcs → KeepsNumber f → ((c : Connection) → stamp_of (f c) ≡ stamp_of c) → ((c : Connection) → (f c).place ≡ c.place) → HeldBut n hs new → holder_at new n ≡ holder_at hs n → AreKnown leases tickets new (changed n f pcs)
+pub known_changed : {E S : Type 0} (leases : List (Option Lease)) (tickets : List (Option Ticket)) (n : ℕ) (f : Connection → Connection) (hs new : List (Held E S)) (pcs : List Connection) → AreKnown leases tickets hs pcs → KeepsNumber f → ((c : Connection) → stamp_of (f c) ≡ stamp_of c) → ((c : Connection) → (f c).place ≡ c.place) → HeldBut n hs new → holder_at new n ≡ holder_at hs n → AreKnown leases tickets new (changed_in n f pcs)
 known_changed {E} {S} leases tickets n f hs new pcs known number stamp place held holder = by_found (numbered n pcs) refl
   where
-    others : SameBut n pcs (changed n f pcs)
+    others : SameBut n pcs (changed_in n f pcs)
     others = changed_others n f pcs number
 
-    by_found : (o : Option Connection) → numbered n pcs ≡ o → AreKnown leases tickets new (changed n f pcs)
+    by_found : (o : Option Connection) → numbered n pcs ≡ o → AreKnown leases tickets new (changed_in n f pcs)
     by_found None e =
-        let gone : numbered n (changed n f pcs) ≡ None = changed_here n f pcs number ∙ ap (option_map f) e in
+        let gone : numbered n (changed_in n f pcs) ≡ None = changed_here n f pcs number ∙ ap (option_map f) e in
         record {
-          leases_are = of_gone Leased lease_stamp (λ (l : Lease). l.number) leases n hs new pcs (changed n f pcs) known.leases_are others held gone;
-          tickets_are = of_gone Kept ticket_stamp (λ (t : Ticket). t.number) tickets n hs new pcs (changed n f pcs) known.tickets_are others held gone;
+          leases_are = of_gone Leased lease_stamp (λ (l : Lease). l.number) leases n hs new pcs (changed_in n f pcs) known.leases_are others held gone;
+          tickets_are = of_gone Kept ticket_stamp (λ (t : Ticket). t.number) tickets n hs new pcs (changed_in n f pcs) known.tickets_are others held gone;
         }
     by_found (Some c) e =
-        let now : numbered n (changed n f pcs) ≡ Some (f c) = changed_here n f pcs number ∙ ap (option_map f) e in
+        let now : numbered n (changed_in n f pcs) ≡ Some (f c) = changed_here n f pcs number ∙ ap (option_map f) e in
         record {
-          leases_are = of_same Leased lease_stamp (λ (l : Lease). l.number) leases n hs new pcs (changed n f pcs) c (f c) known.leases_are others held e now (stamp c) (place c) holder;
-          tickets_are = of_same Kept ticket_stamp (λ (t : Ticket). t.number) tickets n hs new pcs (changed n f pcs) c (f c) known.tickets_are others held e now (stamp c) (place c) holder;
+          leases_are = of_same Leased lease_stamp (λ (l : Lease). l.number) leases n hs new pcs (changed_in n f pcs) c (f c) known.leases_are others held e now (stamp c) (place c) holder;
+          tickets_are = of_same Kept ticket_stamp (λ (t : Ticket). t.number) tickets n hs new pcs (changed_in n f pcs) c (f c) known.tickets_are others held e now (stamp c) (place c) holder;
         }
 
 -- A link changes, and its holder not.

@@ -33,7 +33,7 @@ use Rattle.tds_play.specs.declared.player.Player.{Player}
 use Rattle.tds_play.specs.declared.seat.Held.{Held}
 use Rattle.tds_play.specs.Lending.{Missing, Opens as OpensOne, standing_of, lent as lent_of}
 use Rattle.tds_play.specs.Noted.{about_of}
-use Rattle.tds_play.specs.Pipe.{Begun, Pipe, traffic}
+use Rattle.tds_play.specs.Pipe.{BegunEvent, Pipe, traffic}
 use Rattle.tds_play.specs.Player.{AreHeld, RepresentsWorld, all_of}
 use Rattle.tds_play.specs.Plays.{RepresentsConnection, cut_where}
 use Rattle.tds_play.specs.Pooled.{AreKnown, numbers_kept, numbers_leased}
@@ -102,7 +102,7 @@ again_steps {E} {S} answers unseen waits marks next conn lease old mid new p pip
 -- ---- One that is new
 
 -- What it stands for, in its seat.
-pub new_played : {E S : Type 0} (next conn : ℕ) (old mid new : Player E S) (p : PoolState) (pipes pipes' : ℕ → Option Pipe) (told still : List Begun) (done : EventDone) (seat : Seat) → mid ≡ record old { pool = p; leases = mid.leases } → (o : OpensAs conn next mid new pipes pipes' told still done) → (done.lost ≡ false → seat ≡ seated (Leased next) (new_session old.size))
+pub new_played : {E S : Type 0} (next conn : ℕ) (old mid new : Player E S) (p : PoolState) (pipes pipes' : ℕ → Option Pipe) (told still : List BegunEvent) (done : EventDone) (seat : Seat) → mid ≡ record old { pool = p; leases = mid.leases } → (o : OpensAs conn next mid new pipes pipes' told still done) → (done.lost ≡ false → seat ≡ seated (Leased next) (new_session old.size))
     → RepresentsConnection conn old.size old.engine o.link seat (pipes' conn) (cut_where done.lost (model.new_connection old.on_attention (Leased next)))
 new_played {E} {S} next conn old mid new p pipes pipes' told still done seat was o lent = by_lost done.lost refl
   where
@@ -113,7 +113,7 @@ new_played {E} {S} next conn old mid new p pipes pipes' told still done seat was
     by_lost true gone = cut_seat conn old.size old.engine o.link (seated (Leased next) (new_session old.size)) seat (pipes' conn) _ (o.uncut ∙ gone) played
     by_lost false whole = subst (λ (x : Seat). RepresentsConnection conn old.size old.engine o.link x (pipes' conn) (cut_where done.lost (model.new_connection old.on_attention (Leased next)))) (sym (lent whole)) played
 
-pub new_reading : {E S : Type 0} (next conn : ℕ) (old mid new : Player E S) (p : PoolState) (pipes pipes' : ℕ → Option Pipe) (told still : List Begun) (done : EventDone) (seat : Seat) → mid ≡ record old { pool = p; leases = mid.leases } → (o : OpensAs conn next mid new pipes pipes' told still done) → (done.lost ≡ false → seat ≡ seated (Leased next) (new_session old.size))
+pub new_reading : {E S : Type 0} (next conn : ℕ) (old mid new : Player E S) (p : PoolState) (pipes pipes' : ℕ → Option Pipe) (told still : List BegunEvent) (done : EventDone) (seat : Seat) → mid ≡ record old { pool = p; leases = mid.leases } → (o : OpensAs conn next mid new pipes pipes' told still done) → (done.lost ≡ false → seat ≡ seated (Leased next) (new_session old.size))
     → IsReading old.size o.link seat.client.columns (pipes' conn)
 new_reading {E} {S} next conn old mid new p pipes pipes' told still done seat was o lent =
     let r : IsReading old.size o.link None (pipes' conn) = subst (λ (x : Player E S). IsReading x.size o.link None (pipes' conn)) was o.reading in

@@ -6,7 +6,7 @@ use Rattle.tds_client.specs.Sending.{cancelled}
 use Rattle.tds_client.specs.Session.{ClientSession, Stage, Idle, Sending, Reading, Cancelling, Broken}
 use Rattle.tds_pool.specs.Calls.{Returned, abandoned, all_numbers, given_back, is_broken, is_draining, is_held, is_kept_for, is_lent_for, kept_for, lent_to, only, put_back, rested, rests_at, session_behind, standing}
 use Rattle.tds_pool.specs.Calls as calls
-use Rattle.tds_pool.specs.Connections.{Connection, changed, ended_at, next_turn, numbered, taken_out, with_client}
+use Rattle.tds_pool.specs.Connections.{Connection, changed_in, lending_ended_at, next_turn, numbered, taken_out, with_client}
 use Rattle.tds_pool.specs.declared.answers.GivenBack.{GivenBack}
 use Rattle.tds_pool.specs.declared.answers.GivenBack.TheVariants as given
 use Rattle.tds_pool.specs.declared.lease.Lease.{Lease}
@@ -58,18 +58,18 @@ taken_alike n (c ∷ cs) (d ∷ ds) same =
     ∙ sym (ap all_numbers (taken_later n c cs other)))
 
 -- A change of one that is taken out then makes no difference.
-pub taken_changed : (n : ℕ) (f : Connection → Connection) (cs : List Connection) → KeepsNumber f → taken_out n (changed n f cs) ≡ taken_out n cs
+pub taken_changed : (n : ℕ) (f : Connection → Connection) (cs : List Connection) → KeepsNumber f → taken_out n (changed_in n f cs) ≡ taken_out n cs
 taken_changed n f [] keeps = refl
 taken_changed n f (c ∷ cs) keeps =
     by_number _ c.number n
     (λ is e.
-    ap (λ (b : Bool). taken_out n (cond b (f c) c ∷ changed n f cs)) e
-    ∙ taken_first n (f c) (changed n f cs) (keeps c ∙ is)
+    ap (λ (b : Bool). taken_out n (cond b (f c) c ∷ changed_in n f cs)) e
+    ∙ taken_first n (f c) (changed_in n f cs) (keeps c ∙ is)
     ∙ taken_changed n f cs keeps
     ∙ sym (taken_first n c cs is))
     (λ other e.
-    ap (λ (b : Bool). taken_out n (cond b (f c) c ∷ changed n f cs)) e
-    ∙ taken_later n c (changed n f cs) other
+    ap (λ (b : Bool). taken_out n (cond b (f c) c ∷ changed_in n f cs)) e
+    ∙ taken_later n c (changed_in n f cs) other
     ∙ ap (λ xs. c ∷ xs) (taken_changed n f cs keeps)
     ∙ sym (taken_later n c cs other))
 
@@ -82,7 +82,7 @@ pub record Leaves (n : ℕ) (old new : List Connection) : Type 0 where
 pub leaves_none : (n : ℕ) (cs : List Connection) → Leaves n cs cs
 leaves_none n cs = record { others = λ m other. refl; out = refl }
 
-pub leaves_changed : (n : ℕ) (f : Connection → Connection) (cs : List Connection) → KeepsNumber f → Leaves n cs (changed n f cs)
+pub leaves_changed : (n : ℕ) (f : Connection → Connection) (cs : List Connection) → KeepsNumber f → Leaves n cs (changed_in n f cs)
 leaves_changed n f cs keeps = record {
   others = changed_others n f cs keeps;
   out = ap all_numbers (taken_changed n f cs keeps);
@@ -204,7 +204,7 @@ draining_is places.Free e = absurd (cc)
 draining_is places.Draining e = refl
 draining_is places.Cleaning e = absurd (cc)
 
-moved_to : (n : ℕ) (cs : List Connection) (c : Connection) (p : Place) (a : GivenBack) → numbered n cs ≡ Some c → c.place ≡ places.Draining → IsMoved n cs c (record { answer = a; connections = ended_at n p cs })
+moved_to : (n : ℕ) (cs : List Connection) (c : Connection) (p : Place) (a : GivenBack) → numbered n cs ≡ Some c → c.place ≡ places.Draining → IsMoved n cs c (record { answer = a; connections = lending_ended_at n p cs })
 moved_to n cs c p a found drains = record {
   others = changed_others n (ends p) cs (λ d. refl);
   numbers = changed_numbers n (ends p) cs (λ d. refl);

@@ -5,7 +5,7 @@ use Rattle.std.specs.Prelude.{option_map, slice_set}
 use Rattle.tds_client.specs.Session.{ClientSession, marked}
 use Rattle.tds_packet.specs.declared.status.Reset.{Reset}
 use Rattle.tds_pool.specs.Calls.{lent_again}
-use Rattle.tds_pool.specs.Connections.{Connection, at_place, changed, numbered, taken_out, with_client}
+use Rattle.tds_pool.specs.Connections.{Connection, at_place, changed_in, numbered, taken_out, with_client}
 use Rattle.tds_pool.specs.declared.seat.Place.{Place}
 use Rattle.tds_pool.specs.declared.seat.Place.TheVariants.{Leased}
 use Rattle.tds_play.specs.Pooled.{seated_from, seated_in}
@@ -14,12 +14,12 @@ use Rattle.tds_play.proofs.pooled.Changes.{KeepsNumber, added_here, added_others
 use Rattle.tds_play.proofs.pooled.Seated.{seated_more, seated_set}
 
 -- The connection at a place changes in the pool, and maybe in the list.
-pub seated_changed : {E S : Type 0} (place : ℕ) (f : Connection → Connection) (hs : List (Held E S)) (h : Held E S) (pcs : List Connection) (c : Connection) → KeepsNumber f → numbered (suc place) pcs ≡ Some c → seated_from 1 (slice_set hs place h) (changed (suc place) f pcs) ≡ slice_set (seated_from 1 hs pcs) place (seated_in h (Some (f c)))
+pub seated_changed : {E S : Type 0} (place : ℕ) (f : Connection → Connection) (hs : List (Held E S)) (h : Held E S) (pcs : List Connection) (c : Connection) → KeepsNumber f → numbered (suc place) pcs ≡ Some c → seated_from 1 (slice_set hs place h) (changed_in (suc place) f pcs) ≡ slice_set (seated_from 1 hs pcs) place (seated_in h (Some (f c)))
 seated_changed place f hs h pcs c keeps there =
     let one : 1 + place ≡ suc place = omega arith in
-    let now : numbered (1 + place) (changed (suc place) f pcs) ≡ Some (f c) =
-    ap (λ (n : ℕ). numbered n (changed (suc place) f pcs)) one ∙ changed_here (suc place) f pcs keeps ∙ ap (option_map f) there in
-    seated_set 1 place hs h pcs (changed (suc place) f pcs) (λ m other. changed_others (suc place) f pcs keeps m (λ is. other (is ∙ sym one)))
+    let now : numbered (1 + place) (changed_in (suc place) f pcs) ≡ Some (f c) =
+    ap (λ (n : ℕ). numbered n (changed_in (suc place) f pcs)) one ∙ changed_here (suc place) f pcs keeps ∙ ap (option_map f) there in
+    seated_set 1 place hs h pcs (changed_in (suc place) f pcs) (λ m other. changed_others (suc place) f pcs keeps m (λ is. other (is ∙ sym one)))
     ∙ ap (λ o. slice_set (seated_from 1 hs pcs) place (seated_in h o)) now
 
 -- The list with what stands at a place there again.
@@ -29,9 +29,9 @@ set_again (y ∷ xs) zero x at = let is : y ≡ x = cc in ap (λ z. z ∷ xs) (s
 set_again (y ∷ xs) (suc place) x at = ap (λ zs. y ∷ zs) (set_again xs place x at)
 
 -- It changes in the pool only.
-pub seated_moved : {E S : Type 0} (place : ℕ) (f : Connection → Connection) (hs : List (Held E S)) (h : Held E S) (pcs : List Connection) (c : Connection) → KeepsNumber f → slice_get hs place ≡ Some h → numbered (suc place) pcs ≡ Some c → seated_from 1 hs (changed (suc place) f pcs) ≡ slice_set (seated_from 1 hs pcs) place (seated_in h (Some (f c)))
+pub seated_moved : {E S : Type 0} (place : ℕ) (f : Connection → Connection) (hs : List (Held E S)) (h : Held E S) (pcs : List Connection) (c : Connection) → KeepsNumber f → slice_get hs place ≡ Some h → numbered (suc place) pcs ≡ Some c → seated_from 1 hs (changed_in (suc place) f pcs) ≡ slice_set (seated_from 1 hs pcs) place (seated_in h (Some (f c)))
 seated_moved place f hs h pcs c keeps at there =
-    ap (λ xs. seated_from 1 xs (changed (suc place) f pcs)) (sym (set_again hs place h at))
+    ap (λ xs. seated_from 1 xs (changed_in (suc place) f pcs)) (sym (set_again hs place h at))
     ∙ seated_changed place f hs h pcs c keeps there
 
 -- Its link changes only.

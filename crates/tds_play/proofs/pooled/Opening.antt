@@ -13,7 +13,7 @@ use Rattle.tds_world.specs.declared.outcome.Opened.TheVariants as opened
 use Rattle.tds_world.specs.declared.outcome.Outcome.TheVariants as outcome
 use Rattle.tds_play.specs.declared.link.EventDone.{EventDone}
 use Rattle.tds_play.specs.Failures.{Fails, Open}
-use Rattle.tds_play.specs.Pipe.{Begun, Pipe, traffic}
+use Rattle.tds_play.specs.Pipe.{BegunEvent, Pipe, traffic}
 use Rattle.tds_play.specs.Plays.{RepresentsConnection, cut_where}
 use Rattle.tds_play.specs.Reads.{IsReading}
 use Rattle.tds_play.specs.Ties.{OpensTies}
@@ -212,7 +212,7 @@ lost_not {E} {S} conn lost old mid is same = record {
   gone = λ e. let bad : true ≡ false = sym e ∙ is in absurd (cc);
 }
 
-pub opens_as : {E S : Type 0} (conn lease : ℕ) (old mid new : Player E S) (link : Link E S) (lost : Bool) (pipes pipes' : ℕ → Option Pipe) (told still : List Begun) (done : EventDone)
+pub opens_as : {E S : Type 0} (conn lease : ℕ) (old mid new : Player E S) (link : Link E S) (lost : Bool) (pipes pipes' : ℕ → Option Pipe) (told still : List BegunEvent) (done : EventDone)
     → LostBy conn lost old mid → new.links.items ≡ mid.links.items ++ record { link = link; holder = lease } ∷ [] → new ≡ record mid { links = new.links }
     → done ≡ record { outcome = outcome.Leased lease conn opened.New; lost = lost }
     → link.number ≡ conn → link.is_cut ≡ lost → OpensTies conn link pipes pipes' told still → Fails (Open ∷ []) lost (pipes' conn)
@@ -313,7 +313,7 @@ lent_new_of conn lease said old new None at reused fresh first used allowed is =
 
 -- ---- The player that opens it
 
-pub opened_by : {E S : Type 0} (next conn : ℕ) (lease : Lease) (old mid new : Player E S) (p : PoolState) (pipes pipes' : ℕ → Option Pipe) (told still : List Begun) (done : EventDone) → LentNew conn lease old.pool p → next ≡ min (suc (length old.leases)) 4294967295 → mid ≡ record old { pool = p; leases = mid.leases } → mid.leases ≡ old.leases ++ Some lease ∷ [] → (o : OpensAs conn next mid new pipes pipes' told still done) → OpenedBy next conn lease.key lease o.link done.lost old new
+pub opened_by : {E S : Type 0} (next conn : ℕ) (lease : Lease) (old mid new : Player E S) (p : PoolState) (pipes pipes' : ℕ → Option Pipe) (told still : List BegunEvent) (done : EventDone) → LentNew conn lease old.pool p → next ≡ min (suc (length old.leases)) 4294967295 → mid ≡ record old { pool = p; leases = mid.leases } → mid.leases ≡ old.leases ++ Some lease ∷ [] → (o : OpensAs conn next mid new pipes pipes' told still done) → OpenedBy next conn lease.key lease o.link done.lost old new
 opened_by {E} {S} next conn lease old mid new p pipes pipes' told still done lent is_next was begun o =
     let same_pool : mid.pool ≡ p = ap (λ (x : Player E S). x.pool) was in
     record {

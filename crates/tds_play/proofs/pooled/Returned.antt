@@ -9,7 +9,7 @@ use Rattle.tds_pool.specs.Calls.{Returned, abandoned, all_numbers, given_back, i
 use Rattle.tds_pool.specs.Calls as calls
 use Rattle.tds_pool.specs.declared.answers.GivenBack.{GivenBack}
 use Rattle.tds_pool.specs.declared.answers.GivenBack.TheVariants as given
-use Rattle.tds_pool.specs.Connections.{Connection, ended_at, next_turn, numbered, with_client}
+use Rattle.tds_pool.specs.Connections.{Connection, lending_ended_at, next_turn, numbered, with_client}
 use Rattle.tds_pool.specs.declared.lease.Lease.{Lease}
 use Rattle.tds_pool.specs.declared.lease.Ticket.{Ticket}
 use Rattle.tds_pool.specs.declared.seat.Place.{Place}
@@ -55,7 +55,7 @@ abbrev pub ends : Place → Connection → Connection
 ends p c = record c { place = p; turn = next_turn c.turn }
 
 abbrev pub rest_returned : ℕ → Bool → List Connection → Returned
-rest_returned n idle pcs = record { answer = rest_answer idle n; connections = ended_at n (rest_place idle) pcs }
+rest_returned n idle pcs = record { answer = rest_answer idle n; connections = lending_ended_at n (rest_place idle) pcs }
 
 pub rested_is : (n : ℕ) (s : Stage) (pcs : List Connection) → is_broken s ≡ false → rested n (rests_at s) pcs ≡ rest_returned n (is_idle s) pcs
 rested_is n (Broken fault) pcs e = absurd (cc)
@@ -185,17 +185,17 @@ given_back_is lease pcs c known found same sound =
     ∙ put_back_is lease.number (with_client lease.number c.client pcs) (record c { client = c.client }) is sound
 
 -- Of its number the pool has the same, elsewhere placed, and the others are as they were.
-pub given_back_here : (lease : Lease) (pcs : List Connection) (c : Connection) (idle : Bool) → numbered lease.number pcs ≡ Some c → numbered lease.number (ended_at lease.number (rest_place idle) (with_client lease.number c.client pcs)) ≡ Some (ends (rest_place idle) c)
+pub given_back_here : (lease : Lease) (pcs : List Connection) (c : Connection) (idle : Bool) → numbered lease.number pcs ≡ Some c → numbered lease.number (lending_ended_at lease.number (rest_place idle) (with_client lease.number c.client pcs)) ≡ Some (ends (rest_place idle) c)
 given_back_here lease pcs c idle found =
     changed_here lease.number (ends (rest_place idle)) (with_client lease.number c.client pcs) (λ d. refl)
     ∙ ap (option_map (ends (rest_place idle))) (changed_here lease.number (λ (d : Connection). record d { client = c.client }) pcs (λ d. refl) ∙ ap (option_map (λ (d : Connection). record d { client = c.client })) found)
 
-pub given_back_others : (lease : Lease) (pcs : List Connection) (s : ClientSession) (p : Place) → SameBut lease.number pcs (ended_at lease.number p (with_client lease.number s pcs))
+pub given_back_others : (lease : Lease) (pcs : List Connection) (s : ClientSession) (p : Place) → SameBut lease.number pcs (lending_ended_at lease.number p (with_client lease.number s pcs))
 given_back_others lease pcs s p m other =
     changed_others lease.number (ends p) (with_client lease.number s pcs) (λ d. refl) m other
     ∙ changed_others lease.number (λ (d : Connection). record d { client = s }) pcs (λ d. refl) m other
 
-pub given_back_numbers : (n : ℕ) (pcs : List Connection) (s : ClientSession) (p : Place) → all_numbers (ended_at n p (with_client n s pcs)) ≡ all_numbers pcs
+pub given_back_numbers : (n : ℕ) (pcs : List Connection) (s : ClientSession) (p : Place) → all_numbers (lending_ended_at n p (with_client n s pcs)) ≡ all_numbers pcs
 given_back_numbers n pcs s p =
     changed_numbers n (ends p) (with_client n s pcs) (λ d. refl)
     ∙ changed_numbers n (λ (d : Connection). record d { client = s }) pcs (λ d. refl)

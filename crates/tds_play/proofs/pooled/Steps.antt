@@ -20,7 +20,7 @@ use Rattle.tds_play.specs.declared.link.EventDone.{EventDone}
 use Rattle.tds_play.specs.declared.player.Player.{Player}
 use Rattle.tds_play.specs.declared.seat.Held.{Held}
 use Rattle.tds_play.specs.Failures.{FailsOn, LiveAreSound, all_known, calls_of}
-use Rattle.tds_play.specs.Pipe.{AreFaithfulTo, AreSameBeyond, Begun, IsFaithful, Pipe}
+use Rattle.tds_play.specs.Pipe.{AreFaithfulTo, AreSameBeyond, BegunEvent, IsFaithful, Pipe}
 use Rattle.tds_play.specs.Player.{IsFound, ModelGivesEach, RefinesEvent, RepresentsWorld, all_of}
 use Rattle.tds_play.specs.Plays.{acts_on, loss_of}
 use Rattle.tds_play.specs.Pooled.{seat_in, seated_in}
@@ -64,25 +64,25 @@ within_all player place h at =
 
 -- ---- What a step keeps
 
-pub steps_count : {E S : Type 0} (answers : E → Answers) (e : Event) (place : ℕ) (old new : Player E S) (pipes pipes' : ℕ → Option Pipe) (told still : List Begun) (done : EventDone) → StepsAt answers e place old new pipes pipes' told still done → length new.links.items ≡ length old.links.items
+pub steps_count : {E S : Type 0} (answers : E → Answers) (e : Event) (place : ℕ) (old new : Player E S) (pipes pipes' : ℕ → Option Pipe) (told still : List BegunEvent) (done : EventDone) → StepsAt answers e place old new pipes pipes' told still done → length new.links.items ≡ length old.links.items
 steps_count answers e place old new pipes pipes' told still done s = ap length s.links ∙ length_set old.links.items place s.now
 
-pub steps_tied : {E S : Type 0} (answers : E → Answers) (e : Event) (place : ℕ) (old new : Player E S) (pipes pipes' : ℕ → Option Pipe) (told still : List Begun) (done : EventDone) → StepsAt answers e place old new pipes pipes' told still done → AreTied (all_of old) pipes → AreTied (all_of new) pipes'
+pub steps_tied : {E S : Type 0} (answers : E → Answers) (e : Event) (place : ℕ) (old new : Player E S) (pipes pipes' : ℕ → Option Pipe) (told still : List BegunEvent) (done : EventDone) → StepsAt answers e place old new pipes pipes' told still done → AreTied (all_of old) pipes → AreTied (all_of new) pipes'
 steps_tied {E} {S} answers e place old new pipes pipes' told still done s tied =
     subst (λ (ls : List (Seated E S)). AreTied ls pipes') (sym s.all)
     (changed (all_of old) place (in_player s.was old) (in_player s.now new) pipes pipes' tied (within_all old place s.was s.at) (stands_at old place s.was s.at s.number) s.same_number s.ties.tied s.ties.others)
 
-pub steps_sound : {E S : Type 0} (answers : E → Answers) (e : Event) (place : ℕ) (old new : Player E S) (pipes pipes' : ℕ → Option Pipe) (told still : List Begun) (done : EventDone) → StepsAt answers e place old new pipes pipes' told still done → AreTied (all_of old) pipes → LiveAreSound (all_of old) pipes → LiveAreSound (all_of new) pipes'
+pub steps_sound : {E S : Type 0} (answers : E → Answers) (e : Event) (place : ℕ) (old new : Player E S) (pipes pipes' : ℕ → Option Pipe) (told still : List BegunEvent) (done : EventDone) → StepsAt answers e place old new pipes pipes' told still done → AreTied (all_of old) pipes → LiveAreSound (all_of old) pipes → LiveAreSound (all_of new) pipes'
 steps_sound {E} {S} answers e place old new pipes pipes' told still done s tied sound =
     subst (λ (ls : List (Seated E S)). LiveAreSound ls pipes') (sym s.all)
     (acted_sound (all_of old) place (in_player s.was old) (in_player s.now new) pipes pipes' (calls_of e) done tied (within_all old place s.was s.at) (stands_at old place s.was s.at s.number) s.ties.others s.failed (λ cut. (s.gone cut).1) sound)
 
-pub steps_reads : {E S : Type 0} (answers : E → Answers) (e : Event) (place : ℕ) (old new : Player E S) (pipes pipes' : ℕ → Option Pipe) (told still : List Begun) (done : EventDone) → StepsAt answers e place old new pipes pipes' told still done → AreTied (all_of old) pipes → (size : ℕ) (so_far : Answered) → IsAbout e place → AllRead size (all_of old) pipes so_far → AllRead size (all_of new) pipes' (answers_then e done.outcome so_far)
+pub steps_reads : {E S : Type 0} (answers : E → Answers) (e : Event) (place : ℕ) (old new : Player E S) (pipes pipes' : ℕ → Option Pipe) (told still : List BegunEvent) (done : EventDone) → StepsAt answers e place old new pipes pipes' told still done → AreTied (all_of old) pipes → (size : ℕ) (so_far : Answered) → IsAbout e place → AllRead size (all_of old) pipes so_far → AllRead size (all_of new) pipes' (answers_then e done.outcome so_far)
 steps_reads {E} {S} answers e place old new pipes pipes' told still done s tied size so_far about all =
     subst (λ (ls : List (Seated E S)). AllRead size ls pipes' (answers_then e done.outcome so_far)) (sym s.all)
     (acted_reads size (all_of old) place (in_player s.was old) (in_player s.now new) pipes pipes' so_far e done.outcome tied (within_all old place s.was s.at) (stands_at old place s.was s.at s.number) s.ties.others (s.reads size) about all)
 
-pub steps_lost : {E S : Type 0} (answers : E → Answers) (e : Event) (place : ℕ) (old new : Player E S) (pipes pipes' : ℕ → Option Pipe) (told still : List Begun) (done : EventDone) → StepsAt answers e place old new pipes pipes' told still done → AreTied (all_of old) pipes → (setup : Setup) (engine : E) (w : World) (c : Connection) → LiveAreSound (all_of old) pipes → RepresentsWorld setup engine old pipes w → IsFound setup (answers engine) w e place c → FailsOn e done.lost (link_of setup w e) (all_known (length old.links.items) pipes) (all_known (length new.links.items) pipes')
+pub steps_lost : {E S : Type 0} (answers : E → Answers) (e : Event) (place : ℕ) (old new : Player E S) (pipes pipes' : ℕ → Option Pipe) (told still : List BegunEvent) (done : EventDone) → StepsAt answers e place old new pipes pipes' told still done → AreTied (all_of old) pipes → (setup : Setup) (engine : E) (w : World) (c : Connection) → LiveAreSound (all_of old) pipes → RepresentsWorld setup engine old pipes w → IsFound setup (answers engine) w e place c → FailsOn e done.lost (link_of setup w e) (all_known (length old.links.items) pipes) (all_known (length new.links.items) pipes')
 steps_lost answers e place old new pipes pipes' told still done s tied setup engine w c sound is found =
     subst (λ (n : ℕ). FailsOn e done.lost (link_of setup w e) (all_known n pipes) (all_known (length new.links.items) pipes')) (many_of old)
     (acted_lost (all_of old) place (length new.links.items) (in_player s.was old) (in_player s.now new) pipes pipes' e done (link_of setup w e) tied (within_all old place s.was s.at) (stands_at old place s.was s.at s.number) s.ties.others s.failed
@@ -97,7 +97,7 @@ by_outcome : (Q : Outcome → Type 0) (o : Outcome) → ((why : Refusal) → Q (
 by_outcome Q (outcome.Refused why) refused applied = refused why
 by_outcome Q o refused applied = applied (λ why z. cc)
 
-pub steps_refine : {E S : Type 0} (answers : E → Answers) (e : Event) (place : ℕ) (old new : Player E S) (pipes pipes' : ℕ → Option Pipe) (told still : List Begun) (done : EventDone) → StepsAt answers e place old new pipes pipes' told still done → (setup : Setup) (engine : E) (w : World) (c : Connection) → IsFaithful (pipes' (suc place)) → RepresentsWorld setup engine old pipes w → ModelGivesEach E (answers engine) setup w → IsFound setup (answers engine) w e place c → ((k : ℕ) → OfEachConnection IsCountable (happens setup (answers engine) (bringing k e) w).1) → RefinesEvent setup engine (answers engine) done new pipes' e w
+pub steps_refine : {E S : Type 0} (answers : E → Answers) (e : Event) (place : ℕ) (old new : Player E S) (pipes pipes' : ℕ → Option Pipe) (told still : List BegunEvent) (done : EventDone) → StepsAt answers e place old new pipes pipes' told still done → (setup : Setup) (engine : E) (w : World) (c : Connection) → IsFaithful (pipes' (suc place)) → RepresentsWorld setup engine old pipes w → ModelGivesEach E (answers engine) setup w → IsFound setup (answers engine) w e place c → ((k : ℕ) → OfEachConnection IsCountable (happens setup (answers engine) (bringing k e) w).1) → RefinesEvent setup engine (answers engine) done new pipes' e w
 steps_refine {E} {S} answers e place old new pipes pipes' told still done s setup engine w c faithful is promised found countable =
     by_outcome (λ (o : Outcome). done.outcome ≡ o → RefinesEvent setup engine (answers engine) done new pipes' e w) done.outcome
     (λ why refused. refused_alike setup engine (answers engine) w e place c old new pipes pipes' done why is found link acts s.setup (s.noted.refused why refused) refused)
@@ -117,25 +117,25 @@ steps_refine {E} {S} answers e place old new pipes pipes' told still done s setu
         (λ played counts is_ready. s.refines setup engine w c (subst (λ (n : ℕ). IsFaithful (pipes' n)) (sym s.number) faithful) is promised promise played is_ready counts))
 
 -- Where what came then is the first of what was handed over, it was so before.
-pub steps_faithful : {E S : Type 0} (answers : E → Answers) (e : Event) (place : ℕ) (old new : Player E S) (pipes pipes' : ℕ → Option Pipe) (told still : List Begun) (done : EventDone) → StepsAt answers e place old new pipes pipes' told still done → AreFaithfulTo (length new.links.items) pipes' → AreFaithfulTo (length old.links.items) pipes
+pub steps_faithful : {E S : Type 0} (answers : E → Answers) (e : Event) (place : ℕ) (old new : Player E S) (pipes pipes' : ℕ → Option Pipe) (told still : List BegunEvent) (done : EventDone) → StepsAt answers e place old new pipes pipes' told still done → AreFaithfulTo (length new.links.items) pipes' → AreFaithfulTo (length old.links.items) pipes
 steps_faithful answers e place old new pipes pipes' told still done s all =
     faithful_to s.was.link.number pipes pipes' s.ties.others s.ties.faithful (length old.links.items)
     (subst (λ (n : ℕ). AreFaithfulTo n pipes') (steps_count answers e place old new pipes pipes' told still done s) all)
 
 -- What came on its connection is the first of what was handed over, where it is so on all.
-pub steps_here : {E S : Type 0} (answers : E → Answers) (e : Event) (place : ℕ) (old new : Player E S) (pipes pipes' : ℕ → Option Pipe) (told still : List Begun) (done : EventDone) → StepsAt answers e place old new pipes pipes' told still done → AreFaithfulTo (length new.links.items) pipes' → IsFaithful (pipes' (suc place))
+pub steps_here : {E S : Type 0} (answers : E → Answers) (e : Event) (place : ℕ) (old new : Player E S) (pipes pipes' : ℕ → Option Pipe) (told still : List BegunEvent) (done : EventDone) → StepsAt answers e place old new pipes pipes' told still done → AreFaithfulTo (length new.links.items) pipes' → IsFaithful (pipes' (suc place))
 steps_here answers e place old new pipes pipes' told still done s all =
     let within : place < length old.links.items = slice_get_within old.links.items place s.was s.at in
     all place (omega (arith, within, steps_count answers e place old new pipes pipes' told still done s))
 
 -- Nothing changes at the carrier but on a connection of the player.
-pub steps_beyond : {E S : Type 0} (answers : E → Answers) (e : Event) (place : ℕ) (old new : Player E S) (pipes pipes' : ℕ → Option Pipe) (told still : List Begun) (done : EventDone) → StepsAt answers e place old new pipes pipes' told still done → AreSameBeyond (length new.links.items) pipes pipes'
+pub steps_beyond : {E S : Type 0} (answers : E → Answers) (e : Event) (place : ℕ) (old new : Player E S) (pipes pipes' : ℕ → Option Pipe) (told still : List BegunEvent) (done : EventDone) → StepsAt answers e place old new pipes pipes' told still done → AreSameBeyond (length new.links.items) pipes pipes'
 steps_beyond answers e place old new pipes pipes' told still done s n beyond =
     let within : place < length old.links.items = slice_get_within old.links.items place s.was s.at in
     s.ties.others n (λ same. beyond place (omega (arith, within, steps_count answers e place old new pipes pipes' told still done s)) (same ∙ s.number))
 
 -- A step for whatever the carrier was told of.
-pub for_told : {E S : Type 0} (answers : E → Answers) (e : Event) (place : ℕ) (old new : Player E S) (pipes : ℕ → Option Pipe) (told : List Begun) (done : EventDone) → StepsAt answers e place old new pipes pipes [] [] done → StepsAt answers e place old new pipes pipes told told done
+pub for_told : {E S : Type 0} (answers : E → Answers) (e : Event) (place : ℕ) (old new : Player E S) (pipes : ℕ → Option Pipe) (told : List BegunEvent) (done : EventDone) → StepsAt answers e place old new pipes pipes [] [] done → StepsAt answers e place old new pipes pipes told told done
 for_told answers e place old new pipes told done s = record {
   was = s.was;
   now = s.now;
@@ -157,9 +157,9 @@ for_told answers e place old new pipes told done s = record {
 }
 
 -- It is of the event that it is.
-pub of_event : {E S B : Type 0} (answers : E → Answers) (e kind : Event) (place : ℕ) (old new : Player E S) (pipes pipes' : ℕ → Option Pipe) (told still : List Begun) (r : Result EventDone B) → e ≡ kind → IfOk r (λ done. StepsAt answers kind place old new pipes pipes' told still done) → IfOk r (λ done. StepsAt answers e place old new pipes pipes' told still done)
+pub of_event : {E S B : Type 0} (answers : E → Answers) (e kind : Event) (place : ℕ) (old new : Player E S) (pipes pipes' : ℕ → Option Pipe) (told still : List BegunEvent) (r : Result EventDone B) → e ≡ kind → IfOk r (λ done. StepsAt answers kind place old new pipes pipes' told still done) → IfOk r (λ done. StepsAt answers e place old new pipes pipes' told still done)
 of_event answers e kind place old new pipes pipes' told still r is s = subst (λ (x : Event). IfOk r (λ done. StepsAt answers x place old new pipes pipes' told still done)) (sym is) s
 
-pub of_quiet : {E S B : Type 0} (answers : E → Answers) (e kind : Event) (place : ℕ) (old new : Player E S) (pipes : ℕ → Option Pipe) (told : List Begun) (r : Result EventDone B) → e ≡ kind → IfOk r (λ done. StepsAt answers kind place old new pipes pipes [] [] done) → IfOk r (λ done. StepsAt answers e place old new pipes pipes told told done)
+pub of_quiet : {E S B : Type 0} (answers : E → Answers) (e kind : Event) (place : ℕ) (old new : Player E S) (pipes : ℕ → Option Pipe) (told : List BegunEvent) (r : Result EventDone B) → e ≡ kind → IfOk r (λ done. StepsAt answers kind place old new pipes pipes [] [] done) → IfOk r (λ done. StepsAt answers e place old new pipes pipes told told done)
 of_quiet answers e kind place old new pipes told (Ok done) is s = subst (λ (x : Event). StepsAt answers x place old new pipes pipes told told done) (sym is) (for_told answers kind place old new pipes told done s)
 of_quiet answers e kind place old new pipes told (Err why) is s = s

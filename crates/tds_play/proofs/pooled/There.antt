@@ -7,7 +7,7 @@ use Rattle.tds_pool.specs.Connections.{connections, numbered}
 use Rattle.tds_play.specs.declared.player.Player.{Player}
 use Rattle.tds_play.specs.declared.seat.Held.{Held}
 use Rattle.tds_play.specs.Failures.{LiveAreSound}
-use Rattle.tds_play.specs.Pipe.{Begun, Pipe}
+use Rattle.tds_play.specs.Pipe.{BegunEvent, Pipe}
 use Rattle.tds_play.specs.Player.{AreHeld, all_of}
 use Rattle.tds_play.specs.Pooled.{IsThere, seated_in}
 use Rattle.tds_play.specs.Seats.{Seated}
@@ -36,7 +36,7 @@ stands_there {E} {S} player place h pipes tied held within is =
     }
 
 -- Nothing was asked of its connection since the carrier was told of the event.
-pub unasked_there : {E S : Type 0} {is_told : Bool} (player : Player E S) (place : ℕ) (h : Held E S) (told : List Begun) (pipes : ℕ → Option Pipe)
+pub unasked_there : {E S : Type 0} {is_told : Bool} (player : Player E S) (place : ℕ) (h : Held E S) (told : List BegunEvent) (pipes : ℕ → Option Pipe)
     → AreTied (all_of player) pipes → IsJustTold is_told told pipes → LiveAreSound (all_of player) pipes → slice_get player.links.items place ≡ Some h → h.link.is_cut ≡ false → IsUnasked is_told told pipes h.link.number
 unasked_there {E} {S} player place h told pipes tied just sound at live =
     let x : Seated E S = seated_in h (numbered (1 + place) (connections player.pool)) in

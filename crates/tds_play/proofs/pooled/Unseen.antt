@@ -23,7 +23,7 @@ use Rattle.tds_play.specs.declared.player.Player.{Player}
 use Rattle.tds_play.specs.declared.seat.Held.{Held}
 use Rattle.tds_play.specs.Failures.{FailsAs, HasNoFailure, calls_of}
 use Rattle.tds_play.specs.Holdings.{conn_of}
-use Rattle.tds_play.specs.Pipe.{Begun, IsFaithful, Pipe}
+use Rattle.tds_play.specs.Pipe.{BegunEvent, IsFaithful, Pipe}
 use Rattle.tds_play.specs.Player.{AreHeld, ModelGivesEach, RepresentsWorld, all_of}
 use Rattle.tds_play.specs.Plays.{IsReady, MayLose, RefinesAct, RepresentsConnection, acts_on, after, loss_of}
 use Rattle.tds_play.specs.Pooled.{AreKnown, ArePooled, numbers_in, numbers_kept, numbers_leased, seat_in, seated_from, seated_in}
@@ -169,7 +169,7 @@ quiet_steps {E} {S} answers e place old new h k pipes done tied at same whole si
     number = number_at old place h pipes tied at
 
 -- One that it may see: what was told of its link and its seat, for its place.
-pub touched_steps : {E S : Type 0} (answers : E → Answers) (e : Event) (place : ℕ) (old new : Player E S) (h k : Held E S) (pipes pipes' : ℕ → Option Pipe) (told still : List Begun) (done : EventDone)
+pub touched_steps : {E S : Type 0} (answers : E → Answers) (e : Event) (place : ℕ) (old new : Player E S) (h k : Held E S) (pipes pipes' : ℕ → Option Pipe) (told still : List BegunEvent) (done : EventDone)
     → AreTied (all_of old) pipes → slice_get old.links.items place ≡ Some h → k.link.number ≡ h.link.number
     → new.links.items ≡ slice_set old.links.items place k
     → SameBut (suc place) (connections old.pool) (connections new.pool)

@@ -8,7 +8,7 @@ ghost use Rattle.tds_pool.specs.declared.lease.Ticket.{Ticket};
 ghost use Rattle.tds_pool.specs.declared.lease.Turn.{Turn};
 ghost use Rattle.tds_pool.specs.declared.seat.Place.{Place};
 ghost use Rattle.tds_numbers.specs.Table.{key_of, key_at, number_at};
-ghost use Rattle.tds_pool.specs.Connections.{connections, connection_of, numbered, at_place, ended_at, with_client, taken_out, SameRest};
+ghost use Rattle.tds_pool.specs.Connections.{connections, connection_of, numbered, at_place, lending_ended_at, with_client, taken_out, SameRest};
 ghost use Rattle.tds_pool.specs.declared.answers.PoolRefusal.{PoolRefusal};
 ghost use Rattle.tds_pool.specs.Lends.{with_client_under};
 ghost use Rattle.tds_pool.specs.Calls.{standing, lent_to, kept_for, lent_again, unless_idle, cancels, bytes_behind, IsAsked, settled, is_lent_for, is_kept_for};
@@ -166,7 +166,7 @@ impl Pool {
     /// Ends a lending of what is under this key, and puts it at another place of the pool.
     pub(crate) fn end_at(&mut self, key: usize, place: Place)
         ensures shown { IfSome (get self.old.seats key) (λ seat.
-            connections self.new ≡ ended_at seat.number place (connections self.old)) }
+            connections self.new ≡ lending_ended_at seat.number place (connections self.old)) }
         ensures table { self.new.entries ≡ self.old.entries }
         ensures rest { SameRest self.old self.new }
     {

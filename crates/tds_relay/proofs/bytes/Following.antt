@@ -6,7 +6,7 @@ use Rattle.tds_packet.specs.Stream.{IsLess, IsOnePacket}
 use Rattle.tds_service.specs.declared.service.Service.{Service}
 use Rattle.tds_wire.specs.Reading as parsers
 use Rattle.tds_relay.specs.Machine.{Machine}
-use Rattle.tds_relay.specs.Reads.{Another, AreReadIn, Call, Came, Comes, Follow, FollowAt, Reads, bytes_in, packets_in, packets_of, stands_in}
+use Rattle.tds_relay.specs.Reads.{Another, AreReadIn, CallOn, Came, BytesCome, Follow, FollowAt, ReaderTakes, bytes_in, packets_in, packets_in_steps, stands_in}
 use Rattle.tds_relay.specs.TokenParsers.{StandsAt, There, stands_behind}
 use Rattle.tds_relay.proofs.bytes.Taking.{joined_both, more_are, reads_nothing}
 
@@ -15,9 +15,9 @@ all_both P [] ys h k = k
 all_both P (x ∷ xs) ys h k = (h.0, all_both P xs ys h.1 k)
 
 -- bytes behind bytes
-reads_both : (r mid now : Reading) (xs ys : List ℕ) (ps qs : List (List ℕ)) → Reads r xs ps (Some mid) → Reads mid ys qs (Some now) → Reads r (xs ++ ys) (ps ++ qs) (Some now)
+reads_both : (r mid now : Reading) (xs ys : List ℕ) (ps qs : List (List ℕ)) → ReaderTakes r xs ps (Some mid) → ReaderTakes mid ys qs (Some now) → ReaderTakes r (xs ++ ys) (ps ++ qs) (Some now)
 reads_both r mid now xs ys ps qs s t =
-    let u : Reads (with_taken r s.rest) ys qs (Some now) = subst (λ (x : Reading). Reads x ys qs (Some now)) s.holds.0 t in
+    let u : ReaderTakes (with_taken r s.rest) ys qs (Some now) = subst (λ (x : Reading). ReaderTakes x ys qs (Some now)) s.holds.0 t in
     record {
       rest = u.rest;
       each = all_both (IsOnePacket r) ps qs s.each u.each;
@@ -30,29 +30,29 @@ reads_both r mid now xs ys ps qs s t =
     }
 
 -- all of them were heard, for the connection is open behind them
-came_reads : (number : ℕ) (had now : Reading) (bytes : List ℕ) (old new : Machine) (from to : Service) (c : Comes number (Some had) old from bytes (Some now) new to) → IsLess had had.taken
-    → Reads had bytes (packets_of c.streams.streams.steps) (Some now)
+came_reads : (number : ℕ) (had now : Reading) (bytes : List ℕ) (old new : Machine) (from to : Service) (c : BytesCome number (Some had) old from bytes (Some now) new to) → IsLess had had.taken
+    → ReaderTakes had bytes (packets_in_steps c.streams.streams.steps) (Some now)
 came_reads number had now bytes old new from to c few =
     let s = c.streams.streams in
     let all : s.heard ≡ bytes = sym (s.bytes_are ∙ ap (λ (xs : List ℕ). s.heard ++ xs) c.streams.all ∙ append-nil s.heard) in
-    subst (λ (o : Option Reading). Reads had bytes (packets_of s.steps) o) c.has
-    (subst (λ (xs : List ℕ). Reads had xs (packets_of s.steps) c.left) all (s.reads few))
+    subst (λ (o : Option Reading). ReaderTakes had bytes (packets_in_steps s.steps) o) c.has
+    (subst (λ (xs : List ℕ). ReaderTakes had xs (packets_in_steps s.steps) c.left) all (s.reads few))
 
-pub follow_reads : {number : ℕ} (calls : List (Call number)) (had now : Reading) → IsLess had had.taken → Follow had calls now → Reads had (bytes_in calls) (packets_in calls) (Some now)
-follow_reads [] had now few f = subst (λ (x : Reading). Reads had [] [] (Some x)) f (reads_nothing had few)
+pub follow_reads : {number : ℕ} (calls : List (CallOn number)) (had now : Reading) → IsLess had had.taken → Follow had calls now → ReaderTakes had (bytes_in calls) (packets_in calls) (Some now)
+follow_reads [] had now few f = subst (λ (x : Reading). ReaderTakes had [] [] (Some x)) f (reads_nothing had few)
 follow_reads {number} (Came r mid bytes old new from to c ∷ calls) had now few f =
-    let first : Reads r bytes (packets_of c.streams.streams.steps) (Some mid) =
+    let first : ReaderTakes r bytes (packets_in_steps c.streams.streams.steps) (Some mid) =
     came_reads number r mid bytes old new from to c (subst (λ (x : Reading). IsLess x x.taken) f.0 few) in
     let less : IsLess mid mid.taken = subst (λ (x : Reading). IsLess x x.taken) (sym first.holds.0) first.holds.1 in
-    subst (λ (x : Reading). Reads x (bytes ++ bytes_in calls) (packets_of c.streams.streams.steps ++ packets_in calls) (Some now)) (sym f.0)
-    (reads_both r mid now bytes (bytes_in calls) (packets_of c.streams.streams.steps) (packets_in calls) first (follow_reads calls mid now less f.1))
+    subst (λ (x : Reading). ReaderTakes x (bytes ++ bytes_in calls) (packets_in_steps c.streams.streams.steps ++ packets_in calls) (Some now)) (sym f.0)
+    (reads_both r mid now bytes (bytes_in calls) (packets_in_steps c.streams.streams.steps) (packets_in calls) first (follow_reads calls mid now less f.1))
 follow_reads (Another r mid from to stays stand ∷ calls) had now few f =
     let same : had ≡ mid = f.0 ∙ (let e : Some r ≡ Some mid = stays in cc) in
-    subst (λ (x : Reading). Reads x (bytes_in calls) (packets_in calls) (Some now)) (sym same)
+    subst (λ (x : Reading). ReaderTakes x (bytes_in calls) (packets_in calls) (Some now)) (sym same)
     (follow_reads calls mid now (subst (λ (x : Reading). IsLess x x.taken) same few) f.1)
 
 -- where its parser stands
-pub follow_stands : {number : ℕ} (calls : List (Call number)) (from to : Service) (r : parsers.Reading) → FollowAt from calls to → StandsAt number r from
+pub follow_stands : {number : ℕ} (calls : List (CallOn number)) (from to : Service) (r : parsers.Parser) → FollowAt from calls to → StandsAt number r from
     → AreReadIn r calls × StandsAt number (stands_in r calls) to
 follow_stands {number} [] from to r f st = (tt, subst (λ (s : Service). StandsAt number r s) f st)
 follow_stands {number} (Came had now bytes old new before behind c ∷ calls) from to r f st =

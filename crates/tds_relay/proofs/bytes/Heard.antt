@@ -4,7 +4,7 @@ use Rattle.std.specs.Prelude.{◌⊎◌, Option, Some, None}
 use Rattle.std.proofs.lemmas.Bool.{eqb-true}
 use Rattle.tds_wire.specs.declared.features.Features.{Features}
 use Rattle.tds_wire.specs.declared.told.Token.{Token}
-use Rattle.tds_wire.specs.Reading.{Reading}
+use Rattle.tds_wire.specs.Reading.{Parser}
 use Rattle.tds_listen.specs.Hearing.{Stop, tokens_in}
 use Rattle.tds_service.specs.declared.service.Service as services
 use Rattle.tds_service.specs.Beginning.{MakesAlike}
@@ -19,7 +19,7 @@ use Rattle.tds_relay.proofs.bytes.Walking.{Leaves, differ, led_on, none_begun, n
 -- ---- What is read
 
 -- where its own parser stands
-own_stand : (old mid : services.Service) (call : Call Token) (n : ℕ) (r next : Reading) → service_in mid ≡ (step (service_in old) call).service → reading_on n mid ≡ Some next → StandsAt n r old → StandsAt n next mid
+own_stand : (old mid : services.Service) (call : Call Token) (n : ℕ) (r next : Parser) → service_in mid ≡ (step (service_in old) call).service → reading_on n mid ≡ Some next → StandsAt n r old → StandsAt n next mid
 own_stand old mid call n r next is at h =
     let left = subst (Leaves n (service_in old)) (sym is) (step_leaves n (service_in old) call h.given) in
     record {
@@ -28,30 +28,30 @@ own_stand old mid call n r next is at h =
       there = λ now e. let u : Some now ≡ Some next = sym e ∙ at in cc;
     }
 
-read_other : (n number : ℕ) (o : Option Seat) (ends : Bool) (content : List ℕ) (r : Reading) → (number == n) ≡ false → read_at n number o ends content r ≡ r
+read_other : (n number : ℕ) (o : Option Seat) (ends : Bool) (content : List ℕ) (r : Parser) → (number == n) ≡ false → read_at n number o ends content r ≡ r
 read_other n number None ends content r e = refl
 read_other n number (Some c) ends content r e = rw e refl
 
 -- where it is there
-read_here : (n number : ℕ) (o : Option Seat) (ends : Bool) (content : List ℕ) (r : Reading) → (o ≡ None → ⊥) → (number == n) ≡ true → read_at n number o ends content r ≡ read_to ends r (tokens_in r content).stop
+read_here : (n number : ℕ) (o : Option Seat) (ends : Bool) (content : List ℕ) (r : Parser) → (o ≡ None → ⊥) → (number == n) ≡ true → read_at n number o ends content r ≡ read_to ends r (tokens_in r content).stop
 read_here n number None ends content r there e = absurd (there refl)
 read_here n number (Some c) ends content r there e = rw e refl
 
-to_behind : (ends : Bool) (r next : Reading) (stop : Stop) → ReadsTo ends stop next → read_to ends r stop ≡ next
+to_behind : (ends : Bool) (r next : Parser) (stop : Stop) → ReadsTo ends stop next → read_to ends r stop ≡ next
 to_behind ends r next stop h = ap (λ (s : Stop). read_to ends r s) h.1 ∙ sym h.2
 
-is_there : (number : ℕ) (s : services.Service) (at : Reading) → reading_on number s ≡ Some at → seat_numbered number (service_in s).seats ≡ None → ⊥
+is_there : (number : ℕ) (s : services.Service) (at : Parser) → reading_on number s ≡ Some at → seat_numbered number (service_in s).seats ≡ None → ⊥
 is_there number s at is none = let u : None ≡ Some at = sym (seat_unread number s none) ∙ is in cc
 
 -- what is known of the parser that has read
 abbrev Known : ℕ → Bool → List ℕ → services.Service → services.Service → Type 0
-Known number ends content old mid = (r : Reading) → reading_on number old ≡ Some r → (next : Reading) × (reading_on number mid ≡ Some next) × ReadsTo ends (tokens_in r content).stop next
+Known number ends content old mid = (r : Parser) → reading_on number old ≡ Some r → (next : Parser) × (reading_on number mid ≡ Some next) × ReadsTo ends (tokens_in r content).stop next
 
 -- where a connection's parser stands behind a packet on this one
-abbrev behind : ℕ → ℕ → Bool → List ℕ → services.Service → Reading → Reading
+abbrev behind : ℕ → ℕ → Bool → List ℕ → services.Service → Parser → Parser
 behind n number ends content old r = read_at n number (seat_numbered number (service_in old).seats) ends content r
 
-here_stand : (old mid : services.Service) (part : Part Token) (number n : ℕ) (ends : Bool) (content : List ℕ) (r : Reading) (at : Reading) → reading_on number old ≡ Some at
+here_stand : (old mid : services.Service) (part : Part Token) (number n : ℕ) (ends : Bool) (content : List ℕ) (r : Parser) (at : Parser) → reading_on number old ≡ Some at
     → service_in mid ≡ (step (service_in old) (calls.Came number part)).service → Known number ends content old mid → (number == n) ≡ true → StandsAt n r old → StandsAt n (behind n number ends content old r) mid
 here_stand old mid part number n ends content r at is step_is known e h =
     let same : number ≡ n = eqb-true number n e in
@@ -59,23 +59,23 @@ here_stand old mid part number n ends content r at is step_is known e h =
     let k = known at is in
     let next_is : behind n number ends content old r ≡ k.0 =
     read_here n number (seat_numbered number (service_in old).seats) ends content r (is_there number old at is) e
-    ∙ ap (λ (x : Reading). read_to ends x (tokens_in x content).stop) (sym its) ∙ to_behind ends at k.0 (tokens_in at content).stop k.2 in
-    subst (λ (x : Reading). StandsAt n x mid) (sym next_is)
+    ∙ ap (λ (x : Parser). read_to ends x (tokens_in x content).stop) (sym its) ∙ to_behind ends at k.0 (tokens_in at content).stop k.2 in
+    subst (λ (x : Parser). StandsAt n x mid) (sym next_is)
     (own_stand old mid (calls.Came number part) n r k.0 step_is (subst (λ (m : ℕ). reading_on m mid ≡ Some k.0) same k.1) h)
 
-other_stand : (old mid : services.Service) (call : Call Token) (number n : ℕ) (ends : Bool) (content : List ℕ) (r : Reading) → service_in mid ≡ (step (service_in old) call).service → KeepsOthers number old mid
+other_stand : (old mid : services.Service) (call : Call Token) (number n : ℕ) (ends : Bool) (content : List ℕ) (r : Parser) → service_in mid ≡ (step (service_in old) call).service → KeepsOthers number old mid
     → (number == n) ≡ false → StandsAt n r old → StandsAt n (behind n number ends content old r) mid
 other_stand old mid call number n ends content r is keeps e h =
-    subst (λ (x : Reading). StandsAt n x mid) (sym (read_other n number (seat_numbered number (service_in old).seats) ends content r e))
+    subst (λ (x : Parser). StandsAt n x mid) (sym (read_other n number (seat_numbered number (service_in old).seats) ends content r e))
     (stand_one old mid call n r is (λ q. keeps n q (λ same. differ number n e (sym same))) h)
 
-came_by : (old mid : services.Service) (part : Part Token) (number n : ℕ) (ends : Bool) (content : List ℕ) (r at : Reading) (b : Bool) → (number == n) ≡ b → reading_on number old ≡ Some at
+came_by : (old mid : services.Service) (part : Part Token) (number n : ℕ) (ends : Bool) (content : List ℕ) (r at : Parser) (b : Bool) → (number == n) ≡ b → reading_on number old ≡ Some at
     → service_in mid ≡ (step (service_in old) (calls.Came number part)).service → Known number ends content old mid → KeepsOthers number old mid → StandsAt n r old → StandsAt n (behind n number ends content old r) mid
 came_by old mid part number n ends content r at true e is step_is known keeps h = here_stand old mid part number n ends content r at is step_is known e h
 came_by old mid part number n ends content r at false e is step_is known keeps h = other_stand old mid (calls.Came number part) number n ends content r step_is keeps e h
 
 -- nothing of another one
-others_unread : (old mid new : services.Service) (part : Part Token) (number : ℕ) (at : Reading) (n most : ℕ) (features : Features) → reading_on number old ≡ Some at
+others_unread : (old mid new : services.Service) (part : Part Token) (number : ℕ) (at : Parser) (n most : ℕ) (features : Features) → reading_on number old ≡ Some at
     → service_in mid ≡ (step (service_in old) (calls.Came number part)).service → MakesAlike old mid → KeepsOthers number old mid → AllStand mid new
     → (n ≢ number) ⊎ (seat_numbered number (service_in old).seats ≡ None) → IsUnread most features n old → IsUnread most features n new
 others_unread old mid new part number at n most features is step_is alike keeps later (inl other) h =
@@ -84,7 +84,7 @@ others_unread old mid new part number at n most features is step_is alike keeps 
 others_unread old mid new part number at n most features is step_is alike keeps later (inr none) h = absurd (is_there number old at is none)
 
 -- a packet has come, and then nothing is read
-pub came_read : (old mid new : services.Service) (part : Part Token) (number : ℕ) (ends : Bool) (content : List ℕ) (at : Reading) → reading_on number old ≡ Some at
+pub came_read : (old mid new : services.Service) (part : Part Token) (number : ℕ) (ends : Bool) (content : List ℕ) (at : Parser) → reading_on number old ≡ Some at
     → service_in mid ≡ (step (service_in old) (calls.Came number part)).service → Known number ends content old mid → MakesAlike old mid → KeepsOthers number old mid → AllStand mid new
     → AllRead number ends content old new
 came_read old mid new part number ends content at is step_is known alike keeps later = record {
@@ -93,7 +93,7 @@ came_read old mid new part number ends content at is step_is known alike keeps l
 }
 
 -- or it has a fault, and the connection is lost
-lost_by_test : (old mid new : services.Service) (part : Part Token) (number n : ℕ) (ends : Bool) (content : List ℕ) (r next : Reading) (b : Bool) → (number == n) ≡ b → reading_on number mid ≡ Some next
+lost_by_test : (old mid new : services.Service) (part : Part Token) (number n : ℕ) (ends : Bool) (content : List ℕ) (r next : Parser) (b : Bool) → (number == n) ≡ b → reading_on number mid ≡ Some next
     → service_in mid ≡ (step (service_in old) (calls.Came number part)).service → KeepsOthers number old mid → AllStand mid new → (IsLed (service_in mid) → reading_on number new ≡ None)
     → StandsAt n r old → StandsAt n (behind n number ends content old r) new
 lost_by_test old mid new part number n ends content r next true e is step_is keeps later gone h =
@@ -105,7 +105,7 @@ lost_by_test old mid new part number n ends content r next true e is step_is kee
 lost_by_test old mid new part number n ends content r next false e is step_is keeps later gone h =
     later n (There (behind n number ends content old r)) (other_stand old mid (calls.Came number part) number n ends content r step_is keeps e h)
 
-pub lost_read : (old mid new : services.Service) (part : Part Token) (number : ℕ) (ends : Bool) (content : List ℕ) (at next : Reading) → reading_on number old ≡ Some at → reading_on number mid ≡ Some next
+pub lost_read : (old mid new : services.Service) (part : Part Token) (number : ℕ) (ends : Bool) (content : List ℕ) (at next : Parser) → reading_on number old ≡ Some at → reading_on number mid ≡ Some next
     → service_in mid ≡ (step (service_in old) (calls.Came number part)).service → MakesAlike old mid → KeepsOthers number old mid → AllStand mid new → (IsLed (service_in mid) → reading_on number new ≡ None)
     → AllRead number ends content old new
 lost_read old mid new part number ends content at next was is step_is alike keeps later gone = record {

@@ -6,10 +6,10 @@ use Rattle.tds_packet.specs.Layout.{IsPacket}
 use Rattle.tds_packet.specs.Reading as readers
 use Rattle.tds_relay.specs.declared.pool.coming.Heard.{Heard}
 use Rattle.tds_service.specs.declared.service.Service as services
-use Rattle.tds_relay.specs.Cutting.{ends_in}
+use Rattle.tds_relay.specs.Cutting.{is_last_packet}
 use Rattle.tds_relay.specs.TokenParsers.{AllRead, HasRead, ReadsBy, ReadsOn}
 
-pub has_read : (number : ℕ) (r : readers.Reading) (header : Header) (content : List ℕ) (ends : Bool) (old new : services.Service) → IsPacket r.direction r.size r.taken header content → ends ≡ ends_in header
+pub has_read : (number : ℕ) (r : readers.Reading) (header : Header) (content : List ℕ) (ends : Bool) (old new : services.Service) → IsPacket r.direction r.size r.taken header content → ends ≡ is_last_packet header
     → AllRead number ends content old new → HasRead number r old new
 has_read number r header content ends old new packet last all =
     inr (header, content, packet, subst (λ (b : Bool). AllRead number b content old new) last all)
@@ -23,7 +23,7 @@ reads_one unique number r old new (inr (header, content, packet, all)) = record 
   none = λ not. absurd (not (header, content, packet));
   one = λ other next its.
       let same = unique r header other content next packet its in
-      subst (λ (c : List ℕ). AllRead number (ends_in other) c old new) same.1 (subst (λ (x : Header). AllRead number (ends_in x) content old new) same.0 all);
+      subst (λ (c : List ℕ). AllRead number (is_last_packet other) c old new) same.1 (subst (λ (x : Header). AllRead number (is_last_packet x) content old new) same.0 all);
 }
 
 pub reads_by : OnePacket → (number : ℕ) (r s : readers.Reading) (heard : Heard) (old new : services.Service) → r ≡ s → HasRead number r old new → ReadsBy number s (Some heard) old new

@@ -11,41 +11,41 @@ use Rattle.tds_wire.specs.declared.due.Inside.TheVariants.{Parameter}
 use Rattle.tds_wire.specs.declared.features.Features.{Features}
 use Rattle.tds_wire.specs.declared.shape.Shape.TheVariants.{Byte}
 use Rattle.tds_wire.specs.declared.told.Token.{Token}
-use Rattle.tds_wire.specs.Reading.{Reading}
+use Rattle.tds_wire.specs.Reading.{Parser}
 use Rattle.tds_service.specs.declared.service.Service as services
 use Rattle.tds_service.specs.Beginning.{Begins}
 use Rattle.tds_service.specs.Packets.{packet_part}
 use Rattle.tds_service.specs.Parts.{Part}
 use Rattle.tds_service.specs.Service.{Seat, Service, has_number, seat_numbered}
 use Rattle.tds_service.specs.Table.{reading_on, service_in}
-use Rattle.tds_relay.specs.Cutting.{ends_in}
+use Rattle.tds_relay.specs.Cutting.{is_last_packet}
 use Rattle.tds_relay.specs.Pool.{Sharing, Way}
 use Rattle.tds_relay.specs.Giving.{ReadVisit, StaysAll}
-use Rattle.tds_relay.specs.Core.{Ends, Move}
+use Rattle.tds_relay.specs.Core.{EndList, Move}
 use Rattle.tds_relay.specs.Machine.{Machine, Step, Admits, CausesStep, Hands, Makes, Manner, MayAll, Removes, Steps, Takes, Writes, after, after_all, new_machine}
 use Rattle.tds_relay.specs.Queues.{Queues}
 use Rattle.tds_relay.specs.Promises.{Each}
-use Rattle.tds_relay.specs.Reads.{Comes}
+use Rattle.tds_relay.specs.Reads.{BytesCome}
 use Rattle.tds_relay.specs.Ties.{Cause, IsNoConnection, Neither, part_on}
 use Rattle.tds_relay.specs.TokenParsers.{AllRead, AllReadAnew, AllStand, AreRead, IsReadBy, IsReadTo, IsUnread, NoneRead, ReadAnew, StandsAt, There, Unread, Walks, read_at, stands_behind, stands_by}
 use Rattle.tds_relay.proofs.bytes.Walking.{low_there, unread_seat}
 use Rattle.tds_relay.proofs.steps.Handed.{parser_by}
 use Rattle.tds_relay.proofs.steps.Stepping.{after_both, makes_all, may_both, steps_of}
 
-behind_both : (n : ℕ) (r : Reading) (h : Machine) (xs ys : List Step) → stands_behind n r h (xs ++ ys) ≡ stands_behind n (stands_behind n r h xs) (after_all h xs) ys
+behind_both : (n : ℕ) (r : Parser) (h : Machine) (xs ys : List Step) → stands_behind n r h (xs ++ ys) ≡ stands_behind n (stands_behind n r h xs) (after_all h xs) ys
 behind_both n r h [] ys = refl
 behind_both n r h (x ∷ xs) ys = behind_both n (stands_by n r h x) (after h x) xs ys
 
-read_both : (n : ℕ) (r : Reading) (h : Machine) (xs ys : List Step) → AreRead n r h xs → AreRead n (stands_behind n r h xs) (after_all h xs) ys → AreRead n r h (xs ++ ys)
+read_both : (n : ℕ) (r : Parser) (h : Machine) (xs ys : List Step) → AreRead n r h xs → AreRead n (stands_behind n r h xs) (after_all h xs) ys → AreRead n r h (xs ++ ys)
 read_both n r h [] ys s t = t
 read_both n r h (x ∷ xs) ys s t = (s.0, read_both n (stands_by n r h x) (after h x) xs ys s.1 t)
 
 -- behind steps that read nothing
-read_then : (n : ℕ) (r : Reading) (h : Machine) (xs ys : List Step) → NoneRead n h xs → AreRead n r (after_all h xs) ys → AreRead n r h (xs ++ ys)
-read_then n r h xs ys none t = read_both n r h xs ys (none r).0 (subst (λ (x : Reading). AreRead n x (after_all h xs) ys) (sym (none r).1) t)
+read_then : (n : ℕ) (r : Parser) (h : Machine) (xs ys : List Step) → NoneRead n h xs → AreRead n r (after_all h xs) ys → AreRead n r h (xs ++ ys)
+read_then n r h xs ys none t = read_both n r h xs ys (none r).0 (subst (λ (x : Parser). AreRead n x (after_all h xs) ys) (sym (none r).1) t)
 
-behind_then : (n : ℕ) (r : Reading) (h : Machine) (xs ys : List Step) → NoneRead n h xs → stands_behind n r h (xs ++ ys) ≡ stands_behind n r (after_all h xs) ys
-behind_then n r h xs ys none = behind_both n r h xs ys ∙ ap (λ (x : Reading). stands_behind n x (after_all h xs) ys) (none r).1
+behind_then : (n : ℕ) (r : Parser) (h : Machine) (xs ys : List Step) → NoneRead n h xs → stands_behind n r h (xs ++ ys) ≡ stands_behind n r (after_all h xs) ys
+behind_then n r h xs ys none = behind_both n r h xs ys ∙ ap (λ (x : Parser). stands_behind n x (after_all h xs) ys) (none r).1
 
 none_both : (n : ℕ) (h : Machine) (xs ys : List Step) → NoneRead n h xs → NoneRead n (after_all h xs) ys → NoneRead n h (xs ++ ys)
 none_both n h xs ys s t r = (read_then n r h xs ys s (t r).0, behind_then n r h xs ys s ∙ (t r).1)
@@ -53,7 +53,7 @@ none_both n h xs ys s t r = (read_then n r h xs ys s (t r).0, behind_then n r h 
 -- ---- From where nothing was read
 
 -- one that has read nothing
-abbrev begun : ℕ → Features → Reading
+abbrev begun : ℕ → Features → Parser
 begun most features = record {
   walk = record {
     at = record { due = Between; kind = 0; inside = Parameter; shape = Byte; ciphered = false; left = 0; parts = 0 };
@@ -83,7 +83,7 @@ anew_none most features n h steps to none unread = (begun most features, begun_b
 anew_after : (most : ℕ) (features : Features) (n : ℕ) (at to : services.Service) (h : Machine) (xs ys : List Step) → NoneRead n h xs → ReadAnew most features n (after_all h xs) ys to
     → ReadAnew most features n h (xs ++ ys) to
 anew_after most features n at to h xs ys none (r, begins, read, inl stands) =
-    (r, begins, read_then n r h xs ys none read, inl (subst (λ (x : Reading). StandsAt n x to) (sym (behind_then n r h xs ys none)) stands))
+    (r, begins, read_then n r h xs ys none read, inl (subst (λ (x : Parser). StandsAt n x to) (sym (behind_then n r h xs ys none)) stands))
 anew_after most features n at to h xs ys none (r, begins, read, inr (more, unread)) = (r, begins, read_then n r h xs ys none read, inr (none_both n h xs ys none more, unread))
 
 anew_both : (most : ℕ) (features : Features) (n : ℕ) (at to : services.Service) (h : Machine) (xs ys : List Step) → ReadAnew most features n h xs at → Walks at (after_all h xs) ys to
@@ -92,7 +92,7 @@ anew_both most features n at to h xs ys (r, begins, read, inl stands) t = (
   r,
   begins,
   read_both n r h xs ys read (t.each n (stands_behind n r h xs) stands),
-  inl (subst (λ (x : Reading). StandsAt n x to) (sym (behind_both n r h xs ys)) (t.stand n (stands_behind n r h xs) stands)),
+  inl (subst (λ (x : Parser). StandsAt n x to) (sym (behind_both n r h xs ys)) (t.stand n (stands_behind n r h xs) stands)),
 )
 anew_both most features n at to h xs ys (r, begins, read, inr (none, unread)) t = anew_after most features n at to h xs ys none (t.anew n most features unread)
 
@@ -102,7 +102,7 @@ walks_none s h = record { each = λ n r st. tt; stand = λ n r st. st; anew = λ
 pub walks_both : (from at to : services.Service) (old : Machine) (xs ys : List Step) → Walks from old xs at → Walks at (after_all old xs) ys to → Walks from old (xs ++ ys) to
 walks_both from at to old xs ys s t = record {
   each = λ n r st. read_both n r old xs ys (s.each n r st) (t.each n (stands_behind n r old xs) (s.stand n r st));
-  stand = λ n r st. subst (λ (x : Reading). StandsAt n x to) (sym (behind_both n r old xs ys)) (t.stand n (stands_behind n r old xs) (s.stand n r st));
+  stand = λ n r st. subst (λ (x : Parser). StandsAt n x to) (sym (behind_both n r old xs ys)) (t.stand n (stands_behind n r old xs) (s.stand n r st));
   anew = λ n most features unread. anew_both most features n at to old xs ys (s.anew n most features unread) t;
 }
 
@@ -122,7 +122,7 @@ walks_on from at to old steps s later = record {
 walks_unread : (from to : services.Service) (h : Machine) (steps : List Step) → ((n : ℕ) → NoneRead n h steps) → AllStand from to → Walks from h steps to
 walks_unread from to h steps none later = record {
   each = λ n r st. (none n r).0;
-  stand = λ n r st. subst (λ (x : Reading). StandsAt n x to) (sym (none n r).1) (later n (There r) st);
+  stand = λ n r st. subst (λ (x : Parser). StandsAt n x to) (sym (none n r).1) (later n (There r) st);
   anew = λ n most features unread. anew_none most features n h steps to (none n) (later n (Unread most features) unread);
 }
 
@@ -144,12 +144,12 @@ none_caused by n h (Admits key ends queues ∷ steps) never caused r = let rest 
 none_caused by n h (Removes key gives way ∷ steps) never caused r = let rest = none_caused by n (after h (Removes key gives way)) steps never caused.1 r in ((tt, rest.0), rest.1)
 
 -- a packet
-part_by : (r : Reading) (header : Header) (content : List ℕ) (p : Option Reading) → IsSome p → ((now : Reading) → p ≡ Some now → now ≡ r) → part_on p content (ends_in header) ≡ packet_part r content (ends_in header)
+part_by : (r : Parser) (header : Header) (content : List ℕ) (p : Option Parser) → IsSome p → ((now : Parser) → p ≡ Some now → now ≡ r) → part_on p content (is_last_packet header) ≡ packet_part r content (is_last_packet header)
 part_by r header content None some there = absurd (let u : ⊥ = cc in u)
-part_by r header content (Some now) some there = ap (λ (x : Reading). packet_part x content (ends_in header)) (there now refl)
+part_by r header content (Some now) some there = ap (λ (x : Parser). packet_part x content (is_last_packet header)) (there now refl)
 
-read_by : (number : ℕ) (r : Reading) (header : Header) (content : List ℕ) (s : services.Service) (o : Option Seat) → seat_numbered number (service_in s).seats ≡ o → StandsAt number r s
-    → IsReadBy o r header content (part_on (reading_on number s) content (ends_in header))
+read_by : (number : ℕ) (r : Parser) (header : Header) (content : List ℕ) (s : services.Service) (o : Option Seat) → seat_numbered number (service_in s).seats ≡ o → StandsAt number r s
+    → IsReadBy o r header content (part_on (reading_on number s) content (is_last_packet header))
 read_by number r header content s None e st = tt
 read_by number r header content s (Some c) e st = part_by r header content (reading_on number s) (parser_by (has_number number) s.seats.items c e) st.there
 
@@ -163,14 +163,14 @@ hands_none n number header content part way manner h (Some c) e (inl other) r =
     ((λ same. absurd (other same), tt), rw e (rw off refl))
 
 module _ (number : ℕ) (header : Header) (content : List ℕ) (way : Way) (manner : Manner) (from to : services.Service) (h : Machine) (is : h.core.pool.service ≡ service_in from)
-    (all : AllRead number (ends_in header) content from to) where
+    (all : AllRead number (is_last_packet header) content from to) where
   abbrev part : Part Token
-  part = part_on (reading_on number from) content (ends_in header)
+  part = part_on (reading_on number from) content (is_last_packet header)
 
   abbrev hands : List Step
   hands = Hands number header content part way manner ∷ []
 
-  hands_each : (n : ℕ) (r : Reading) → StandsAt n r from → AreRead n r h hands
+  hands_each : (n : ℕ) (r : Parser) → StandsAt n r from → AreRead n r h hands
   hands_each n r st = (
     λ same.
         subst (λ (s : Service). IsReadBy (seat_numbered number s.seats) r header content part) (sym is)
@@ -178,9 +178,9 @@ module _ (number : ℕ) (header : Header) (content : List ℕ) (way : Way) (mann
     tt,
   )
 
-  hands_stand : (n : ℕ) (r : Reading) → StandsAt n r from → StandsAt n (stands_behind n r h hands) to
+  hands_stand : (n : ℕ) (r : Parser) → StandsAt n r from → StandsAt n (stands_behind n r h hands) to
   hands_stand n r st =
-      subst (λ (s : Service). StandsAt n (read_at n number (seat_numbered number s.seats) (ends_in header) content r) to) (sym is) (all.stand n r st)
+      subst (λ (s : Service). StandsAt n (read_at n number (seat_numbered number s.seats) (is_last_packet header) content r) to) (sym is) (all.stand n r st)
 
   hands_unread : (most : ℕ) (features : Features) (n : ℕ) → (n ≢ number) ⊎ (seat_numbered number (service_in from).seats ≡ None) → IsUnread most features n from
       → ReadAnew most features n h hands to
@@ -190,7 +190,7 @@ module _ (number : ℕ) (header : Header) (content : List ℕ) (way : Way) (mann
       anew_none most features n h hands to (hands_none n number header content part way manner h (seat_numbered number h.core.pool.service.seats) refl there) (all.unread n most features other unread)
 
   -- it begins to be read by this packet
-  hands_first : (most : ℕ) (features : Features) (q : Reading) → reading_on number from ≡ Some q → IsUnread most features number from → ReadAnew most features number h hands to
+  hands_first : (most : ℕ) (features : Features) (q : Parser) → reading_on number from ≡ Some q → IsUnread most features number from → ReadAnew most features number h hands to
   hands_first most features q e unread =
       let stands : StandsAt number q from = record {
         led = unread.led;
@@ -199,7 +199,7 @@ module _ (number : ℕ) (header : Header) (content : List ℕ) (way : Way) (mann
       } in
       (q, unread.begins q e, hands_each number q stands, inl (hands_stand number q stands))
 
-  hands_by : (most : ℕ) (features : Features) (o : Option Reading) → reading_on number from ≡ o → IsUnread most features number from → ReadAnew most features number h hands to
+  hands_by : (most : ℕ) (features : Features) (o : Option Parser) → reading_on number from ≡ o → IsUnread most features number from → ReadAnew most features number h hands to
   hands_by most features None e unread = hands_unread most features number (inr (unread_seat number from e)) unread
   hands_by most features (Some q) e unread = hands_first most features q e unread
 
@@ -242,7 +242,7 @@ reads_called by sharing most features old new from to never s later led =
     reads_on sharing most features old new from to s.steps s.are s.may (walks_unread from to old s.steps (λ n. none_caused by n old s.steps never s.caused) later) led
 
 -- or one by which bytes come
-pub reads_came : (number : ℕ) (sharing : Sharing) (most : ℕ) (features : Features) (had now : Option packets.Reading) (bytes : List ℕ) (old new : Machine) (from to : services.Service) → Comes number had old from bytes now new to
+pub reads_came : (number : ℕ) (sharing : Sharing) (most : ℕ) (features : Features) (had now : Option packets.Reading) (bytes : List ℕ) (old new : Machine) (from to : services.Service) → BytesCome number had old from bytes now new to
     → IsReadTo sharing most features old from → IsReadTo sharing most features new to
 reads_came number sharing most features had now bytes old new from to c led =
     let s = c.streams.streams in
@@ -251,7 +251,7 @@ reads_came number sharing most features had now bytes old new from to c led =
     reads_called Neither sharing most features c.mid new c.at to tt (subst (λ (ps : Queues). Steps Neither c.mid (record { core = new.core; queues = ps })) (sym c.kept) more) c.stand mid
 
 -- who has come, and stays
-pub visits : (sharing : Sharing) (most key : ℕ) (features : Features) (h : Machine) (s : services.Service) (before since : List Step) (ends : Ends) (queues : Queues) (led : IsReadTo sharing most features h s)
+pub visits : (sharing : Sharing) (most key : ℕ) (features : Features) (h : Machine) (s : services.Service) (before since : List Step) (ends : EndList) (queues : Queues) (led : IsReadTo sharing most features h s)
     → led.steps ≡ before ++ Admits key ends queues ∷ since → StaysAll key since → (v : ReadVisit sharing key) × (v.visit.before ≡ before) × (v.visit.since ≡ since)
 visits sharing most key features h s before since ends queues led are stays =
     let v : ReadVisit sharing key = record {

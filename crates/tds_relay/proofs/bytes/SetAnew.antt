@@ -12,19 +12,19 @@ use Rattle.tds_relay.specs.declared.pool.coming.Heard.{Heard}
 use Rattle.tds_relay.specs.declared.link.Answer.{Answer}
 use Rattle.tds_relay.specs.declared.link.Link.{Link}
 use Rattle.tds_relay.specs.declared.relay.Relay as code
-use Rattle.tds_relay.specs.Cutting.{at_its_beginning, ends_in}
+use Rattle.tds_relay.specs.Cutting.{at_its_beginning, is_last_packet}
 use Rattle.tds_relay.specs.Pool.{Way, find_number, key_of, owes_reset, whose}
 use Rattle.tds_relay.specs.Fronts.{IsWhat, Moved, MovedOn, core_in, machine_in}
-use Rattle.tds_relay.specs.Core.{Core, Move, done_by, what_in}
+use Rattle.tds_relay.specs.Core.{Core, Move, dones_of_part, what_in}
 use Rattle.tds_service.specs.History.{Done}
 use Rattle.tds_relay.specs.declared.pool.coming.What.{What}
 use Rattle.tds_relay.specs.declared.pool.coming.What.TheVariants as whats
-use Rattle.tds_relay.specs.Handing.{Brings, Hears, HearsBy, IsNothing, PassesAs, fed}
+use Rattle.tds_relay.specs.Handing.{BringsPacket, HearsBytes, HearsBy, IsNothing, PassesAs, filled}
 use Rattle.tds_relay.specs.Machine.{Machine, Manner, Step, Admits, Hands, Makes, Removes, Takes, Writes, after, after_all}
 use Rattle.tds_relay.specs.Lent.{KeepsAnswers, KeepsWaits, LendsInLine, MayBeLent}
 use Rattle.tds_relay.specs.Lent as lent
 use Rattle.tds_relay.specs.Queues.{Queues, queues_in}
-use Rattle.tds_relay.specs.Reads.{Carried, MayBegin, Opens, Stays, StaysAt, StreamsAll, answer_at, answer_on, carried_by, if_heard, if_open, link_at, open_answer, open_at, open_of, place_of, reader_at, seen_of}
+use Rattle.tds_relay.specs.Reads.{Carried, MayBegin, Opens, LinksStay, StaysAt, StreamsAll, answer_at, answer_on, carried_by, if_heard, if_open, link_at, open_answer, open_at, open_of, place_of, reader_at, seen_of}
 use Rattle.tds_relay.specs.Coming.{AreSetAnew, BeginAnyIf, BeginsIf, BeginsLent, ComesAnew, ContinuesAnew, MayBeginAny, StreamsAnew, acknowledges_to, acknowledged_in}
 use Rattle.tds_relay.proofs.steps.Beginning.{begin_both, begin_refl}
 use Rattle.tds_relay.specs.Ties.{Connection, IsReached, pool_in, part_on}
@@ -119,7 +119,7 @@ set_quiet h (Removes key gives way ∷ steps) moves first b s = set_quiet (after
 
 module _ (number : ℕ) (header : Header) (content : List ℕ) (part : Part Token) (way : Way) (manner : Manner) (from next : Answer) (behind : Option Answer) where
   set_one : (h : Machine) (steps : List Step) (first : Option Answer) → AreSetAnew h steps first (Some from) → PassesAs (owes_reset number (after_all h steps).core.pool) from header content part manner next
-      → BeginsIf (acknowledges_to (whose (after_all h steps).core.pool number) (what_in (done_by (after_all h steps).core.pool number part))) (Some next) behind
+      → BeginsIf (acknowledges_to (whose (after_all h steps).core.pool number) (what_in (dones_of_part (after_all h steps).core.pool number part))) (Some next) behind
       → AreSetAnew h (steps ++ Hands number header content part way manner ∷ []) first behind
   set_one h [] first s cut begins = (from, next, behind, s, cut, begins, at_refl behind)
   set_one h (Hands other head more piece how so ∷ steps) first s cut begins =
@@ -163,8 +163,8 @@ same_what None what dones is = refl
 same_what (Some key) what dones is = ap (λ (w : What). acknowledges_to (Some key) w) is
 
 brought : (number : ℕ) (first b c behind : Option Answer) (begun now : Option packets.Reading) (link next : Link) (old f g : Machine) (from at to : Service) (bytes left : List ℕ) (count : ℕ) (heard : Heard)
-    → b ≡ Some link.answer → c ≡ Some next.answer → now ≡ Some link.reader → f.core.pool.service ≡ service_in at → Hears number (reading_on number at) link next left count heard f g → ReadsOn number (fed link.reader left) at to
-    → Brings number (reading_on number at) link.answer next.answer (fed link.reader left) heard f g → BeginsIf (acknowledged_in (Some heard)) c behind → StreamsAnew number first begun old from bytes left b now f at
+    → b ≡ Some link.answer → c ≡ Some next.answer → now ≡ Some link.reader → f.core.pool.service ≡ service_in at → HearsBytes number (reading_on number at) link next left count heard f g → ReadsOn number (filled link.reader left) at to
+    → BringsPacket number (reading_on number at) link.answer next.answer (filled link.reader left) heard f g → BeginsIf (acknowledged_in (Some heard)) c behind → StreamsAnew number first begun old from bytes left b now f at
     → StreamsAnew number first begun old from bytes (drop count left) behind (Some next.reader) g to
 brought number first b c behind begun now link next old f g from at to bytes left count heard had has is its hears reads (inl none) begins s = record {
   streams = streams_brought number begun now link next old f g from at to bytes left count heard is its hears reads (inl none) s.streams;
@@ -172,25 +172,25 @@ brought number first b c behind begun now link next old f g from at to bytes lef
       (at_next b c behind (as_it_is b c link.answer next.answer had has none.3) (stays_unless (acknowledged_in (Some heard)) c behind (nothing_silent heard none.2) begins));
 }
 brought number first b c behind begun now link next old f g from at to bytes left count heard had has is its hears reads (inr p) begins s =
-    let part = part_on (reading_on number at) p.content (ends_in p.header) in
+    let part = part_on (reading_on number at) p.content (is_last_packet p.header) in
     let before : AreSetAnew old s.streams.steps first (Some link.answer) = subst (λ (o : Option Answer). AreSetAnew old s.streams.steps first o) had s.anew in
     let cut : PassesAs (owes_reset number (after_all old s.streams.steps).core.pool) link.answer p.header p.content part p.manner next.answer =
     subst (λ (h : Machine). PassesAs (owes_reset number h.core.pool) link.answer p.header p.content part p.manner next.answer) (sym s.streams.are) p.cut in
-    let what : acknowledged_in (Some heard) ≡ acknowledges_to (whose f.core.pool number) (what_in (done_by f.core.pool number part)) =
-    same_what heard.key heard.what (done_by f.core.pool number part) p.what_is ∙ ap (λ (k : Option ℕ). acknowledges_to k (what_in (done_by f.core.pool number part))) p.whose_is in
-    let here : BeginsIf (acknowledges_to (whose f.core.pool number) (what_in (done_by f.core.pool number part))) (Some next.answer) behind =
+    let what : acknowledged_in (Some heard) ≡ acknowledges_to (whose f.core.pool number) (what_in (dones_of_part f.core.pool number part)) =
+    same_what heard.key heard.what (dones_of_part f.core.pool number part) p.what_is ∙ ap (λ (k : Option ℕ). acknowledges_to k (what_in (dones_of_part f.core.pool number part))) p.whose_is in
+    let here : BeginsIf (acknowledges_to (whose f.core.pool number) (what_in (dones_of_part f.core.pool number part))) (Some next.answer) behind =
     subst (λ (may : Bool). BeginsIf may (Some next.answer) behind) what (subst (λ (o : Option Answer). BeginsIf (acknowledged_in (Some heard)) o behind) has begins) in
     record {
       streams = streams_brought number begun now link next old f g from at to bytes left count heard is its hears reads (inr p) s.streams;
       anew = set_one number p.header p.content part p.way p.manner link.answer next.answer behind old s.streams.steps first before cut
-          (subst (λ (h : Machine). BeginsIf (acknowledges_to (whose h.core.pool number) (what_in (done_by h.core.pool number part))) (Some next.answer) behind) (sym s.streams.are) here);
+          (subst (λ (h : Machine). BeginsIf (acknowledges_to (whose h.core.pool number) (what_in (dones_of_part h.core.pool number part))) (Some next.answer) behind) (sym s.streams.are) here);
     }
 
 -- ---- As calls answer
 
 hear_by : (number : ℕ) (link next : Link) (piece : List ℕ) (now behind : Option packets.Reading) (b c : Option Answer) (f g : Machine) (at to : Service) (count : ℕ) (heard : Option Heard)
     → b ≡ Some link.answer → c ≡ Some next.answer → now ≡ Some link.reader → behind ≡ Some next.reader → f.core.pool.service ≡ service_in at → HearsBy number (reading_on number at) link next piece count heard f g
-    → WalksBy number (fed link.reader piece) heard at to → ContinuesAnew number piece (drop count piece) heard b now c (if_heard heard behind) f at g to
+    → WalksBy number (filled link.reader piece) heard at to → ContinuesAnew number piece (drop count piece) heard b now c (if_heard heard behind) f at g to
 hear_by number link next piece now behind b c f g at to count None had has is after its h walks =
     unheard_by number piece count None now None b c f g at to refl refl (as_it_is b c link.answer next.answer had has h.2) h.1 walks
 hear_by number link next piece now behind b c f g at to count (Some heard) had has is after its h walks = λ first on begun old from bytes s begins.
@@ -199,7 +199,7 @@ hear_by number link next piece now behind b c f g at to count (Some heard) had h
 
 hear_ok : {E : Type 0} (r : Result (ℕ × Option Heard) E) (number : ℕ) (link next : Link) (piece : List ℕ) (now behind : Option packets.Reading) (b c : Option Answer) (f : Machine) (g : Option Heard → Machine) (at to : Service)
     → b ≡ Some link.answer → c ≡ Some next.answer → now ≡ Some link.reader → behind ≡ Some next.reader → f.core.pool.service ≡ service_in at
-    → IfOk r (λ heard. HearsBy number (reading_on number at) link next piece heard.0 heard.1 f (g heard.1)) → IfOk r (λ heard. WalksBy number (fed link.reader piece) heard.1 at to)
+    → IfOk r (λ heard. HearsBy number (reading_on number at) link next piece heard.0 heard.1 f (g heard.1)) → IfOk r (λ heard. WalksBy number (filled link.reader piece) heard.1 at to)
     → IfOk r (λ heard. ContinuesAnew number piece (drop heard.0 piece) heard.1 b now c (if_heard heard.1 behind) f at (g heard.1) to)
 hear_ok (Ok x) number link next piece now behind b c f g at to had has is after its h walks = hear_by number link next piece now behind b c f (g x.1) at to x.0 x.1 had has is after its h walks
 hear_ok (Err e) number link next piece now behind b c f g at to had has is after its h walks = tt
@@ -207,7 +207,7 @@ hear_ok (Err e) number link next piece now behind b c f g at to had has is after
 -- it is open, and what has come of a packet is written back
 pub hear_at : {E : Type 0} (r : Result (ℕ × Option Heard) E) (number : ℕ) (ls : List Link) (place : ℕ) (l next : Link) (piece : List ℕ) (f : Machine) (g : Option Heard → Machine) (from to : Service)
     → place_of number ls ≡ Some place → l ≡ slice_index_or ls place l → next.number ≡ l.number → l.is_open ≡ true → next.is_open ≡ l.is_open → f.core.pool.service ≡ service_in from
-    → IfOk r (λ heard. HearsBy number (reading_on number from) l next piece heard.0 heard.1 f (g heard.1)) → IfOk r (λ heard. WalksBy number (fed l.reader piece) heard.1 from to)
+    → IfOk r (λ heard. HearsBy number (reading_on number from) l next piece heard.0 heard.1 f (g heard.1)) → IfOk r (λ heard. WalksBy number (filled l.reader piece) heard.1 from to)
     → IfOk r (λ heard. ContinuesAnew number piece (drop heard.0 piece) heard.1 (answer_at number ls) (open_at number ls) (answer_at number (slice_set ls place next)) (if_heard heard.1 (open_at number (slice_set ls place next))) f from (g heard.1) to)
 hear_at r number ls place l next piece f g from to is there same is_open stays its h walks =
     let at : IsAt number ls place = is_at number ls place is in
@@ -238,7 +238,7 @@ unheard number piece count heard ls f at silent is =
 pub anew_on : (number : ℕ) (first : Option Answer) (had : Option packets.Reading) (old f : Machine) (from at between to : Service) (h h1 : Core) (ps ps1 : Queues) (bytes left rest : List ℕ) (heard : Option Heard) (b : Option Answer) (now : Option packets.Reading)
     (ls ms : List Link) → StreamsAnew number first had old from bytes left b now f at
     → ContinuesAnew number left rest heard b now (answer_at number ls) (if_heard heard (open_at number ls)) f at (record { core = h; queues = ps }) between
-    → Moved (Connection number) h h1 → ps1 ≡ ps → Stays ls ms → (IsNone heard → reader_at number ms ≡ None) → AllStand between to → BeginAnyIf (acknowledged_in heard) ls ms
+    → Moved (Connection number) h h1 → ps1 ≡ ps → LinksStay ls ms → (IsNone heard → reader_at number ms ≡ None) → AllStand between to → BeginAnyIf (acknowledged_in heard) ls ms
     → StreamsAnew number first had old from bytes rest (answer_at number ms) (open_at number ms) (record { core = h1; queues = ps1 }) to
 anew_on number first had old f from at between to h h1 ps ps1 bytes left rest heard b now ls ms s hears m kept stays gone stand begins =
     let t = hears first (answer_at number ms) had old from bytes s (begins.begins number) in

@@ -5,7 +5,7 @@ use Rattle.tds_packet.specs.declared.header.Header.{Header}
 use Rattle.tds_packet.specs.Layout.{IsPacket}
 use Rattle.tds_packet.specs.Reading.{Reading, IsWhole, after_pieces, joined, up_to_end, with_taken}
 use Rattle.tds_packet.specs.Stream.{IsLess, IsOnePacket}
-use Rattle.tds_relay.specs.Reads.{Reads, ReadsBy, StaysAt}
+use Rattle.tds_relay.specs.Reads.{ReaderTakes, ReadsBy, StaysAt}
 
 -- ---- As the packet layer says
 
@@ -44,12 +44,12 @@ pub more_are : (had bytes more front rest : List ℕ) → had ++ bytes ≡ front
 more_are had bytes more front rest e =
     sym (append_assoc had bytes more) ∙ ap (λ (xs : List ℕ). xs ++ more) e ∙ append_assoc front rest more
 
-pub reads_nothing : (r : Reading) → IsLess r r.taken → Reads r [] [] (Some r)
+pub reads_nothing : (r : Reading) → IsLess r r.taken → ReaderTakes r [] [] (Some r)
 reads_nothing r few = record { rest = r.taken; each = tt; are = append-nil r.taken; holds = (refl, few) }
 
 -- they are no packet yet
-pub reads_less : (r now next : Reading) (bytes more : List ℕ) (packets : List (List ℕ)) → Reads r bytes packets (Some now) → next ≡ with_taken now (now.taken ++ more) → IsLess next next.taken
-    → Reads r (bytes ++ more) packets (Some next)
+pub reads_less : (r now next : Reading) (bytes more : List ℕ) (packets : List (List ℕ)) → ReaderTakes r bytes packets (Some now) → next ≡ with_taken now (now.taken ++ more) → IsLess next next.taken
+    → ReaderTakes r (bytes ++ more) packets (Some next)
 reads_less r now next bytes more packets s is few =
     let rest : now.taken ≡ s.rest = ap (λ (x : Reading). x.taken) s.holds.0 in
     let same : next ≡ with_taken r (s.rest ++ more) =
@@ -62,8 +62,8 @@ reads_less r now next bytes more packets s is few =
     }
 
 -- they end one
-pub reads_packet : (r now next : Reading) (bytes more : List ℕ) (packets : List (List ℕ)) → Reads r bytes packets (Some now) → IsWhole (with_taken now (now.taken ++ more)) → next ≡ with_taken now []
-    → Reads r (bytes ++ more) (packets ++ (now.taken ++ more) ∷ []) (Some next)
+pub reads_packet : (r now next : Reading) (bytes more : List ℕ) (packets : List (List ℕ)) → ReaderTakes r bytes packets (Some now) → IsWhole (with_taken now (now.taken ++ more)) → next ≡ with_taken now []
+    → ReaderTakes r (bytes ++ more) (packets ++ (now.taken ++ more) ∷ []) (Some next)
 reads_packet r now next bytes more packets s whole is =
     let packet : List ℕ = now.taken ++ more in
     let rest : s.rest ≡ now.taken = sym (ap (λ (x : Reading). x.taken) s.holds.0) in
@@ -88,9 +88,9 @@ reads_gone (Some r) bytes more packets s = λ few.
     record { rest = t.rest ++ more; each = t.each; are = more_are r.taken bytes more (joined packets) t.rest t.are; holds = tt }
 
 -- the same is there, or nothing
-stays_read : (r : Reading) (bytes : List ℕ) (packets : List (List ℕ)) (now next : Option Reading) → StaysAt now next → Reads r bytes packets now → Reads r bytes packets next
+stays_read : (r : Reading) (bytes : List ℕ) (packets : List (List ℕ)) (now next : Option Reading) → StaysAt now next → ReaderTakes r bytes packets now → ReaderTakes r bytes packets next
 stays_read r bytes packets now None stays s = record { rest = s.rest; each = s.each; are = s.are; holds = tt }
-stays_read r bytes packets now (Some x) stays s = subst (λ (o : Option Reading). Reads r bytes packets o) stays s
+stays_read r bytes packets now (Some x) stays s = subst (λ (o : Option Reading). ReaderTakes r bytes packets o) stays s
 
 none_stays : (now next : Option Reading) → now ≡ None → StaysAt now next → next ≡ None
 none_stays now None none stays = refl

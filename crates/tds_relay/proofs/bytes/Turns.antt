@@ -11,7 +11,7 @@ use Rattle.tds_relay.specs.declared.pool.coming.Heard.{Heard}
 use Rattle.tds_relay.specs.declared.link.Link.{Link}
 use Rattle.tds_relay.specs.Handing.{HearsBy}
 use Rattle.tds_relay.specs.Machine.{Machine}
-use Rattle.tds_relay.specs.Reads.{IsLessAt, StaysAt, Streams, StreamsAll, if_heard, open_at, open_of, place_of, seen_of}
+use Rattle.tds_relay.specs.Reads.{IsLessAt, StaysAt, ReadsPackets, StreamsAll, if_heard, open_at, open_of, place_of, seen_of}
 use Rattle.tds_relay.proofs.steps.Placed.{IsAt, is_at, is_nowhere, is_open_at, is_shut_at}
 
 -- So much is left behind so many turns: in the first one nothing may be heard, for a packet may be there already.
@@ -66,7 +66,7 @@ turns_end now rest turns many last (inl first) = absurd (let u : ⊥ = omega (ar
 turns_end now rest turns many last (inr later) = none_left rest many (subst (λ (n : ℕ). length rest + n ≤ suc many) last later.1)
 
 -- All of them were heard.
-pub streams_all : (number : ℕ) (had now : Option packets.Reading) (old new : Machine) (from to : Service) (bytes left : List ℕ) → left ≡ [] → Streams number had old from bytes left now new to → StreamsAll number had old from bytes now new to
+pub streams_all : (number : ℕ) (had now : Option packets.Reading) (old new : Machine) (from to : Service) (bytes left : List ℕ) → left ≡ [] → ReadsPackets number had old from bytes left now new to → StreamsAll number had old from bytes now new to
 streams_all number had now old new from to bytes left none s = record { left = left; streams = s; all = none }
 
 -- ---- As a connection's reader takes them
@@ -85,12 +85,12 @@ takes_at (Ok x) number ls place l piece is there opens takes =
     λ less some. takes (subst IsLessAt (is_open_at number ls l (at.found l ∙ ap Some (sym there)) opens) less) some
 takes_at (Err e) number ls place l piece is there opens takes = tt
 
-less_by : (number : ℕ) (parser : Option parsers.Reading) (l next : Link) (piece : List ℕ) (count : ℕ) (heard : Option Heard) (f g : Machine) (now : Option packets.Reading) → now ≡ Some next.reader → HearsBy number parser l next piece count heard f g
+less_by : (number : ℕ) (parser : Option parsers.Parser) (l next : Link) (piece : List ℕ) (count : ℕ) (heard : Option Heard) (f g : Machine) (now : Option packets.Reading) → now ≡ Some next.reader → HearsBy number parser l next piece count heard f g
     → IsLessAt (if_heard heard now)
 less_by number parser l next piece count None f g now is h = tt
 less_by number parser l next piece count (Some heard) f g now is h = subst IsLessAt (sym is) h.less
 
-pub less_at : {E : Type 0} (r : Result (ℕ × Option Heard) E) (number : ℕ) (parser : Option parsers.Reading) (ls : List Link) (place : ℕ) (l next : Link) (piece : List ℕ) (f : Machine) (g : Option Heard → Machine)
+pub less_at : {E : Type 0} (r : Result (ℕ × Option Heard) E) (number : ℕ) (parser : Option parsers.Parser) (ls : List Link) (place : ℕ) (l next : Link) (piece : List ℕ) (f : Machine) (g : Option Heard → Machine)
     → place_of number ls ≡ Some place → l ≡ slice_index_or ls place l → next.number ≡ l.number → next.is_open ≡ true → IfOk r (λ heard. HearsBy number parser l next piece heard.0 heard.1 f (g heard.1))
     → IfOk r (λ heard. IsLessAt (if_heard heard.1 (open_at number (slice_set ls place next))))
 less_at (Ok x) number parser ls place l next piece f g is there same opens hears =

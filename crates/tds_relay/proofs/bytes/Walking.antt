@@ -5,7 +5,7 @@ use Rattle.std.proofs.lemmas.Bool.Decides.{nat_tests}
 use Rattle.tds_client.specs.declared.fault.ClientRefusal.{ClientRefusal}
 use Rattle.tds_wire.specs.declared.features.Features.{Features}
 use Rattle.tds_wire.specs.declared.told.Token.{Token}
-use Rattle.tds_wire.specs.Reading.{Reading}
+use Rattle.tds_wire.specs.Reading.{Parser}
 use Rattle.tds_packet.specs.declared.status.Reset.TheVariants.{Full, KeepTransaction}
 use Rattle.tds_service.specs.declared.seat.Seat as seats
 use Rattle.tds_service.specs.declared.service.Service as services
@@ -16,7 +16,7 @@ use Rattle.tds_service.specs.History.{line_after}
 use Rattle.tds_service.specs.Parts.{Part}
 use Rattle.tds_service.specs.Refusing.{packets, refusal_in}
 use Rattle.tds_service.specs.Service as calls
-use Rattle.tds_service.specs.Service.{Service, Call, Reply, Step, Place, Leased, Cleaning, Kept, Seat, find_by, change_by, has_lease, has_ticket, has_number, is_lendable, is_idle, may_keep, clean_place, drained, rests_cleaned, does, nothing, acts_unless, opens, seat_numbered, step, service_after, new_service}
+use Rattle.tds_service.specs.Service.{Service, Call, Reply, ServiceStep, Place, Leased, Cleaning, Kept, Seat, find_by, change_by, has_lease, has_ticket, has_number, is_lendable, is_idle, may_keep, clean_place, drained, rests_cleaned, does, nothing, acts_unless, opens, seat_numbered, step, service_after, new_service}
 use Rattle.tds_service.specs.Table.{Keeps, KeepsOthers, StepsIn, reading_by, reading_on, seat_in, seats_in, service_in}
 use Rattle.tds_service.proofs.Numbered.{added_other, same_number}
 use Rattle.tds_service.proofs.Tests.{below}
@@ -61,7 +61,7 @@ Opens (calls.Without call) = ⊥
 
 module _ (s : Service) (P : Service → Type 0) (same : P s)
     (changed : (given : ℕ) (test : Seat → Bool) (place : Option Place) (l : Line) → P (record { max = s.max; last = s.last; given = given; seats = change_by test place l s.seats })) where
-  if_so : (b : Bool) (t u : Step Token) → P t.service → P u.service → P (if b then t else u).service
+  if_so : (b : Bool) (t u : ServiceStep Token) → P t.service → P u.service → P (if b then t else u).service
   if_so true t u h k = h
   if_so false t u h k = k
 
@@ -78,7 +78,7 @@ module _ (s : Service) (P : Service → Type 0) (same : P s)
 
   acts_so : (test : Seat → Bool) (first : Act Token) (all : List (Act Token)) (o : Option Seat) → P (calls.acts s test first all o).service
   acts_so test first all None = same
-  acts_so test first all (Some c) = unless_so test c all (refusal_in (line.turn c.line first).answer)
+  acts_so test first all (Some c) = unless_so test c all (refusal_in (line.line_turn c.line first).answer)
 
   lends_so : P (opens {T = Token} s true).service → (o : Option Seat) → P (calls.lends {T = Token} s o).service
   lends_so opened None = opens_so opened (nat_lt (length s.seats) s.max)
@@ -189,11 +189,11 @@ unread_seat n s h = none_seat (has_number n) s.seats.items h
 pub seat_unread : (n : ℕ) (s : services.Service) → seat_numbered n (service_in s).seats ≡ None → reading_on n s ≡ None
 seat_unread n s h = none_read (has_number n) s.seats.items h
 
-stays_by : (r now : Reading) (o p : Option Reading) → ((q : Reading) → o ≡ Some q → p ≡ Some q) → (o ≡ None → p ≡ None) → ((q : Reading) → o ≡ Some q → q ≡ r) → p ≡ Some now → now ≡ r
+stays_by : (r now : Parser) (o p : Option Parser) → ((q : Parser) → o ≡ Some q → p ≡ Some q) → (o ≡ None → p ≡ None) → ((q : Parser) → o ≡ Some q → q ≡ r) → p ≡ Some now → now ≡ r
 stays_by r now None p keeps gone there is = absurd (let u : None ≡ Some now = sym (gone refl) ∙ is in let v : ⊥ = cc in v)
 stays_by r now (Some q) p keeps gone there is = (let u : Some now ≡ Some q = sym is ∙ keeps q refl in let v : now ≡ q = cc in v) ∙ there q refl
 
-pub nothing_there : (r now : Reading) (o : Option Reading) → o ≡ None → o ≡ Some now → now ≡ r
+pub nothing_there : (r now : Parser) (o : Option Parser) → o ≡ None → o ≡ Some now → now ≡ r
 nothing_there r now o none is = absurd (let u : None ≡ Some now = sym none ∙ is in let v : ⊥ = cc in v)
 
 pub differ : (n m : ℕ) → (n == m) ≡ false → n ≢ m
@@ -206,14 +206,14 @@ low_by n s (Some c) tidy e there =
     let low : c.number ≤ s.last = each_found (UpTo s.last) (has_number n) c s.seats tidy.upto e in
     subst (λ (k : ℕ). k ≤ s.last) (same_number c.number n (found_meets (has_number n) c s.seats e)) low
 
-pub low_there : (n : ℕ) (s : services.Service) (now : Reading) → IsLed (service_in s) → reading_on n s ≡ Some now → n ≤ s.last
+pub low_there : (n : ℕ) (s : services.Service) (now : Parser) → IsLed (service_in s) → reading_on n s ≡ Some now → n ≤ s.last
 low_there n s now led is =
     low_by n (service_in s) (seat_numbered n (service_in s).seats) (led_tidy (service_in s) led) refl
     (λ none. let u : None ≡ Some now = sym (seat_unread n s none) ∙ is in let v : ⊥ = cc in v)
 
 -- A connection that comes to be there begins as the service was told.
 abbrev Begun : services.Service → services.Service → ℕ → Type 0
-Begun old new n = (now : Reading) → IsLed (service_in old) → reading_on n old ≡ None → reading_on n new ≡ Some now → Begins old.most old.features now
+Begun old new n = (now : Parser) → IsLed (service_in old) → reading_on n old ≡ None → reading_on n new ≡ Some now → Begins old.most old.features now
 
 -- none comes to be there whose number was given
 none_low : (old new : services.Service) (call : Call Token) (n : ℕ) → service_in new ≡ (step (service_in old) call).service → n ≤ old.last → reading_on n old ≡ None → reading_on n new ≡ None
@@ -229,7 +229,7 @@ none_begun old new call n is never now led none there =
     let gone : reading_on n new ≡ None = none_low old new call n is (subst (λ (k : ℕ). n ≤ k) last_is low) none in
     absurd (let u : None ≡ Some now = sym gone ∙ there in let v : ⊥ = cc in v)
 
-begins_by : (most : ℕ) (features : Features) (old new : services.Service) (n : ℕ) (now : Reading) (o : Option Reading) → reading_on n old ≡ o → ((q : Reading) → o ≡ Some q → reading_on n new ≡ Some q)
+begins_by : (most : ℕ) (features : Features) (old new : services.Service) (n : ℕ) (now : Parser) (o : Option Parser) → reading_on n old ≡ o → ((q : Parser) → o ≡ Some q → reading_on n new ≡ Some q)
     → Begun old new n → IsUnread most features n old → reading_on n new ≡ Some now → Begins most features now
 begins_by most features old new n now None e keeps begun h there =
     subst (λ (m : ℕ). Begins m features now) h.told.0 (subst (λ (f : Features). Begins old.most f now) h.told.1 (begun now h.led e there))
@@ -239,7 +239,7 @@ begins_by most features old new n now (Some q) e keeps begun h there =
 
 -- where it has read nothing
 pub unread_one : (most : ℕ) (features : Features) (old new : services.Service) (call : Call Token) (n : ℕ) → service_in new ≡ (step (service_in old) call).service → MakesAlike old new
-    → ((q : Reading) → reading_on n old ≡ Some q → reading_on n new ≡ Some q) → Begun old new n → IsUnread most features n old → IsUnread most features n new
+    → ((q : Parser) → reading_on n old ≡ Some q → reading_on n new ≡ Some q) → Begun old new n → IsUnread most features n old → IsUnread most features n new
 unread_one most features old new call n is alike keeps begun h = record {
   led = led_on (service_in old) (service_in new) call is h.led;
   told = (alike.0 ∙ h.told.0, alike.1 ∙ h.told.1);
@@ -247,8 +247,8 @@ unread_one most features old new call n is alike keeps begun h = record {
 }
 
 -- where this one stays
-pub stand_one : (old new : services.Service) (call : Call Token) (n : ℕ) (r : Reading) → service_in new ≡ (step (service_in old) call).service
-    → ((q : Reading) → reading_on n old ≡ Some q → reading_on n new ≡ Some q) → StandsAt n r old → StandsAt n r new
+pub stand_one : (old new : services.Service) (call : Call Token) (n : ℕ) (r : Parser) → service_in new ≡ (step (service_in old) call).service
+    → ((q : Parser) → reading_on n old ≡ Some q → reading_on n new ≡ Some q) → StandsAt n r old → StandsAt n r new
 stand_one old new call n r is keeps h =
     let left = subst (Leaves n (service_in old)) (sym is) (step_leaves n (service_in old) call h.given) in
     record {
@@ -324,7 +324,7 @@ unread_gone most features old new call n is alike none h = record {
   begins = λ now there. absurd (let u : None ≡ Some now = sym none ∙ there in let v : ⊥ = cc in v);
 }
 
-gone_by : (old new : services.Service) (call : Call Token) (number n : ℕ) (r : Reading) (b : Bool) → (n == number) ≡ b → service_in new ≡ (step (service_in old) call).service
+gone_by : (old new : services.Service) (call : Call Token) (number n : ℕ) (r : Parser) (b : Bool) → (n == number) ≡ b → service_in new ≡ (step (service_in old) call).service
     → KeepsOthers number old new → (IsLed (service_in old) → seat_numbered number (service_in new).seats ≡ None) → StandsAt n r old → StandsAt n r new
 gone_by old new call number n r true e is keeps gone h =
     let same : n ≡ number = same_number n number e in

@@ -5,12 +5,12 @@ use Rattle.std.proofs.lemmas.List.{append-nil}
 use Rattle.tds_front.specs.declared.front.Front.{Front}
 use Rattle.tds_front.specs.declared.stage.Stage.{Stage}
 use Rattle.tds_front.specs.declared.stage.Stage.TheVariants as stages
-use Rattle.tds_front.specs.Passing.{Event as Passed, EndsWhole, behind}
-use Rattle.tds_front.specs.Serving.{Place, Ready, IsLawful}
+use Rattle.tds_front.specs.Passing.{FrontEvent, EndsWhole, happenings_of}
+use Rattle.tds_front.specs.Serving.{ServerIsAt, Ready, IsLawful}
 use Rattle.tds_relay.specs.Behind.{AllAnswerOnce, Stay, Stays, events_along, passed, passed_in, passes}
 use Rattle.tds_relay.specs.Pool.{Event, Sharing, pool_after}
 use Rattle.tds_relay.specs.Fronting.{AnswersOnce, done_on}
-use Rattle.tds_relay.specs.Core.{Open, Ends, Enters, Core, MayMove, MayMoveAll, Move, events_of, moved, moved_all, new_core}
+use Rattle.tds_relay.specs.Core.{Open, EndList, Enters, Core, MayMove, MayMoveAll, Move, events_of, moved, moved_all, new_core}
 use Rattle.tds_relay.proofs.ends.Ending.{passes_by}
 use Rattle.tds_relay.proofs.ends.Folding.{Alone, ByHistory, IsAt, append_more, done_at, done_both, done_from, lawful_by, leaves_at, may_each, moved_both, outs_of, over_silent, passes_is, sits_at, sound_at}
 use Rattle.tds_relay.proofs.ends.Leading.{Lawful, lawful_more}
@@ -52,17 +52,17 @@ module _ (sharing : Sharing) (key : ℕ) (alone : Alone) (by : ByHistory) (judge
       let one : Lawful s.place front.stage (passes_by key h move (Some (Open front w s.asks))) =
       lawful_by h key (outs_of sharing events) (outs_of sharing (events ++ events_of h move)) (sound_at sharing events h s.is) (sits_at sharing events h s.is) judges
       (reached.known_of sharing key alone by judges events h s.is) move s.place front w s.asks s.end_is may s.standing (leaves_at sharing events h move s.is) (once_of events h move more s.is once) in
-      subst (λ (es : List Passed). Lawful s.place front.stage es) (ap (passes_by key h move) (sym s.end_is) ∙ passes_is key h move) one
+      subst (λ (es : List FrontEvent). Lawful s.place front.stage es) (ap (passes_by key h move) (sym s.end_is) ∙ passes_is key h move) one
 
   -- and behind it others
-  lawful_next : (events : List Event) (h : Core) (moves : List Move) (p : Place) (stage : Stage) (es : List Passed) → MayMoveAll h moves → Stays key moves → Lawful p stage es
+  lawful_next : (events : List Event) (h : Core) (moves : List Move) (p : ServerIsAt) (stage : Stage) (es : List FrontEvent) → MayMoveAll h moves → Stays key moves → Lawful p stage es
       → Then sharing key events h stage p es
       → ((front : Front) (w : Bool) → (s : Stands sharing key events h front w) → Lawful s.place front.stage (passed key h moves)) → Lawful p stage (es ++ passed key h moves)
   lawful_next events h moves p stage es may stays one (Goes front w s leads) rest = lawful_more stage front.stage p s.place es (passed key h moves) leads one (rest front w s)
   lawful_next events h moves p stage es may stays one (IsOver why is) rest =
       let none : passed key h moves ≡ [] = over_silent why key h moves is may stays in
-      let all : es ≡ es ++ passed key h moves = sym (append-nil es) ∙ ap (λ (xs : List Passed). es ++ xs) (sym none) in
-      subst (λ (xs : List Passed). Lawful p stage xs) all one
+      let all : es ≡ es ++ passed key h moves = sym (append-nil es) ∙ ap (λ (xs : List FrontEvent). es ++ xs) (sym none) in
+      subst (λ (xs : List FrontEvent). Lawful p stage xs) all one
 
   lawful_along : (events : List Event) (h : Core) (moves : List Move) (front : Front) (w : Bool) → (s : Stands sharing key events h front w) → MayMoveAll h moves → Stays key moves
       → Answers sharing (events ++ events_along h moves) → Lawful s.place front.stage (passed key h moves)
@@ -77,16 +77,16 @@ module _ (sharing : Sharing) (key : ℕ) (alone : Alone) (by : ByHistory) (judge
   -- ---- From where it enters
 
   abbrev Result : Core → List Move → Type 0
-  Result h after = IsLawful Ready (behind stages.Quiet (passed key h after)) × EndsWhole stages.Quiet (passed key h after)
+  Result h after = IsLawful Ready (happenings_of stages.Quiet (passed key h after)) × EndsWhole stages.Quiet (passed key h after)
 
   from_entered : (events : List Event) (h : Core) (after : List Move) → Entered sharing key events h → MayMoveAll h after → Stays key after → Answers sharing (events ++ events_along h after) → Result h after
   from_entered events h after entered may stays once =
-      let es : List Passed = passed key h after in
+      let es : List FrontEvent = passed key h after in
       let all : Lawful entered.stands.place entered.front.stage es = lawful_along events h after entered.front entered.w entered.stands may stays once in
-      let ready : Lawful Ready entered.front.stage es = subst (λ (p : Place). Lawful p entered.front.stage es) entered.ready all in
+      let ready : Lawful Ready entered.front.stage es = subst (λ (p : ServerIsAt). Lawful p entered.front.stage es) entered.ready all in
       subst (λ (stage : Stage). Lawful Ready stage es) entered.quiet ready
 
-  lawful_entered : (ends : Ends) (before after : List Move) → MayMoveAll (new_core sharing) (before ++ Enters key ends ∷ after) → Stays key after
+  lawful_entered : (ends : EndList) (before after : List Move) → MayMoveAll (new_core sharing) (before ++ Enters key ends ∷ after) → Stays key after
       → Answers sharing (events_along (new_core sharing) (before ++ Enters key ends ∷ after)) → Result (moved_all (new_core sharing) (before ++ Enters key ends ∷ [])) after
   lawful_entered ends before after may stays once =
       let h0 = new_core sharing in
@@ -101,5 +101,5 @@ module _ (sharing : Sharing) (key : ℕ) (alone : Alone) (by : ByHistory) (judge
 
 -- ---- A stay
 
-pub lawful_stay : (sharing : Sharing) (key : ℕ) → Alone → ByHistory → Judging → (s : Stay sharing key) → AllAnswerOnce s → IsLawful Ready (behind stages.Quiet (passed_in s)) × EndsWhole stages.Quiet (passed_in s)
+pub lawful_stay : (sharing : Sharing) (key : ℕ) → Alone → ByHistory → Judging → (s : Stay sharing key) → AllAnswerOnce s → IsLawful Ready (happenings_of stages.Quiet (passed_in s)) × EndsWhole stages.Quiet (passed_in s)
 lawful_stay sharing key alone by judges s once = lawful_entered sharing key alone by judges s.ends s.before s.since s.may s.stays once

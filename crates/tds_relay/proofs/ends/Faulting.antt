@@ -19,7 +19,7 @@ use Rattle.tds_relay.specs.Pool as pool
 use Rattle.tds_relay.specs.Pool.{Pool, Event, last_broken, broken_of, fault_among, fault_on, turn, whose}
 use Rattle.tds_relay.specs.Faults.{AnswersFault, AreWrong, BreaksBy, BreaksOn, IsMet, IsMetOn, why_at, why_of}
 use Rattle.tds_relay.specs.Core as core
-use Rattle.tds_relay.specs.Core.{End, Open, Over, Core, HasEntered, IsQuiet, MayDoAlone, MayMove, Move, closes, done_by, end_at, end_behind, event_if, feeds, goes_on, holder, lets_go, moved, sent_by, stops_of, told, what_in}
+use Rattle.tds_relay.specs.Core.{End, Open, Over, Core, HasEntered, IsQuiet, MayDoAlone, MayMove, Move, closes, dones_of_part, end_at, end_behind, event_if, feeds, end_goes_on, holder, lets_go, moved, sent_by, stops_of, end_told, what_in}
 use Rattle.tds_relay.specs.Machine.{Machine, Step, Makes, Hands, Takes, Writes, Admits, Removes, MayAll, MayStep, after}
 use Rattle.tds_relay.proofs.ends.Ending.{end_behind_is, end_by, whose_by}
 use Rattle.tds_relay.proofs.ends.Modes.{IsNoPacket, broken_as, broken_behind}
@@ -29,7 +29,7 @@ use Rattle.tds_relay.proofs.ends.Modes.{IsNoPacket, broken_as, broken_behind}
 abbrev Keeps : (End → End) → Type 0
 Keeps by = (end : End) → why_of (Some (by end)) ≡ why_of (Some end)
 
-goes_keeps : (packets : List Packet) → Keeps (goes_on packets)
+goes_keeps : (packets : List Packet) → Keeps (end_goes_on packets)
 goes_keeps [] end = refl
 goes_keeps (packet ∷ packets) (Open front withdrawn asks) = refl
 goes_keeps (packet ∷ packets) (Over why) = refl
@@ -42,7 +42,7 @@ closes_keeps : Keeps closes
 closes_keeps (Open front withdrawn asks) = refl
 closes_keeps (Over why) = refl
 
-told_keeps : (what : What) → Keeps (told what)
+told_keeps : (what : What) → Keeps (end_told what)
 told_keeps whats.Goes (Open front withdrawn asks) = refl
 told_keeps whats.Finished (Open front withdrawn asks) = refl
 told_keeps whats.Acknowledged (Open front true asks) = refl
@@ -67,7 +67,7 @@ whose_keeps by keeps key (Some other) o = if_keeps by keeps (other == key) o
 
 quiet_why : (key : ℕ) (h : Core) (move : Move) → IsQuiet move → (o : Option End) → why_of (end_by key h move o) ≡ why_of o
 quiet_why key h (core.Does event) quiet o = refl
-quiet_why key h (core.Sends k action) quiet o = if_keeps (goes_on (sent_by h.pool (pool.Does k action))) (goes_keeps (sent_by h.pool (pool.Does k action))) (k == key) o
+quiet_why key h (core.Sends k action) quiet o = if_keeps (end_goes_on (sent_by h.pool (pool.Does k action))) (goes_keeps (sent_by h.pool (pool.Does k action))) (k == key) o
 quiet_why key h (core.LetsGo k parks gives way) quiet o = if_keeps lets_go lets_keeps (k == key) o
 quiet_why key h (core.Loses number) quiet o = whose_keeps closes closes_keeps key (holder h.pool number) o
 quiet_why key h (core.Replaces number) quiet o = whose_keeps lets_go lets_keeps key (holder h.pool number) o
@@ -94,7 +94,7 @@ takes_why key k true bytes fault h is e = elim (fed_why bytes fault (end_at h.co
 ]
 takes_why key k false bytes fault h is e = inl e
 
-enters_why : (key k : ℕ) (fault : FrontFault) (h : Machine) (ends : core.Ends) → (key ≡ k) ⊎ (key ≢ k) → HasEntered k h.core.ends ends → why_of (end_at ends key) ≡ Some fault → why_at key h ≡ Some fault
+enters_why : (key k : ℕ) (fault : FrontFault) (h : Machine) (ends : core.EndList) → (key ≡ k) ⊎ (key ≢ k) → HasEntered k h.core.ends ends → why_of (end_at ends key) ≡ Some fault → why_at key h ≡ Some fault
 enters_why key k fault h ends (inl same) entered e =
     absurd (let none : why_of (end_at ends key) ≡ None = ap (λ (x : ℕ). why_of (end_at ends x)) same ∙ ap why_of entered.begins in let u : Some fault ≡ None = sym e ∙ none in let v : ⊥ = cc in v)
 enters_why key k fault h ends (inr differs) entered e = ap why_of (sym (entered.others_stay key differs)) ∙ e
@@ -113,8 +113,8 @@ behind_why key fault h move e = sym (ap why_of (end_behind_is key h.core move)) 
 one_why : (key : ℕ) (fault : FrontFault) (h : Machine) (step : Step) → MayStep h step → why_at key (after h step) ≡ Some fault → (why_at key h ≡ Some fault) ⊎ BreaksBy key fault h step
 one_why key fault h (Makes move) may e = inl (sym (quiet_why key h.core move may.1 (end_at h.core.ends key)) ∙ behind_why key fault h move e)
 one_why key fault h (Hands number header content part way manner) may e =
-    let what = what_in (done_by h.core.pool number part) in
-    inl (sym (whose_keeps (told what) (told_keeps what) key (whose h.core.pool number) (end_at h.core.ends key)) ∙ behind_why key fault h (core.Comes number part way) e)
+    let what = what_in (dones_of_part h.core.pool number part) in
+    inl (sym (whose_keeps (end_told what) (told_keeps what) key (whose h.core.pool number) (end_at h.core.ends key)) ∙ behind_why key fault h (core.Comes number part way) e)
 one_why key fault h (Takes k bytes) may e = takes_why key k (k == key) bytes fault h refl (behind_why key fault h (core.Feeds k bytes) e)
 one_why key fault h (Writes k count) may e = inl e
 one_why key fault h (Admits k ends queues) may e = inl (enters_why key k fault h ends (cases_eq key k) may.0 e)
@@ -192,7 +192,7 @@ stops_on d key false = refl
 one_on : (number : ℕ) (fault : ListenFault) (h : Machine) (step : Step) → MayStep h step → fault_on number (after h step).core.pool ≡ Some fault → (fault_on number h.core.pool ≡ Some fault) ⊎ BreaksOn number fault h step
 one_on number fault h (Makes move) may e = inl (ap (fault_among number) (sym (quiet_on h.core move may.0 may.1)) ∙ e)
 one_on number fault h (Hands n header content part way manner) may e =
-    dones_met n number fault (done_by h.core.pool n part) h.core.pool.broken (ap (fault_among number) (sym (broken_behind h.core.pool n part way)) ∙ e)
+    dones_met n number fault (dones_of_part h.core.pool n part) h.core.pool.broken (ap (fault_among number) (sym (broken_behind h.core.pool n part way)) ∙ e)
 one_on number fault h (Takes k bytes) may e = inl (ap (fault_among number) (sym (stops_on h.core.pool k (stops_of bytes (end_at h.core.ends k)))) ∙ e)
 one_on number fault h (Writes k count) may e = inl e
 one_on number fault h (Admits k ends queues) may e = inl e

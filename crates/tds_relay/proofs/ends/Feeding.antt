@@ -13,10 +13,10 @@ use Rattle.tds_front.specs.declared.stage.Head.{Head}
 use Rattle.tds_front.specs.declared.stage.Stage.{Stage}
 use Rattle.tds_front.specs.declared.stage.Stage.TheVariants as stages
 use Rattle.tds_front.specs.Exchanges.{place_after}
-use Rattle.tds_front.specs.Passing.{Event as Passed, Packet, IsData, IsSaid, SaysOf, stage_fed, with_told}
+use Rattle.tds_front.specs.Passing.{FrontEvent, Packet, IsData, IsSaid, SaysOf, stage_fed, with_told}
 use Rattle.tds_front.specs.Rules.{taken}
 use Rattle.tds_front.specs.Serving as serving
-use Rattle.tds_front.specs.Serving.{Place, Ready, IsLawful, Happening, behind_brought}
+use Rattle.tds_front.specs.Serving.{ServerIsAt, Ready, IsLawful, Happening, behind_brought}
 use Rattle.tds_service.specs.Line as line
 use Rattle.tds_service.specs.Line.{Line}
 use Rattle.tds_relay.specs.Pool as pool
@@ -138,7 +138,7 @@ plain_stopping (actions.Forget gone) next f plain = f.1
 plain_stopping actions.Acknowledge next f plain = f.1
 plain_stopping actions.HandOn next f plain = plain
 
-plain_tied : (s : line.Stage) (stage : Stage) (action : Action) (next : Stage) (w : Bool) (p : Place) (out : Bool) → FitsAction stage action next → IsPlain action → Tied stage w p s out → Tied next w p s out
+plain_tied : (s : line.LineStage) (stage : Stage) (action : Action) (next : Stage) (w : Bool) (p : ServerIsAt) (out : Bool) → FitsAction stage action next → IsPlain action → Tied stage w p s out → Tied next w p s out
 plain_tied s stage action next true p out f plain t = (t.0, plain_here stage action next f plain t.1, t.2)
 plain_tied line.Idle stage action next false p out f plain t = (plain_here stage action next f plain t.0, t.1)
 plain_tied (line.Sending false) stage action next false p out f plain t = (plain_here stage action next f plain t.0, t.1)
@@ -188,25 +188,25 @@ module _ (d : Pool) (key : ℕ) (outs outs2 : ℕ → Bool) (sound : Sound d) (s
   abbrev pub PoolIf : Bool → Pool
   PoolIf b = pool_after d (event_if b Stops)
 
-  same_outs : (stage : Stage) (w : Bool) (p : Place) → ((n : ℕ) → outs2 n ≡ outs n) → Standing outs d key stage w p → Standing outs2 d key stage w p
+  same_outs : (stage : Stage) (w : Bool) (p : ServerIsAt) → ((n : ℕ) → outs2 n ≡ outs n) → Standing outs d key stage w p → Standing outs2 d key stage w p
   same_outs stage w p same (inl k) =
       inl (record { hold = k.hold; seat = k.seat; its = k.its; tied = subst (λ (o : Bool). Tied stage w p k.seat.line.stage o) (sym (same k.hold.number)) k.tied })
   same_outs stage w p same (inr k) = inr k
 
-  plain_stands : (stage : Stage) (action : Action) (next : Stage) (w : Bool) (p : Place) → FitsAction stage action next → IsPlain action → Standing outs d key stage w p → Standing outs d key next w p
+  plain_stands : (stage : Stage) (action : Action) (next : Stage) (w : Bool) (p : ServerIsAt) → FitsAction stage action next → IsPlain action → Standing outs d key stage w p → Standing outs d key next w p
   plain_stands stage action next w p f plain (inl k) =
       inl (record { hold = k.hold; seat = k.seat; its = k.its; tied = plain_tied k.seat.line.stage stage action next w p (outs k.hold.number) f plain k.tied })
   plain_stands stage action next w p f plain (inr k) =
       inr (record { absent = k.absent; rests = record { here = plain_here stage action next f plain k.rests.here; its = k.rests.its; ready = k.rests.ready } })
 
   -- none is stopped
-  still_next : (b : Bool) (stage next : Stage) (w w2 : Bool) (p : Place) (es : List Passed) → b ≡ false → w ≡ w2 → Leads stage p es next p → LeavesIf b → Standing outs d key next w p
+  still_next : (b : Bool) (stage next : Stage) (w w2 : Bool) (p : ServerIsAt) (es : List FrontEvent) → b ≡ false → w ≡ w2 → Leads stage p es next p → LeavesIf b → Standing outs d key next w p
       → Next outs2 (PoolIf b) key stage p es next w2
   still_next true stage next w w2 p es none same leads leaves s = absurd (let u : ⊥ = cc in u)
   still_next false stage next w w2 p es none same leads leaves s =
       record { place = p; standing = subst (λ (x : Bool). Standing outs2 d key next x p) same (same_outs next w p leaves s); leads = leads }
 
-  takes_next : (b : Bool) (stage next : Stage) (head : Head) (w w2 : Bool) (p : Place) → b ≡ true → true ≡ w2 → (taken stage head).stage ≡ next → (taken stage head).does ≡ Ok (actions.Forget true) → LeavesIf b
+  takes_next : (b : Bool) (stage next : Stage) (head : Head) (w w2 : Bool) (p : ServerIsAt) → b ≡ true → true ≡ w2 → (taken stage head).stage ≡ next → (taken stage head).does ≡ Ok (actions.Forget true) → LeavesIf b
       → Standing outs d key stage w p → Next outs2 (PoolIf b) key stage p (Packet head ∷ []) next w2
   takes_next false stage next head w w2 p some same is does leaves s = absurd (let u : ⊥ = cc in u)
   takes_next true stage next head w w2 p some same is does leaves s =
@@ -220,25 +220,25 @@ module _ (d : Pool) (key : ℕ) (outs outs2 : ℕ → Bool) (sound : Sound d) (s
         standing = subst (λ (x : Bool). Standing outs2 d2 key next x Ready) same one;
         leads = record {
           stage_is = is;
-          place_is = ap (λ (r : Result Action FrontFault). place_after p (with_told r [])) does ∙ ap (λ (x : Place). behind_brought x serving.Ignored) back.was;
+          place_is = ap (λ (r : Result Action FrontFault). place_after p (with_told r [])) does ∙ ap (λ (x : ServerIsAt). behind_brought x serving.Ignored) back.was;
         };
       }
 
-  open_at : (stage : Stage) (w : Bool) (p : Place) (l : line.Stage) → GoneAt stage w p l → w ≡ false
+  open_at : (stage : Stage) (w : Bool) (p : ServerIsAt) (l : line.LineStage) → GoneAt stage w p l → w ≡ false
   open_at stage w p l (SendsOut its at is) = its
   open_at stage w p l (ReadsOut its at underway is) = its
 
-  open_by : (stage : Stage) (w : Bool) (p : Place) → Standing outs d key stage w p → IsGone stage → w ≡ false
+  open_by : (stage : Stage) (w : Bool) (p : ServerIsAt) → Standing outs d key stage w p → IsGone stage → w ≡ false
   open_by stage w p (inl k) gone = open_at stage w p k.seat.line.stage (gone_at k.seat.line.stage stage w p (outs k.hold.number) k.tied gone)
   open_by stage w p (inr k) gone = absurd (here_gone stage k.rests.here gone)
 
-  hands_next : (b : Bool) (stage next : Stage) (head : Head) (w w2 : Bool) (p : Place) → b ≡ true → w ≡ w2 → (taken stage head).stage ≡ next → (taken stage head).does ≡ Ok actions.HandOn
+  hands_next : (b : Bool) (stage next : Stage) (head : Head) (w w2 : Bool) (p : ServerIsAt) → b ≡ true → w ≡ w2 → (taken stage head).stage ≡ next → (taken stage head).does ≡ Ok actions.HandOn
       → Known d key outs outs2 sound sit → LeavesIf b → Standing outs d key stage w p → Next outs2 (PoolIf b) key stage p (Packet head ∷ []) next w2
   hands_next false stage next head w w2 p some same is does known leaves s = absurd (let u : ⊥ = cc in u)
   hands_next true stage next head w w2 p some same is does known leaves s =
       let f = fits stage head actions.HandOn does in
       let on = stopping.hands_on d key outs outs2 sound sit stage w p s f.1 known leaves in
-      let q : Place = behind_brought p serving.Attention in
+      let q : ServerIsAt = behind_brought p serving.Attention in
       let stops : stages.Stopping ≡ next = sym f.0 ∙ is in
       let its : false ≡ w2 = sym (open_by stage w p s f.1) ∙ same in
       let d2 = (turn d Stops).pool in
@@ -250,7 +250,7 @@ module _ (d : Pool) (key : ℕ) (outs outs2 : ℕ → Bool) (sound : Sound d) (s
       }
 
   -- a packet
-  packet_next : (b : Bool) (stage next : Stage) (head : Head) (w : Bool) (p : Place) (answer : Said) → SaidKind (taken stage head).does answer → (takes_back answer || hands_on answer) ≡ b → (taken stage head).stage ≡ next
+  packet_next : (b : Bool) (stage next : Stage) (head : Head) (w : Bool) (p : ServerIsAt) (answer : Said) → SaidKind (taken stage head).does answer → (takes_back answer || hands_on answer) ≡ b → (taken stage head).stage ≡ next
       → Known d key outs outs2 sound sit → LeavesIf b → Standing outs d key stage w p → Next outs2 (PoolIf b) key stage p (Packet head ∷ []) next (takes_back answer || w)
   packet_next b stage next head w p answer (Plain action does plain takes hands) e is known leaves s =
       let f : FitsAction stage action next = subst (λ (x : Stage). FitsAction stage action x) is (fits stage head action does) in
@@ -264,7 +264,7 @@ module _ (d : Pool) (key : ℕ) (outs outs2 : ℕ → Bool) (sound : Sound d) (s
       hands_next b stage next head w (takes_back answer || w) p (sym e ∙ or_second (takes_back answer) (hands_on answer) takes hands) (or_right (takes_back answer) w takes) is does known leaves s
 
   -- any bytes
-  pub fed_next : (b : Bool) (stage : Stage) (front : Front) (w : Bool) (asks : Option Reset) (p : Place) (packet : Option Head) (brings : Result Fed FrontFault) → stops_by brings ≡ b → front.stage ≡ stage_fed stage packet brings
+  pub fed_next : (b : Bool) (stage : Stage) (front : Front) (w : Bool) (asks : Option Reset) (p : ServerIsAt) (packet : Option Head) (brings : Result Fed FrontFault) → stops_by brings ≡ b → front.stage ≡ stage_fed stage packet brings
       → SaysOf stage packet brings → Known d key outs outs2 sound sit → LeavesIf b → Standing outs d key stage w p
       → Told outs2 (PoolIf b) key stage p (brought_by stage packet brings) (end_behind front w asks brings)
   fed_next b stage front w asks p None (Ok fed) e is says known leaves s =
@@ -280,7 +280,7 @@ module _ (d : Pool) (key : ℕ) (outs outs2 : ℕ → Bool) (sound : Sound d) (s
 
 -- ---- What is said behind it is lawful
 
-told_lawful : (does : Result Action FrontFault) (p : Place) → IsLawful p (with_told does [])
+told_lawful : (does : Result Action FrontFault) (p : ServerIsAt) → IsLawful p (with_told does [])
 told_lawful (Ok (actions.Begin kind reset)) p = tt
 told_lawful (Ok actions.Go) p = tt
 told_lawful (Ok (actions.Forget true)) p = tt
@@ -289,11 +289,11 @@ told_lawful (Ok actions.Acknowledge) p = tt
 told_lawful (Ok actions.HandOn) p = tt
 told_lawful (Err fault) p = tt
 
-refused_lawful : (stage : Stage) (head : Head) (p : Place) (does : Result Action FrontFault) (fault : FrontFault) → Lawful p stage (Packet head ∷ refused_by does fault)
+refused_lawful : (stage : Stage) (head : Head) (p : ServerIsAt) (does : Result Action FrontFault) (fault : FrontFault) → Lawful p stage (Packet head ∷ refused_by does fault)
 refused_lawful stage head p (Ok action) fault = (told_lawful (taken stage head).does p, tt)
 refused_lawful stage head p (Err first) fault = (told_lawful (taken stage head).does p, tt)
 
-pub fed_lawful : (stage : Stage) (p : Place) (packet : Option Head) (brings : Result Fed FrontFault) → Lawful p stage (brought_by stage packet brings)
+pub fed_lawful : (stage : Stage) (p : ServerIsAt) (packet : Option Head) (brings : Result Fed FrontFault) → Lawful p stage (brought_by stage packet brings)
 fed_lawful stage p None (Ok fed) = (tt, tt)
 fed_lawful stage p None (Err fault) = (tt, tt)
 fed_lawful stage p (Some head) (Ok fed) = (told_lawful (taken stage head).does p, tt)

@@ -7,9 +7,9 @@ use Rattle.tds_wire.specs.declared.told.Token.{Token}
 use Rattle.tds_front.specs.declared.front.Front.{Front}
 use Rattle.tds_front.specs.declared.stage.Stage.{Stage}
 use Rattle.tds_front.specs.Bytes.{fed}
-use Rattle.tds_front.specs.Passing.{Event as Passed, behind, judged}
+use Rattle.tds_front.specs.Passing.{FrontEvent, happenings_of, judged}
 use Rattle.tds_front.specs.Rules as rules
-use Rattle.tds_front.specs.Serving.{Place, Ready, IsLawful, behind_brought}
+use Rattle.tds_front.specs.Serving.{ServerIsAt, Ready, IsLawful, behind_brought}
 use Rattle.tds_front.specs.Serving as serving
 use Rattle.tds_front.specs.declared.fault.FrontFault.{FrontFault}
 use Rattle.tds_service.specs.Line as line
@@ -17,12 +17,12 @@ use Rattle.tds_service.specs.Line.{Line, Packet, new_line}
 use Rattle.tds_service.specs.History.{Done, acts_of, history, line_after}
 use Rattle.tds_service.specs.Parts.{Part}
 use Rattle.tds_service.specs.Service as calls
-use Rattle.tds_service.specs.Service.{Service, Seat, Call, Step, lease_at, new_service, on, on_one, seat_numbered, service_after, step, steps}
+use Rattle.tds_service.specs.Service.{Service, Seat, Call, ServiceStep, lease_at, new_service, on, on_one, seat_numbered, service_after, step, steps}
 use Rattle.tds_relay.specs.Pool as pool
-use Rattle.tds_relay.specs.Pool.{Action, Pool, Event, Hearing, Sharing, Turn, Way, pool_after, new_pool, turn, whose}
-use Rattle.tds_relay.specs.Behind.{AllAnswerOnce, Stays, StaysIn, brought, events_along, gone_on, if_open, passed, passes, said_in, unless_withdrawn}
+use Rattle.tds_relay.specs.Pool.{Action, Pool, Event, Hearing, Sharing, PoolTurn, Way, pool_after, new_pool, turn, whose}
+use Rattle.tds_relay.specs.Behind.{AllAnswerOnce, Stays, StaysIn, brought, events_along, gone_on, if_end_open, passed, passes, said_in, unless_withdrawn}
 use Rattle.tds_relay.specs.Fronting.{AnswersOnce, calls_along, done_on}
-use Rattle.tds_relay.specs.Core.{End, Open, Over, Ends, Core, IsPut, MayDo, MayMove, MayMoveAll, Move, done_by, end_at, event_if, events_of, holder, moved, moved_all, new_core, sent_by, stops_of, told, what_in, what_of, goes_on, closes, lets_go, feeds}
+use Rattle.tds_relay.specs.Core.{End, Open, Over, EndList, Core, IsPut, MayDo, MayMove, MayMoveAll, Move, dones_of_part, end_at, event_if, events_of, holder, moved, moved_all, new_core, sent_by, stops_of, end_told, what_in, what_of, end_goes_on, closes, lets_go, feeds}
 use Rattle.tds_relay.specs.Core as core
 use Rattle.tds_relay.proofs.promises.Bringing.{always_sound}
 use Rattle.tds_relay.proofs.steps.Calling.{service_along}
@@ -56,13 +56,13 @@ calls_both d (x ∷ xs) ys =
 
 steps_both : (s : Service) (xs ys : List (Call Token)) → steps s (xs ++ ys) ≡ steps s xs ++ steps (service_after s xs) ys
 steps_both s [] ys = refl
-steps_both s (x ∷ xs) ys = ap (λ (all : List (Step Token)). step s x ∷ all) (steps_both (step s x).service xs ys)
+steps_both s (x ∷ xs) ys = ap (λ (all : List (ServiceStep Token)). step s x ∷ all) (steps_both (step s x).service xs ys)
 
 one_both : (b : Bool) (ds xs ys : List (Done Token)) → on_one b ds (xs ++ ys) ≡ on_one b ds xs ++ ys
 one_both true ds xs ys = sym (append_more ds xs ys)
 one_both false ds xs ys = refl
 
-on_both : (n : ℕ) (xs ys : List (Step Token)) → on n (xs ++ ys) ≡ on n xs ++ on n ys
+on_both : (n : ℕ) (xs ys : List (ServiceStep Token)) → on n (xs ++ ys) ≡ on n xs ++ on n ys
 on_both n [] ys = refl
 on_both n (x ∷ xs) ys = ap (λ (ds : List (Done Token)). on_one (x.number == n) x.dones ds) (on_both n xs ys) ∙ one_both (x.number == n) x.dones (on n xs) (on n ys)
 
@@ -74,7 +74,7 @@ pub done_both : (n : ℕ) (d : Pool) (xs ys : List Event) → done_from n d (xs 
 done_both n d xs ys =
     let zs = calls_along (pool_after d xs) ys in
     ap (λ (all : List (Call Token)). on n (steps d.service all)) (calls_both d xs ys)
-    ∙ ap (λ (all : List (Step Token)). on n all) (steps_both d.service (calls_along d xs) zs)
+    ∙ ap (λ (all : List (ServiceStep Token)). on n all) (steps_both d.service (calls_along d xs) zs)
     ∙ on_both n (steps d.service (calls_along d xs)) (steps (service_after d.service (calls_along d xs)) zs)
     ∙ ap (λ (s : Service). done_from n d xs ++ on n (steps s zs)) (sym (service_along d xs))
 
@@ -148,11 +148,11 @@ may_each h (x ∷ xs) ys may = let more = may_each (moved h x) xs ys may.1 in ((
 
 -- ---- What is told of an application, behind moves
 
-next_place : (outs : ℕ → Bool) (d : Pool) (key : ℕ) (p : Place) (es : List Passed) (stage : Stage) (end : End) → Told outs d key stage p es end → (q : Place) × StoryOf outs d key q (Some end)
+next_place : (outs : ℕ → Bool) (d : Pool) (key : ℕ) (p : ServerIsAt) (es : List FrontEvent) (stage : Stage) (end : End) → Told outs d key stage p es end → (q : ServerIsAt) × StoryOf outs d key q (Some end)
 next_place outs d key p es stage (Open front w asks) next = (next.place, next.standing)
 next_place outs d key p es stage (Over why) next = (p, next)
 
-pub step_story : (outs : ℕ → Bool) (d : Pool) (key : ℕ) (p : Place) (es : List Passed) (o o2 : Option End) → StepOf outs d key p es o o2 → (q : Place) × StoryOf outs d key q o2
+pub step_story : (outs : ℕ → Bool) (d : Pool) (key : ℕ) (p : ServerIsAt) (es : List FrontEvent) (o o2 : Option End) → StepOf outs d key p es o o2 → (q : ServerIsAt) × StoryOf outs d key q o2
 step_story outs d key p es None None s = (p, s)
 step_story outs d key p es None (Some (Open front w asks)) s = (Ready, s.0)
 step_story outs d key p es None (Some (Over why)) s = absurd s
@@ -178,7 +178,7 @@ passes_is key h (core.Quits k gives way) = refl
 
 -- ---- One that is over, or stays
 
-if_nothing : (b : Bool) → (if b then (let x : List Passed = [] in x) else []) ≡ []
+if_nothing : (b : Bool) → (if b then (let x : List FrontEvent = [] in x) else []) ≡ []
 if_nothing true = refl
 if_nothing false = refl
 
@@ -198,11 +198,11 @@ over_passes why key h (core.Closes k) = refl
 over_passes why key h (core.Enters k ends) = refl
 over_passes why key h (core.Quits k gives way) = refl
 
-goes_over : (why : Option FrontFault) (ps : List Packet) → goes_on ps (Over why) ≡ Over why
+goes_over : (why : Option FrontFault) (ps : List Packet) → end_goes_on ps (Over why) ≡ Over why
 goes_over why [] = refl
 goes_over why (p ∷ ps) = refl
 
-told_over : (why : Option FrontFault) (what : Rattle.tds_relay.specs.declared.pool.coming.What.What) → told what (Over why) ≡ Over why
+told_over : (why : Option FrontFault) (what : Rattle.tds_relay.specs.declared.pool.coming.What.What) → end_told what (Over why) ≡ Over why
 told_over why Rattle.tds_relay.specs.declared.pool.coming.What.TheVariants.Goes = refl
 told_over why Rattle.tds_relay.specs.declared.pool.coming.What.TheVariants.Finished = refl
 told_over why Rattle.tds_relay.specs.declared.pool.coming.What.TheVariants.Acknowledged = refl
@@ -220,21 +220,21 @@ quits_not : (key k : ℕ) (b : Bool) (o : Option End) → (k == key) ≡ b → k
 quits_not key k true o e not = absurd (not (sym (eqb-true k key e)))
 quits_not key k false o e not = refl
 
-entered_same : (key k : ℕ) (h : Core) (ends : Ends) → core.HasEntered k h.ends ends → key ≢ k → end_at ends key ≡ end_at h.ends key
+entered_same : (key k : ℕ) (h : Core) (ends : EndList) → core.HasEntered k h.ends ends → key ≢ k → end_at ends key ≡ end_at h.ends key
 entered_same key k h ends entered not = entered.others_stay key not
 
 pub stays_over : (why : Option FrontFault) (key : ℕ) (h : Core) (move : Move) → MayMove h move → StaysIn key move → end_at h.ends key ≡ Some (Over why) → end_by key h move (end_at h.ends key) ≡ Some (Over why)
 stays_over why key h (core.Does event) may stays e = e
 stays_over why key h (core.Sends k action) may stays e =
-    ap (λ (o : Option End). if k == key then option_map (goes_on (sent_by h.pool (pool.Does k action))) o else o) e ∙ if_over why (k == key) (goes_on (sent_by h.pool (pool.Does k action))) (goes_over why (sent_by h.pool (pool.Does k action)))
+    ap (λ (o : Option End). if k == key then option_map (end_goes_on (sent_by h.pool (pool.Does k action))) o else o) e ∙ if_over why (k == key) (end_goes_on (sent_by h.pool (pool.Does k action))) (goes_over why (sent_by h.pool (pool.Does k action)))
 stays_over why key h (core.LetsGo k parks gives way) may stays e = ap (λ (o : Option End). if k == key then option_map lets_go o else o) e ∙ if_over why (k == key) lets_go refl
 stays_over why key h (core.Loses n) may stays e =
     ap (λ (o : Option End). whose_by key (holder h.pool n) closes o) e ∙ whose_over why key (holder h.pool n) closes refl
 stays_over why key h (core.Replaces n) may stays e =
     ap (λ (o : Option End). whose_by key (holder h.pool n) lets_go o) e ∙ whose_over why key (holder h.pool n) lets_go refl
 stays_over why key h (core.Comes n part way) may stays e =
-    let by : End → End = told (what_in (done_by h.pool n part)) in
-    ap (λ (o : Option End). whose_by key (whose h.pool n) by o) e ∙ whose_over why key (whose h.pool n) by (told_over why (what_in (done_by h.pool n part)))
+    let by : End → End = end_told (what_in (dones_of_part h.pool n part)) in
+    ap (λ (o : Option End). whose_by key (whose h.pool n) by o) e ∙ whose_over why key (whose h.pool n) by (told_over why (what_in (dones_of_part h.pool n part)))
 stays_over why key h (core.Feeds k bytes) may stays e = ap (λ (o : Option End). if k == key then option_map (feeds bytes) o else o) e ∙ if_over why (k == key) (feeds bytes) refl
 stays_over why key h (core.Closes k) may stays e = ap (λ (o : Option End). if k == key then option_map closes o else o) e ∙ if_over why (k == key) closes refl
 stays_over why key h (core.Enters k ends) may stays e = entered_same key k h ends may stays ∙ e
@@ -245,11 +245,11 @@ over_silent why key h [] e may stays = refl
 over_silent why key h (move ∷ moves) e may stays =
     let none : passes key h move ≡ [] = sym (passes_is key h move) ∙ ap (passes_by key h move) e ∙ over_passes why key h move in
     let next : end_at (moved h move).ends key ≡ Some (Over why) = end_behind_is key h move ∙ stays_over why key h move may.0 stays.0 e in
-    ap (λ (es : List Passed). es ++ passed key (moved h move) moves) none ∙ over_silent why key (moved h move) moves next may.1 stays.1
+    ap (λ (es : List FrontEvent). es ++ passed key (moved h move) moves) none ∙ over_silent why key (moved h move) moves next may.1 stays.1
 
 -- one that is there stays there
 abbrev Is : Option End → Type 0
-Is o = core.IsThere o
+Is o = core.IsEndThere o
 
 if_there : (b : Bool) (by : End → End) (o : Option End) → Is o → Is (if b then option_map by o else o)
 if_there true by None i = i
@@ -262,11 +262,11 @@ whose_there key (Some k) by o i = if_there (k == key) by o i
 
 pub stays_there : (key : ℕ) (h : Core) (move : Move) → MayMove h move → StaysIn key move → Is (end_at h.ends key) → Is (end_by key h move (end_at h.ends key))
 stays_there key h (core.Does event) may stays i = i
-stays_there key h (core.Sends k action) may stays i = if_there (k == key) (goes_on (sent_by h.pool (pool.Does k action))) (end_at h.ends key) i
+stays_there key h (core.Sends k action) may stays i = if_there (k == key) (end_goes_on (sent_by h.pool (pool.Does k action))) (end_at h.ends key) i
 stays_there key h (core.LetsGo k parks gives way) may stays i = if_there (k == key) lets_go (end_at h.ends key) i
 stays_there key h (core.Loses n) may stays i = whose_there key (holder h.pool n) closes (end_at h.ends key) i
 stays_there key h (core.Replaces n) may stays i = whose_there key (holder h.pool n) lets_go (end_at h.ends key) i
-stays_there key h (core.Comes n part way) may stays i = whose_there key (whose h.pool n) (told (what_in (done_by h.pool n part))) (end_at h.ends key) i
+stays_there key h (core.Comes n part way) may stays i = whose_there key (whose h.pool n) (end_told (what_in (dones_of_part h.pool n part))) (end_at h.ends key) i
 stays_there key h (core.Feeds k bytes) may stays i = if_there (k == key) (feeds bytes) (end_at h.ends key) i
 stays_there key h (core.Closes k) may stays i = if_there (k == key) closes (end_at h.ends key) i
 stays_there key h (core.Enters k ends) may stays i = subst Is (sym (entered_same key k h ends may stays)) i
@@ -274,10 +274,10 @@ stays_there key h (core.Quits k gives way) may stays i = subst Is (sym (quits_no
 
 -- ---- What one move says is lawful
 
-gone_lawful : (ps : List Packet) (p : Place) (stage : Stage) → IsLawful p (behind stage (gone_on ps))
+gone_lawful : (ps : List Packet) (p : ServerIsAt) (stage : Stage) → IsLawful p (happenings_of stage (gone_on ps))
 gone_lawful [] p stage = tt
-gone_lawful (line.OfRequest request first reset true ∷ ps) p stage = gone_lawful ps (behind_brought p serving.Whole) (rules.went_on stage)
-gone_lawful (line.OfRequest request first reset false ∷ ps) p stage = gone_lawful ps (behind_brought p serving.More) (rules.went_on stage)
+gone_lawful (line.OfRequest request first reset true ∷ ps) p stage = gone_lawful ps (behind_brought p serving.Whole) (rules.request_went_on stage)
+gone_lawful (line.OfRequest request first reset false ∷ ps) p stage = gone_lawful ps (behind_brought p serving.More) (rules.request_went_on stage)
 gone_lawful (line.Ignore request ∷ ps) p stage = gone_lawful ps p stage
 gone_lawful (line.Attention ∷ ps) p stage = gone_lawful ps p stage
 
@@ -293,12 +293,12 @@ came_by s n part (Some c) out others e once =
     first_once (c.number == n) out (calls.hears {T = Token} s (calls.has_number n) part (Some c)).dones others (Rattle.tds_relay.proofs.promises.Seats.found_meets (calls.has_number n) c s.seats e) once
 
 comes_once : (d : Pool) (n : ℕ) (part : Part Token) (way : Way) (s : Service) (lease : Option ℕ) (hearing : Hearing) (out : Bool)
-    → AnswersOnce out (on n (steps d.service ((pool.comes_by d (calls.Came n part) s n way lease hearing).calls ++ []))) → AnswersOnce out (done_by d n part)
+    → AnswersOnce out (on n (steps d.service ((pool.comes_by d (calls.Came n part) s n way lease hearing).calls ++ []))) → AnswersOnce out (dones_of_part d n part)
 comes_once d n part way s lease pool.Goes out once = came_by d.service n part (seat_numbered n d.service.seats) out _ refl once
 comes_once d n part way s lease pool.Settled out once = came_by d.service n part (seat_numbered n d.service.seats) out _ refl once
 comes_once d n part way s lease pool.Wrong out once = came_by d.service n part (seat_numbered n d.service.seats) out _ refl once
 
-came_once : (d : Pool) (n : ℕ) (part : Part Token) (way : Way) (out : Bool) → AnswersOnce out (done_from n d (pool.Comes n part way ∷ [])) → AnswersOnce out (done_by d n part)
+came_once : (d : Pool) (n : ℕ) (part : Part Token) (way : Way) (out : Bool) → AnswersOnce out (done_from n d (pool.Comes n part way ∷ [])) → AnswersOnce out (dones_of_part d n part)
 came_once d n part way out once =
     let heard = step {T = Token} d.service (calls.Came n part) in
     comes_once d n part way heard.service (lease_at (seat_numbered n d.service.seats)) (pool.hearing heard.dones) out once
@@ -307,10 +307,10 @@ module _ (h : Core) (key : ℕ) (outs outs2 : ℕ → Bool) (sound : Sound h.poo
   abbrev d : Pool
   d = h.pool
 
-  abbrev LawfulBy : Move → Place → Front → Bool → Option Reset → Type 0
+  abbrev LawfulBy : Move → ServerIsAt → Front → Bool → Option Reset → Type 0
   LawfulBy move p front w asks = Lawful p front.stage (passes_by key h move (Some (Open front w asks)))
 
-  sent_lawful : (action : Action) (p : Place) (front : Front) (w : Bool) (asks : Option Reset) → IsPut action → MayDo action (Some (Open front w asks)) → Standing outs d key front.stage w p → LeavesBy h key outs outs2 sound sit judges known (core.Sends key action)
+  sent_lawful : (action : Action) (p : ServerIsAt) (front : Front) (w : Bool) (asks : Option Reset) → IsPut action → MayDo action (Some (Open front w asks)) → Standing outs d key front.stage w p → LeavesBy h key outs outs2 sound sit judges known (core.Sends key action)
       → Lawful p front.stage (gone_on (sent_by d (pool.Does key action)))
   sent_lawful (pool.Puts count) p front w asks put may s leaves =
       let sent = puts_stand d key outs outs2 sound sit count front.stage w p s may known (left_of d key outs outs2 sound sit (pool.Does key (pool.Puts count)) leaves) in
@@ -321,7 +321,7 @@ module _ (h : Core) (key : ℕ) (outs outs2 : ℕ → Bool) (sound : Sound h.poo
   sent_lawful pool.Asks p front w asks put may s leaves = absurd put
   sent_lawful pool.Stops p front w asks put may s leaves = absurd put
 
-  sent_if : (k : ℕ) (action : Action) (b : Bool) (p : Place) (front : Front) (w : Bool) (asks : Option Reset) → (k == key) ≡ b → IsPut action → (k ≡ key → MayDo action (Some (Open front w asks))) → Standing outs d key front.stage w p
+  sent_if : (k : ℕ) (action : Action) (b : Bool) (p : ServerIsAt) (front : Front) (w : Bool) (asks : Option Reset) → (k == key) ≡ b → IsPut action → (k ≡ key → MayDo action (Some (Open front w asks))) → Standing outs d key front.stage w p
       → LeavesBy h key outs outs2 sound sit judges known (core.Sends k action) → Lawful p front.stage (if b then gone_on (sent_by d (pool.Does k action)) else [])
   sent_if k action true p front w asks e put may s leaves =
       let is = eqb-true k key e in
@@ -331,22 +331,22 @@ module _ (h : Core) (key : ℕ) (outs outs2 : ℕ → Bool) (sound : Sound h.poo
       there leaves
   sent_if k action false p front w asks e put may s leaves = (tt, tt)
 
-  heard_if : (n k : ℕ) (part : Part Token) (way : Way) (b : Bool) (p : Place) (front : Front) (w : Bool) → whose d n ≡ Some k → (k == key) ≡ b → Standing outs d key front.stage w p
-      → AnswersOnce (outs n) (done_by d n part) → Lawful p front.stage (if b then unless_withdrawn w (said_in (done_by d n part)) else [])
+  heard_if : (n k : ℕ) (part : Part Token) (way : Way) (b : Bool) (p : ServerIsAt) (front : Front) (w : Bool) → whose d n ≡ Some k → (k == key) ≡ b → Standing outs d key front.stage w p
+      → AnswersOnce (outs n) (dones_of_part d n part) → Lawful p front.stage (if b then unless_withdrawn w (said_in (dones_of_part d n part)) else [])
   heard_if n k part way true p front w mine e s once =
       hears_lawful d key outs outs2 sound sit n part way front.stage w p s (mine ∙ ap (λ (x : ℕ). Some x) (eqb-true k key e)) once
   heard_if n k part way false p front w mine e s once = (tt, tt)
 
-  heard_whose : (n : ℕ) (part : Part Token) (way : Way) (who : Option ℕ) (p : Place) (front : Front) (w : Bool) → whose d n ≡ who → Standing outs d key front.stage w p → AnswersOnce (outs n) (done_by d n part)
-      → Lawful p front.stage (Rattle.tds_relay.specs.Behind.if_whose key who (unless_withdrawn w (said_in (done_by d n part))))
+  heard_whose : (n : ℕ) (part : Part Token) (way : Way) (who : Option ℕ) (p : ServerIsAt) (front : Front) (w : Bool) → whose d n ≡ who → Standing outs d key front.stage w p → AnswersOnce (outs n) (dones_of_part d n part)
+      → Lawful p front.stage (Rattle.tds_relay.specs.Behind.if_whose key who (unless_withdrawn w (said_in (dones_of_part d n part))))
   heard_whose n part way None p front w mine s once = (tt, tt)
   heard_whose n part way (Some k) p front w mine s once = heard_if n k part way (k == key) p front w mine refl s once
 
-  fed_if : (bytes : List ℕ) (b : Bool) (p : Place) (front : Front) → Lawful p front.stage (if b then brought front bytes else [])
+  fed_if : (bytes : List ℕ) (b : Bool) (p : ServerIsAt) (front : Front) → Lawful p front.stage (if b then brought front bytes else [])
   fed_if bytes true p front = fed_lawful front.stage p (judged front.due bytes) (fed front bytes).brings
   fed_if bytes false p front = (tt, tt)
 
-  pub lawful_by : (move : Move) (p : Place) (front : Front) (w : Bool) (asks : Option Reset) → end_at h.ends key ≡ Some (Open front w asks) → MayMove h move → Standing outs d key front.stage w p
+  pub lawful_by : (move : Move) (p : ServerIsAt) (front : Front) (w : Bool) (asks : Option Reset) → end_at h.ends key ≡ Some (Open front w asks) → MayMove h move → Standing outs d key front.stage w p
       → LeavesBy h key outs outs2 sound sit judges known move → ((n : ℕ) → AnswersOnce (outs n) (done_from n d (events_of h move))) → LawfulBy move p front w asks
   lawful_by (core.Does event) p front w asks e may s leaves once = (tt, tt)
   lawful_by (core.Sends k action) p front w asks e may s leaves once =

@@ -13,27 +13,27 @@ use Rattle.tds_client.specs.Hearing.{with_done}
 use Rattle.tds_listen.specs.declared.fault.ListenFault.{ListenFault}
 use Rattle.tds_service.specs.Parts.{Part, is_end, hear_part, heard_until}
 use Rattle.tds_service.specs.Line as line
-use Rattle.tds_service.specs.Line.{Line, Act, Stage, Turn, new_line, cause, left_by, reads, skips, skips_to_end}
+use Rattle.tds_service.specs.Line.{Line, Act, LineStage, Turn, new_line, cause, left_by, reads, skips, skips_to_end}
 use Rattle.tds_service.specs.History.{Done, history, line_after, acts_of}
-use Rattle.tds_front.specs.Serving.{Place, Ready, Executing, Stopping, Broken, IsLawful}
+use Rattle.tds_front.specs.Serving.{ServerIsAt, Ready, Executing, Stopping, Broken, IsLawful}
 use Rattle.tds_front.specs.Exchanges.{place_after}
 use Rattle.tds_relay.specs.Fronting.{AnswersOnce, MayEnd, happened, is_left_out, is_out_behind, with_heard, with_sent}
 
-abbrev pub line_at : ℕ → Stage → Heard → Line
+abbrev pub line_at : ℕ → LineStage → Heard → Line
 line_at n s h = record { asked = n; stage = s; heard = h }
 
 abbrev with_mark : Heard → Reset → Heard
 with_mark h reset = record { descriptor = h.descriptor; mark = strongest (Some reset) h.mark; done = h.done }
 
 -- where its server is, and whether a whole request is out
-abbrev pub place_of : Stage → Bool → Place
+abbrev pub place_of : LineStage → Bool → ServerIsAt
 place_of line.Idle out = Ready
 place_of (line.Sending begun) out = Ready
 place_of line.Reading out = Executing
 place_of line.Cancelling out = Stopping out
 place_of (line.Broken fault) out = Broken
 
-abbrev pub out_of : Stage → Bool → Bool
+abbrev pub out_of : LineStage → Bool → Bool
 out_of line.Idle out = false
 out_of (line.Sending begun) out = false
 out_of line.Reading out = true
@@ -41,13 +41,13 @@ out_of line.Cancelling out = out
 out_of (line.Broken fault) out = out
 
 -- what is to be shown of acts: all is lawful, and an idle connection's server is ready
-abbrev Goes : Place → Bool → Line → List (Act Token) → Type 0
+abbrev Goes : ServerIsAt → Bool → Line → List (Act Token) → Type 0
 Goes p out l acts =
     (AnswersOnce out (history l acts) → IsLawful p (happened (history l acts)))
     × ((line_after l acts).stage ≡ line.Idle → place_after p (happened (history l acts)) ≡ Ready)
 
 -- the same, behind what a packet comes to that ends its message or not
-abbrev GoesBehind : Place → Bool → Bool → Turn Token → List (Act Token) → Type 0
+abbrev GoesBehind : ServerIsAt → Bool → Bool → Turn Token → List (Act Token) → Type 0
 GoesBehind p out ends t acts =
     (MayEnd out ends t.answer × AnswersOnce (is_left_out (is_out_behind out t.sent) ends t.answer) (history t.line acts)
     → IsLawful p (with_sent t.sent (with_heard ends t.answer (happened (history t.line acts)))))
@@ -61,7 +61,7 @@ says : {A B C D : Type 0} → (A → B) × C → (D × A → Unit {0} × B) × C
 says r = (λ k. (tt, r.0 k.1), r.1)
 
 -- a broken connection says nothing
-silent : (n : ℕ) (fault : ClientFault) (h : Heard) (p : Place) (out : Bool) (acts : List (Act Token)) → Goes p out (line_at n (line.Broken fault) h) acts
+silent : (n : ℕ) (fault : ClientFault) (h : Heard) (p : ServerIsAt) (out : Bool) (acts : List (Act Token)) → Goes p out (line_at n (line.Broken fault) h) acts
 silent n fault h p out [] = (λ k. tt, λ e. cc)
 silent n fault h p out (line.Mark reset ∷ acts) = past (silent n fault h p out acts)
 silent n fault h p out (line.Ask ∷ acts) = past (silent n fault h p out acts)
@@ -71,7 +71,7 @@ silent n fault h p out (line.Come part ∷ acts) = past (silent n fault h p out 
 silent n fault h p out (line.Lose ∷ acts) = past (silent n fault h p out acts)
 
 abbrev Each : ℕ → List (Act Token) → Type 0
-Each n acts = (s : Stage) (h : Heard) (out : Bool) → Goes (place_of s out) (out_of s out) (line_at n s h) acts
+Each n acts = (s : LineStage) (h : Heard) (out : Bool) → Goes (place_of s out) (out_of s out) (line_at n s h) acts
 
 reads_on : (n : ℕ) (h : Heard) (part : Part Token) (ends : Bool) (u : Heard) (r : Result Heard ListenFault) (acts : List (Act Token)) → Each n acts
     → GoesBehind Executing true ends (reads (line_at n line.Reading h) part ends u r) acts
@@ -97,14 +97,14 @@ skips_on n h out ends u (Err fault) acts later = past (silent n (cause fault) (l
 skips_on n h out false u (Ok heard) acts later = says (later line.Cancelling heard out)
 skips_on n h out true u (Ok heard) acts later = skips_end_on n h heard out heard.done acts later
 
-rests : (s : Stage) (out : Bool) → s ≡ line.Idle → place_of s out ≡ Ready
+rests : (s : LineStage) (out : Bool) → s ≡ line.Idle → place_of s out ≡ Ready
 rests line.Idle out e = refl
 rests (line.Sending begun) out e = cc
 rests line.Reading out e = absurd (let u : ⊥ = cc in u)
 rests line.Cancelling out e = absurd (let u : ⊥ = cc in u)
 rests (line.Broken fault) out e = absurd (let u : ⊥ = cc in u)
 
-goes : (n : ℕ) (s : Stage) (h : Heard) (out : Bool) (acts : List (Act Token)) → Goes (place_of s out) (out_of s out) (line_at n s h) acts
+goes : (n : ℕ) (s : LineStage) (h : Heard) (out : Bool) (acts : List (Act Token)) → Goes (place_of s out) (out_of s out) (line_at n s h) acts
 goes n s h out [] = (λ k. tt, rests s out)
 goes n line.Idle h out (line.Mark reset ∷ acts) = past (goes n line.Idle (with_mark h reset) out acts)
 goes n line.Idle h out (line.Ask ∷ acts) = past (goes (suc n) (line.Sending false) h out acts)

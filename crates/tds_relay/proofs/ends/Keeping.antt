@@ -11,7 +11,7 @@ use Rattle.tds_relay.specs.declared.pool.Mode.TheVariants.{Sessions, Transaction
 use Rattle.tds_relay.specs.Pool as pool
 use Rattle.tds_relay.specs.Pool.{Action, Pool, Event, Hearing, Sharing, Way, pool_after, find_key, new_pool, turn}
 use Rattle.tds_relay.specs.Core as core
-use Rattle.tds_relay.specs.Core.{AsksFor, Core, IfWhose, MayDoAlone, MayMove, MayMoveAll, MayPart, Move, done_by, end_at, event_if, events_of, holder, may_park, moved, moved_all, new_core, stops_of}
+use Rattle.tds_relay.specs.Core.{AsksFor, Core, IfWhose, MayDoAlone, MayMove, MayMoveAll, MayPart, Move, dones_of_part, end_at, event_if, events_of, holder, may_park, moved, moved_all, new_core, stops_of}
 use Rattle.tds_relay.specs.Law.{IsParked, KeepsTransaction, Parts}
 use Rattle.tds_relay.proofs.promises.Caring.{Sound}
 use Rattle.tds_relay.proofs.held.Away.{WaitsOnce, no_place}
@@ -54,7 +54,7 @@ module _ (h : Core) (key : ℕ) (sound : Sound h.pool) (sit : AllSit h.pool) (k 
   fed other true = does other pool.Stops (other == key) refl
   fed other false = still
 
-  waits : (other : ℕ) (b : Bool) → (other == key) ≡ b → core.IsAway h other → Keeps (core.Does (pool.Waits other))
+  waits : (other : ℕ) (b : Bool) → (other == key) ≡ b → core.IsThereAndAway h other → Keeps (core.Does (pool.Waits other))
   waits other true e away = absurd (never_waits d key sound sit k (subst (λ (x : ℕ). find_key x d.holds ≡ None) (eqb-true other key e) away.holds))
   waits other false e away = inl (others (pool.Waits other) e)
 

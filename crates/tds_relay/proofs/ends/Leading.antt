@@ -13,20 +13,20 @@ use Rattle.tds_front.specs.declared.stage.Move.{Move}
 use Rattle.tds_front.specs.declared.stage.Stage.{Stage}
 use Rattle.tds_front.specs.declared.stage.Stage.TheVariants as stages
 use Rattle.tds_front.specs.Exchanges.{place_after}
-use Rattle.tds_front.specs.Passing.{Event, Packet, Refuses, GoesOn, Says, EndsWhole, behind, stage_behind, with_told}
+use Rattle.tds_front.specs.Passing.{FrontEvent, Packet, Refuses, GoesOn, Says, EndsWhole, happenings_of, stage_behind_reply, with_told}
 use Rattle.tds_front.specs.Rules as rules
 use Rattle.tds_front.specs.Rules.{taken}
-use Rattle.tds_front.specs.Serving.{Place, Ready, Executing, Happening, Comes, Goes, Closes, IsLawful, behind_brought, behind_reply}
+use Rattle.tds_front.specs.Serving.{ServerIsAt, Ready, Executing, Happening, Comes, Goes, Closes, IsLawful, behind_brought, behind_reply}
 use Rattle.tds_relay.specs.Core.{IsBegun, IsHere}
 
 -- ---- One list behind the other
 
-abbrev pub stage_along : Stage → List Event → Stage
+abbrev pub stage_along : Stage → List FrontEvent → Stage
 stage_along stage [] = stage
 stage_along stage (Packet head ∷ events) = stage_along (taken stage head).stage events
 stage_along stage (Refuses fault ∷ events) = stage_along (rules.refuses stage fault).stage events
-stage_along stage (GoesOn last ∷ events) = stage_along (rules.went_on stage) events
-stage_along stage (Says reply ∷ events) = stage_along (stage_behind stage reply) events
+stage_along stage (GoesOn last ∷ events) = stage_along (rules.request_went_on stage) events
+stage_along stage (Says reply ∷ events) = stage_along (stage_behind_reply stage reply) events
 
 told_both : (does : Result Action FrontFault) (xs ys : List Happening) → with_told does (xs ++ ys) ≡ with_told does xs ++ ys
 told_both (Ok (actions.Begin kind reset)) xs ys = refl
@@ -37,48 +37,48 @@ told_both (Ok actions.Acknowledge) xs ys = refl
 told_both (Ok actions.HandOn) xs ys = refl
 told_both (Err fault) xs ys = refl
 
-behind_both : (stage : Stage) (es more : List Event) → behind stage (es ++ more) ≡ behind stage es ++ behind (stage_along stage es) more
+behind_both : (stage : Stage) (es more : List FrontEvent) → happenings_of stage (es ++ more) ≡ happenings_of stage es ++ happenings_of (stage_along stage es) more
 behind_both stage [] more = refl
 behind_both stage (Packet head ∷ es) more =
     ap (with_told (taken stage head).does) (behind_both (taken stage head).stage es more)
-    ∙ told_both (taken stage head).does (behind (taken stage head).stage es) (behind (stage_along (taken stage head).stage es) more)
+    ∙ told_both (taken stage head).does (happenings_of (taken stage head).stage es) (happenings_of (stage_along (taken stage head).stage es) more)
 behind_both stage (Refuses fault ∷ es) more = behind_both (rules.refuses stage fault).stage es more
-behind_both stage (GoesOn true ∷ es) more = ap (λ (xs : List Happening). Comes Rattle.tds_front.specs.Serving.Whole ∷ xs) (behind_both (rules.went_on stage) es more)
-behind_both stage (GoesOn false ∷ es) more = ap (λ (xs : List Happening). Comes Rattle.tds_front.specs.Serving.More ∷ xs) (behind_both (rules.went_on stage) es more)
-behind_both stage (Says reply ∷ es) more = ap (λ (xs : List Happening). Goes reply ∷ xs) (behind_both (stage_behind stage reply) es more)
+behind_both stage (GoesOn true ∷ es) more = ap (λ (xs : List Happening). Comes Rattle.tds_front.specs.Serving.Whole ∷ xs) (behind_both (rules.request_went_on stage) es more)
+behind_both stage (GoesOn false ∷ es) more = ap (λ (xs : List Happening). Comes Rattle.tds_front.specs.Serving.More ∷ xs) (behind_both (rules.request_went_on stage) es more)
+behind_both stage (Says reply ∷ es) more = ap (λ (xs : List Happening). Goes reply ∷ xs) (behind_both (stage_behind_reply stage reply) es more)
 
-lawful_both : (p : Place) (xs ys : List Happening) → IsLawful p xs → IsLawful (place_after p xs) ys → IsLawful p (xs ++ ys)
+lawful_both : (p : ServerIsAt) (xs ys : List Happening) → IsLawful p xs → IsLawful (place_after p xs) ys → IsLawful p (xs ++ ys)
 lawful_both p [] ys h k = k
 lawful_both p (Comes brought ∷ xs) ys h k = lawful_both (behind_brought p brought) xs ys h k
 lawful_both p (Goes reply ∷ xs) ys h k = (h.0, lawful_both (behind_reply p reply) xs ys h.1 k)
 lawful_both p (Closes ∷ xs) ys h k = (h.0, lawful_both p xs ys h.1 k)
 
-whole_both : (stage : Stage) (es more : List Event) → EndsWhole stage es → EndsWhole (stage_along stage es) more → EndsWhole stage (es ++ more)
+whole_both : (stage : Stage) (es more : List FrontEvent) → EndsWhole stage es → EndsWhole (stage_along stage es) more → EndsWhole stage (es ++ more)
 whole_both stage [] more h k = k
 whole_both stage (Packet head ∷ es) more h k = whole_both (taken stage head).stage es more h k
 whole_both stage (Refuses fault ∷ es) more h k = whole_both (rules.refuses stage fault).stage es more h k
-whole_both stage (GoesOn last ∷ es) more h k = (h.0, whole_both (rules.went_on stage) es more h.1 k)
-whole_both stage (Says reply ∷ es) more h k = whole_both (stage_behind stage reply) es more h k
+whole_both stage (GoesOn last ∷ es) more h k = (h.0, whole_both (rules.request_went_on stage) es more h.1 k)
+whole_both stage (Says reply ∷ es) more h k = whole_both (stage_behind_reply stage reply) es more h k
 
 -- ---- Where they lead
 
-abbrev pub Lawful : Place → Stage → List Event → Type 0
-Lawful p stage es = IsLawful p (behind stage es) × EndsWhole stage es
+abbrev pub Lawful : ServerIsAt → Stage → List FrontEvent → Type 0
+Lawful p stage es = IsLawful p (happenings_of stage es) × EndsWhole stage es
 
-pub record Leads (stage : Stage) (p : Place) (es : List Event) (next : Stage) (q : Place) : Type 0 where
+pub record Leads (stage : Stage) (p : ServerIsAt) (es : List FrontEvent) (next : Stage) (q : ServerIsAt) : Type 0 where
   pub stage_is : stage_along stage es ≡ next
-  pub place_is : place_after p (behind stage es) ≡ q
+  pub place_is : place_after p (happenings_of stage es) ≡ q
 
-pub leads_nothing : (stage : Stage) (p : Place) → Leads stage p [] stage p
+pub leads_nothing : (stage : Stage) (p : ServerIsAt) → Leads stage p [] stage p
 leads_nothing stage p = record { stage_is = refl; place_is = refl }
 
-pub lawful_more : (stage next : Stage) (p q : Place) (es more : List Event) → Leads stage p es next q → Lawful p stage es → Lawful q next more → Lawful p stage (es ++ more)
+pub lawful_more : (stage next : Stage) (p q : ServerIsAt) (es more : List FrontEvent) → Leads stage p es next q → Lawful p stage es → Lawful q next more → Lawful p stage (es ++ more)
 lawful_more stage next p q es more leads one rest =
-    let ys : List Happening = behind (stage_along stage es) more in
-    let lawful : IsLawful (place_after p (behind stage es)) ys =
-    subst (λ (s : Stage). IsLawful (place_after p (behind stage es)) (behind s more)) (sym leads.stage_is) (subst (λ (x : Place). IsLawful x (behind next more)) (sym leads.place_is) rest.0) in
+    let ys : List Happening = happenings_of (stage_along stage es) more in
+    let lawful : IsLawful (place_after p (happenings_of stage es)) ys =
+    subst (λ (s : Stage). IsLawful (place_after p (happenings_of stage es)) (happenings_of s more)) (sym leads.stage_is) (subst (λ (x : ServerIsAt). IsLawful x (happenings_of next more)) (sym leads.place_is) rest.0) in
     let whole : EndsWhole (stage_along stage es) more = subst (λ (s : Stage). EndsWhole s more) (sym leads.stage_is) rest.1 in (
-      subst (λ (xs : List Happening). IsLawful p xs) (sym (behind_both stage es more)) (lawful_both p (behind stage es) ys one.0 lawful),
+      subst (λ (xs : List Happening). IsLawful p xs) (sym (behind_both stage es more)) (lawful_both p (happenings_of stage es) ys one.0 lawful),
       whole_both stage es more one.1 whole,
     )
 
@@ -136,25 +136,25 @@ keeps_if true kind gone = refl
 keeps_if false kind gone = refl
 
 forgets_fit : (stage : Stage) (gone : Bool) (status : ℕ) → ForgetsFrom stage gone → Fits stage (rules.forgets gone status)
-forgets_fit stage gone status from = if_fits stage (has_bit status 1) (rules.moves stages.Quiet (actions.Forget gone)) (rules.breaks faults.IgnoredPart) (refl, from) tt
+forgets_fit stage gone status from = if_fits stage (has_bit status 1) (rules.moves_to stages.Quiet (actions.Forget gone)) (rules.breaks_end faults.IgnoredPart) (refl, from) tt
 
 begins_fit : (head : Head) → Fits stages.Quiet (rules.begins head)
 begins_fit head =
     let status = bits_of head.status in
-    let begin : Move = rules.moves (rules.behind head.kind false status) (actions.Begin head.kind (reset_of status)) in
-    let empty : Move = if head.count == 0 then rules.breaks faults.EmptyPart else begin in
+    let begin : Move = rules.moves_to (rules.stage_behind_packet head.kind false status) (actions.Begin head.kind (reset_of status)) in
+    let empty : Move = if head.count == 0 then rules.breaks_end faults.EmptyPart else begin in
     let ignored : Move = if has_bit status 2 then rules.forgets false status else empty in
-    if_fits stages.Quiet (has_both_resets status) (rules.breaks faults.BothResets) ignored tt
+    if_fits stages.Quiet (has_both_resets status) (rules.breaks_end faults.BothResets) ignored tt
     (if_fits stages.Quiet (has_bit status 2) (rules.forgets false status) empty (forgets_fit stages.Quiet false status refl)
-    (if_fits stages.Quiet (head.count == 0) (rules.breaks faults.EmptyPart) begin tt (refl, (here_if (has_bit status 1) head.kind, begun_if (has_bit status 1) head.kind))))
+    (if_fits stages.Quiet (head.count == 0) (rules.breaks_end faults.EmptyPart) begin tt (refl, (here_if (has_bit status 1) head.kind, begun_if (has_bit status 1) head.kind))))
 
 goes_fit : (kind : Kind) (gone : Bool) (head : Head) → Fits (stages.Receiving kind gone) (rules.goes_on kind gone head)
 goes_fit kind gone head =
     let stage : Stage = stages.Receiving kind gone in
     let status = bits_of head.status in
-    let go : Move = rules.moves (rules.behind kind gone status) actions.Go in
+    let go : Move = rules.moves_to (rules.stage_behind_packet kind gone status) actions.Go in
     let same : Move = if has_bit status 2 then rules.forgets gone status else go in
-    if_fits stage (kind_byte kind == kind_byte head.kind) same (rules.breaks faults.TypeChanged)
+    if_fits stage (kind_byte kind == kind_byte head.kind) same (rules.breaks_end faults.TypeChanged)
     (if_fits stage (has_bit status 2) (rules.forgets gone status) go (forgets_fit stage gone status refl) (keeps_if (has_bit status 1) kind gone)) tt
 
 request_fits : (stage : Stage) (head : Head) → Fits stage (rules.of_request stage head)
@@ -171,7 +171,7 @@ refuses_fit (stages.Underway gone) fault = tt
 refuses_fit stages.Stopping fault = tt
 refuses_fit (stages.Broken first) fault = tt
 
-attention_fits : (stage : Stage) → Fits stage (rules.attention stage)
+attention_fits : (stage : Stage) → Fits stage (rules.takes_attention stage)
 attention_fits stages.Quiet = (refl, tt)
 attention_fits (stages.Receiving kind false) = (refl, refl)
 attention_fits (stages.Receiving kind true) = (refl, refl)
@@ -182,7 +182,7 @@ attention_fits (stages.Broken fault) = tt
 
 attended_fits : (stage : Stage) (head : Head) → Fits stage (rules.attended stage head)
 attended_fits stage head =
-    if_fits stage ((bits_of head.status == 1) && (head.count == 0)) (rules.attention stage) (rules.refuses stage faults.WrongAttention) (attention_fits stage) (refuses_fit stage faults.WrongAttention)
+    if_fits stage ((bits_of head.status == 1) && (head.count == 0)) (rules.takes_attention stage) (rules.refuses stage faults.WrongAttention) (attention_fits stage) (refuses_fit stage faults.WrongAttention)
 
 taken_fits : (kind : Kind) (stage : Stage) (head : Head) → Fits stage (rules.taken_as kind stage head)
 taken_fits kinds.Batch stage head = request_fits stage head

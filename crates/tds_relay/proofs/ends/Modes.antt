@@ -7,10 +7,10 @@ use Rattle.tds_service.specs.Service as calls
 use Rattle.tds_service.specs.Service.{Call, Service, lease_at, seat_numbered, step}
 use Rattle.tds_relay.specs.declared.pool.Hold.{Hold}
 use Rattle.tds_relay.specs.Pool as pool
-use Rattle.tds_relay.specs.Pool.{Action, Pool, Event, Hearing, Loan, Turn, Way, brings_by, last_broken, comes_by, pool_after, does, find_key, hearing, keeps_by, leaves, lent_in, renews, renews_by, serves, serves_by, ticket_in, turn}
-use Rattle.tds_relay.specs.Core.{Core, Move, done_by, events_of, moved, moved_all}
+use Rattle.tds_relay.specs.Pool.{Action, Pool, Event, Hearing, Loan, PoolTurn, Way, brings_by, last_broken, comes_by, pool_after, holder_does, find_key, hearing, keeps_by, leaves, lent_in, renews, renews_by, serves, serves_by, ticket_in, turn}
+use Rattle.tds_relay.specs.Core.{Core, Move, dones_of_part, events_of, moved, moved_all}
 
-abbrev Same : Pool → Turn → Type 0
+abbrev Same : Pool → PoolTurn → Type 0
 Same d t = (t.pool.mode ≡ d.mode) × (t.pool.broken ≡ d.broken)
 
 served : (d : Pool) (key : ℕ) (others : List ℕ) (o : Option Loan) → Same d (serves_by d key others o)
@@ -25,7 +25,7 @@ brought : (d : Pool) (s : Service) (gives : Bool) (way : Way) (o : Option Loan) 
 brought d s gives way None = (refl, refl)
 brought d s gives way (Some lent) = (refl, refl)
 
-done : (d : Pool) (action : Action) (o : Option Hold) → Same d (does d action o)
+done : (d : Pool) (action : Action) (o : Option Hold) → Same d (holder_does d action o)
 done d action None = (refl, refl)
 done d action (Some h) = (refl, refl)
 
@@ -54,7 +54,7 @@ heard_by d call s number way lease pool.Settled = (refl, refl)
 heard_by d call s number way lease pool.Wrong = (refl, refl)
 
 heard : (d : Pool) (number : ℕ) (part : Part Token) (way : Way)
-    → Same d (comes_by d (calls.Came number part) (step {T = Token} d.service (calls.Came number part)).service number way (lease_at (seat_numbered number d.service.seats)) (hearing (done_by d number part)))
+    → Same d (comes_by d (calls.Came number part) (step {T = Token} d.service (calls.Came number part)).service number way (lease_at (seat_numbered number d.service.seats)) (hearing (dones_of_part d number part)))
 heard d number part way =
     let come = step {T = Token} d.service (calls.Came number part) in
     heard_by d (calls.Came number part) come.service number way (lease_at (seat_numbered number d.service.seats)) (hearing come.dones)
@@ -80,8 +80,8 @@ quiet d (pool.Loses number) q = (refl, refl)
 pub broken_as : (d : Pool) (event : Event) → IsNoPacket event → (turn d event).pool.broken ≡ d.broken
 broken_as d event q = (quiet d event q).1
 
-pub broken_behind : (d : Pool) (number : ℕ) (part : Part Token) (way : Way) → (turn d (pool.Comes number part way)).pool.broken ≡ last_broken number (done_by d number part) d.broken
-broken_behind d number part way = ap (last_broken number (done_by d number part)) (heard d number part way).1
+pub broken_behind : (d : Pool) (number : ℕ) (part : Part Token) (way : Way) → (turn d (pool.Comes number part way)).pool.broken ≡ last_broken number (dones_of_part d number part) d.broken
+broken_behind d number part way = ap (last_broken number (dones_of_part d number part)) (heard d number part way).1
 
 turned : (d : Pool) (event : Event) → (turn d event).pool.mode ≡ d.mode
 turned d (pool.Waits key) = refl

@@ -7,13 +7,13 @@ use Rattle.tds_front.specs.declared.front.Front.{Front}
 use Rattle.tds_front.specs.declared.stage.Stage.{Stage}
 use Rattle.tds_front.specs.Bytes.{fed, new_front}
 use Rattle.tds_front.specs.Passing.{SaysOf, judged, stage_fed}
-use Rattle.tds_front.specs.Serving.{Place}
+use Rattle.tds_front.specs.Serving.{ServerIsAt}
 use Rattle.tds_service.specs.Service.{Call, on, steps}
 use Rattle.tds_relay.specs.Pool as pool
 use Rattle.tds_relay.specs.Pool.{Pool, Event, pool_after, find_key, turn, whose}
-use Rattle.tds_relay.specs.Behind.{brought, if_open}
+use Rattle.tds_relay.specs.Behind.{brought, if_end_open}
 use Rattle.tds_relay.specs.Fronting.{calls_along}
-use Rattle.tds_relay.specs.Core.{End, Open, Over, Ends, Core, HasEntered, IfOpen, IfWhose, IsAway, IsHere, IsThere, MayDo, MayDoAlone, MayMove, MayPart, Move, closes, end_at, event_if, events_of, feeds, holder, stops_by, stops_of}
+use Rattle.tds_relay.specs.Core.{End, Open, Over, EndList, Core, HasEntered, IfOpen, IfWhose, IsThereAndAway, IsHere, IsEndThere, MayDo, MayDoAlone, MayMove, MayPart, Move, closes, end_at, event_if, events_of, feeds, holder, stops_by, stops_of}
 use Rattle.tds_relay.specs.Core as core
 use Rattle.tds_relay.proofs.promises.Caring.{Sound}
 use Rattle.tds_relay.proofs.held.Lists.{places}
@@ -34,31 +34,31 @@ module _ (d : Pool) (key : ℕ) (outs outs2 : ℕ → Bool) (sound : Sound d) (s
   abbrev Still : Type 0
   Still = (n : ℕ) → outs2 n ≡ outs n
 
-  same_outs : (stage : Stage) (w : Bool) (p : Place) → Still → Standing outs d key stage w p → Standing outs2 d key stage w p
+  same_outs : (stage : Stage) (w : Bool) (p : ServerIsAt) → Still → Standing outs d key stage w p → Standing outs2 d key stage w p
   same_outs stage w p same (inl k) =
       inl (record { hold = k.hold; seat = k.seat; its = k.its; tied = subst (λ (x : Bool). tying.Tied stage w p k.seat.line.stage x) (sym (same k.hold.number)) k.tied })
   same_outs stage w p same (inr k) = inr k
 
-  still_step : (p : Place) (o : Option End) → StoryOf outs d key p o → Still → StepOf outs2 d key p [] o o
+  still_step : (p : ServerIsAt) (o : Option End) → StoryOf outs d key p o → Still → StepOf outs2 d key p [] o o
   still_step p None s still = s
   still_step p (Some (Open front w asks)) s still = stays_next outs2 d key front.stage w p (same_outs front.stage w p still s)
   still_step p (Some (Over why)) s still = s
 
-  closes_step : (p : Place) (o : Option End) → StoryOf outs d key p o → StepOf outs2 d key p [] o (option_map closes o)
+  closes_step : (p : ServerIsAt) (o : Option End) → StoryOf outs d key p o → StepOf outs2 d key p [] o (option_map closes o)
   closes_step p None s = s
   closes_step p (Some (Open front w asks)) s = at_pool outs d key front.stage w p s
   closes_step p (Some (Over why)) s = s
 
-  closes_if : (k : ℕ) (b : Bool) (p : Place) (o : Option End) → (k == key) ≡ b → StoryOf outs d key p o → Still → StepOf outs2 d key p [] o (if b then option_map closes o else o)
+  closes_if : (k : ℕ) (b : Bool) (p : ServerIsAt) (o : Option End) → (k == key) ≡ b → StoryOf outs d key p o → Still → StepOf outs2 d key p [] o (if b then option_map closes o else o)
   closes_if k true p o e s still = closes_step p o s
   closes_if k false p o e s still = still_step p o s still
 
-  enters_step : (size : ℕ) (p : Place) (o : Option End) → StoryOf outs d key p o → o ≡ None → StepOf outs2 d key p [] o (Some (Open (new_front size) false None))
+  enters_step : (size : ℕ) (p : ServerIsAt) (o : Option End) → StoryOf outs d key p o → o ≡ None → StepOf outs2 d key p [] o (Some (Open (new_front size) false None))
   enters_step size p None s e =
       (inr (record { absent = gone_absent key d s; rests = record { here = tt; its = refl; ready = refl } }), refl)
   enters_step size p (Some end) s e = absurd (let u : ⊥ = cc in u)
 
-  enters_if : (k : ℕ) (ends old : Ends) (b : Bool) (p : Place) → (k == key) ≡ b → StoryOf outs d key p (end_at old key) → HasEntered k old ends → Still → StepOf outs2 d key p [] (end_at old key) (end_at ends key)
+  enters_if : (k : ℕ) (ends old : EndList) (b : Bool) (p : ServerIsAt) → (k == key) ≡ b → StoryOf outs d key p (end_at old key) → HasEntered k old ends → Still → StepOf outs2 d key p [] (end_at old key) (end_at ends key)
   enters_if k ends old true p e s entered still =
       let is = eqb-true k key e in
       let free : end_at old key ≡ None = subst (λ (x : ℕ). end_at old x ≡ None) is entered.was_free in
@@ -74,13 +74,13 @@ module _ (d : Pool) (key : ℕ) (outs outs2 : ℕ → Bool) (sound : Sound d) (s
   Judges = (front : Front) (bytes : List ℕ) → ((fed front bytes).front.stage ≡ stage_fed front.stage (judged front.due bytes) (fed front bytes).brings)
       × SaysOf front.stage (judged front.due bytes) (fed front bytes).brings
 
-  abbrev FedAt : List ℕ → Option End → Place → Option End → Type 0
-  FedAt bytes end p o = StepOf outs2 (pool_after d (event_if (stops_of bytes end) (pool.Does key pool.Stops))) key p (if_open o (λ front withdrawn. brought front bytes)) o (option_map (feeds bytes) o)
+  abbrev FedAt : List ℕ → Option End → ServerIsAt → Option End → Type 0
+  FedAt bytes end p o = StepOf outs2 (pool_after d (event_if (stops_of bytes end) (pool.Does key pool.Stops))) key p (if_end_open o (λ front withdrawn. brought front bytes)) o (option_map (feeds bytes) o)
 
   abbrev FedLeaves : List ℕ → Option End → Type 0
   FedLeaves bytes end = LeavesIf d key outs outs2 sound sit (stops_of bytes end)
 
-  feeds_step : (bytes : List ℕ) (p : Place) (o : Option End) → StoryOf outs d key p o → Judges → Known d key outs outs2 sound sit → FedLeaves bytes o → FedAt bytes o p o
+  feeds_step : (bytes : List ℕ) (p : ServerIsAt) (o : Option End) → StoryOf outs d key p o → Judges → Known d key outs outs2 sound sit → FedLeaves bytes o → FedAt bytes o p o
   feeds_step bytes p None s judges known leaves = s
   feeds_step bytes p (Some (Open front w asks)) s judges known leaves =
       let j = judges front bytes in
@@ -95,7 +95,7 @@ module _ (d : Pool) (key : ℕ) (outs outs2 : ℕ → Bool) (sound : Sound d) (s
   left_of event leaves n = leaves n ∙ ap (λ (xs : List (Call Token)). out_after (outs n) (on n (steps d.service xs))) (append_calls (turn d event).calls)
 
   -- of another
-  fed_apart : (k : ℕ) (stops : Bool) (p : Place) (o : Option End) → (k == key) ≡ false → StoryOf outs d key p o
+  fed_apart : (k : ℕ) (stops : Bool) (p : ServerIsAt) (o : Option End) → (k == key) ≡ false → StoryOf outs d key p o
       → ((n : ℕ) → outs2 n ≡ out_after (outs n) (on n (steps d.service (calls_along d (event_if stops (pool.Does k pool.Stops))))))
       → StepOf outs2 (pool_after d (event_if stops (pool.Does k pool.Stops))) key p [] o o
   fed_apart k true p o e s leaves = apart_step d key outs outs2 sound sit (pool.Does k pool.Stops) p o s (λ n. e) tt tt (left_of (pool.Does k pool.Stops) leaves)
@@ -105,14 +105,14 @@ module _ (d : Pool) (key : ℕ) (outs outs2 : ℕ → Bool) (sound : Sound d) (s
   left_if true leaves = left_of (pool.Does key pool.Stops) leaves
   left_if false leaves = leaves
 
-  feeds_if : (k : ℕ) (bytes : List ℕ) (ends : Ends) (b : Bool) (p : Place) → (k == key) ≡ b → StoryOf outs d key p (end_at ends key) → Judges → Known d key outs outs2 sound sit
+  feeds_if : (k : ℕ) (bytes : List ℕ) (ends : EndList) (b : Bool) (p : ServerIsAt) → (k == key) ≡ b → StoryOf outs d key p (end_at ends key) → Judges → Known d key outs outs2 sound sit
       → ((n : ℕ) → outs2 n ≡ out_after (outs n) (on n (steps d.service (calls_along d (event_if (stops_of bytes (end_at ends k)) (pool.Does k pool.Stops))))))
-      → StepOf outs2 (pool_after d (event_if (stops_of bytes (end_at ends k)) (pool.Does k pool.Stops))) key p (if b then if_open (end_at ends key) (λ front withdrawn. brought front bytes) else [])
+      → StepOf outs2 (pool_after d (event_if (stops_of bytes (end_at ends k)) (pool.Does k pool.Stops))) key p (if b then if_end_open (end_at ends key) (λ front withdrawn. brought front bytes) else [])
       (end_at ends key) (if b then option_map (feeds bytes) (end_at ends key) else end_at ends key)
   feeds_if k bytes ends true p e s judges known leaves =
       let is = eqb-true k key e in
       let P : ℕ → Type 0 = λ (x : ℕ). ((n : ℕ) → outs2 n ≡ out_after (outs n) (on n (steps d.service (calls_along d (event_if (stops_of bytes (end_at ends x)) (pool.Does x pool.Stops))))))
-      → StepOf outs2 (pool_after d (event_if (stops_of bytes (end_at ends x)) (pool.Does x pool.Stops))) key p (if_open (end_at ends key) (λ front withdrawn. brought front bytes))
+      → StepOf outs2 (pool_after d (event_if (stops_of bytes (end_at ends x)) (pool.Does x pool.Stops))) key p (if_end_open (end_at ends key) (λ front withdrawn. brought front bytes))
       (end_at ends key) (option_map (feeds bytes) (end_at ends key)) in
       let here : P key = λ l. feeds_step bytes p (end_at ends key) s judges known (left_if (stops_of bytes (end_at ends key)) l) in
       let there : P k = subst P (sym is) here in
@@ -131,17 +131,17 @@ module _ (h : Core) (key : ℕ) (outs outs2 : ℕ → Bool) (sound : Sound h.poo
   abbrev pub LeavesBy : Move → Type 0
   LeavesBy move = (n : ℕ) → outs2 n ≡ out_after (outs n) (on n (steps d.service (calls_along d (events_of h move))))
 
-  abbrev pub Steps : Move → Place → Type 0
+  abbrev pub Steps : Move → ServerIsAt → Type 0
   Steps move p = StepOf outs2 (pool_after d (events_of h move)) key p (passes_by key h move o) o (end_by key h move o)
 
-  away_of : (k : ℕ) → IsAway h k → k ≡ key → IsThere o × (find_key key d.holds ≡ None) × (places key d.line ≡ [])
+  away_of : (k : ℕ) → IsThereAndAway h k → k ≡ key → IsEndThere o × (find_key key d.holds ≡ None) × (places key d.line ≡ [])
   away_of k away is = (
-    subst (λ (x : ℕ). IsThere (end_at h.ends x)) is away.there,
+    subst (λ (x : ℕ). IsEndThere (end_at h.ends x)) is away.there,
     subst (λ (x : ℕ). find_key x d.holds ≡ None) is away.holds,
     subst (λ (x : ℕ). places x d.line ≡ []) is (no_place k d.line away.waits),
   )
 
-  alone_steps : (event : Event) (p : Place) → MayDoAlone h event → StoryOf outs d key p o → LeavesBy (core.Does event) → Steps (core.Does event) p
+  alone_steps : (event : Event) (p : ServerIsAt) → MayDoAlone h event → StoryOf outs d key p o → LeavesBy (core.Does event) → Steps (core.Does event) p
   alone_steps (pool.Waits k) p may s leaves =
       waits_if d key outs outs2 sound sit k (k == key) p o refl s (away_of k may.0) (left_of d key outs outs2 sound sit (pool.Waits k) leaves)
   alone_steps (pool.Unwaits k) p may s leaves =
@@ -163,7 +163,7 @@ module _ (h : Core) (key : ℕ) (outs outs2 : ℕ → Bool) (sound : Sound h.poo
   may_replace n None e may is = absurd (let u : ⊥ = cc in u)
   may_replace n (Some k) e may is = let same : k ≡ key = cc in subst (λ (x : ℕ). IfOpen IsHere (end_at h.ends x)) same may.0
 
-  pub step : (move : Move) (p : Place) → MayMove h move → StoryOf outs d key p o → LeavesBy move → Steps move p
+  pub step : (move : Move) (p : ServerIsAt) → MayMove h move → StoryOf outs d key p o → LeavesBy move → Steps move p
   step (core.Does event) p may s leaves = alone_steps event p may s leaves
   step (core.Sends k action) p may s leaves =
       sends_if d key outs outs2 sound sit k action (k == key) p o refl s may.0 (λ is. subst (λ (x : ℕ). MayDo action (end_at h.ends x)) is may.1) known

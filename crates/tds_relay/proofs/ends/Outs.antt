@@ -10,7 +10,7 @@ use Rattle.tds_listen.specs.declared.fault.ListenFault.TheVariants as listens
 use Rattle.tds_client.specs.declared.fault.ClientFault.TheVariants as faults
 use Rattle.tds_service.specs.Parts.{Part, is_end, hear_part, heard_until}
 use Rattle.tds_service.specs.Line as line
-use Rattle.tds_service.specs.Line.{Line, Act, Stage, Turn, reads, skips, skips_to_end, turn}
+use Rattle.tds_service.specs.Line.{Line, Act, LineStage, Turn, reads, skips, skips_to_end, line_turn}
 use Rattle.tds_service.specs.History.{Done, history, line_after}
 use Rattle.tds_service.specs.Promises.{ends_message}
 use Rattle.tds_relay.specs.Fronting.{AnswersOnce, is_left_out, is_out_behind}
@@ -56,7 +56,7 @@ skips_tells l ends u (Err fault) out = refl
 skips_tells l false u (Ok heard) out = refl
 skips_tells l true u (Ok heard) out = skips_end_tells l heard heard.done out
 
-tells : (n : ℕ) (s : Stage) (h : Heard) (out : Bool) (act : Act Token) → out_of s out ≡ out → Tells out (ends_message act) (turn (line_at n s h) act)
+tells : (n : ℕ) (s : LineStage) (h : Heard) (out : Bool) (act : Act Token) → out_of s out ≡ out → Tells out (ends_message act) (line_turn (line_at n s h) act)
 tells n line.Idle h out (line.Mark reset) e = e
 tells n (line.Sending begun) h out (line.Mark reset) e = e
 tells n line.Reading h out (line.Mark reset) e = e
@@ -94,11 +94,11 @@ tells n (line.Broken fault) h out line.Lose e = refl
 
 pub tells_all : (l : Line) (acts : List (Act Token)) (out : Bool) → out_of l.stage out ≡ out → out_of (line_after l acts).stage (out_after out (history l acts)) ≡ out_after out (history l acts)
 tells_all l [] out e = e
-tells_all l (act ∷ acts) out e = tells_all (turn l act).line acts (out_by out (Rattle.tds_service.specs.History.done_by act (turn l act))) (tells l.asked l.stage l.heard out act e)
+tells_all l (act ∷ acts) out e = tells_all (line_turn l act).line acts (out_by out (Rattle.tds_service.specs.History.done_by act (line_turn l act))) (tells l.asked l.stage l.heard out act e)
 
 -- ---- A packet that comes
 
-pub data HeardAs (s : Stage) (ends : Bool) (t : Turn Token) : Type 0 where
+pub data HeardAs (s : LineStage) (ends : Bool) (t : Turn Token) : Type 0 where
   Breaks : (fault : ListenFault) → t.answer ≡ line.Fault fault → HeardAs s ends t
   -- of an answer that is read: it goes on, or ends
   ReadsOn : s ≡ line.Reading → ends ≡ false → t.answer ≡ line.More → t.sent ≡ [] → t.line.stage ≡ line.Reading → HeardAs s ends t
@@ -122,12 +122,12 @@ skips_as l ends u (Err fault) = Breaks fault refl
 skips_as l false u (Ok heard) = SkipsOn refl refl refl refl
 skips_as l true u (Ok heard) = skips_end_as l heard heard.done
 
-heard_at : (n : ℕ) (s : Stage) (h : Heard) (part : Part Token) → HeardAs s (is_end part.close) (turn (line_at n s h) (line.Come part))
+heard_at : (n : ℕ) (s : LineStage) (h : Heard) (part : Part Token) → HeardAs s (is_end part.close) (line_turn (line_at n s h) (line.Come part))
 heard_at n line.Idle h part = Breaks (listens.Client faults.AnswerInIdle) refl
 heard_at n (line.Sending begun) h part = Breaks (listens.Client faults.AnswerInSending) refl
 heard_at n line.Reading h part = reads_as (line_at n line.Reading h) part (is_end part.close) (heard_until false h part.items) (hear_part false h part)
 heard_at n line.Cancelling h part = skips_as (line_at n line.Cancelling h) (is_end part.close) (heard_until true h part.items) (hear_part true h part)
 heard_at n (line.Broken fault) h part = Breaks (listens.Client fault) refl
 
-pub heard_as : (l : Line) (part : Part Token) → HeardAs l.stage (is_end part.close) (turn l (line.Come part))
+pub heard_as : (l : Line) (part : Part Token) → HeardAs l.stage (is_end part.close) (line_turn l (line.Come part))
 heard_as l part = heard_at l.asked l.stage l.heard part

@@ -4,8 +4,8 @@ use Rattle.std.specs.Prelude.{Option, Some, None, if◌then◌else◌}
 use Rattle.std.proofs.lemmas.Bool.{eqb-true, eq-eqb}
 use Rattle.tds_wire.specs.declared.told.Token.{Token}
 use Rattle.tds_front.specs.declared.stage.Stage.{Stage}
-use Rattle.tds_front.specs.Passing.{Event as Passed, EndsWhole}
-use Rattle.tds_front.specs.Serving.{Place}
+use Rattle.tds_front.specs.Passing.{FrontEvent, EndsWhole}
+use Rattle.tds_front.specs.Serving.{ServerIsAt}
 use Rattle.tds_service.specs.Line as line
 use Rattle.tds_service.specs.Line.{Act, Line, Packet}
 use Rattle.tds_service.specs.History.{history, line_after}
@@ -14,9 +14,9 @@ use Rattle.tds_service.specs.Service.{Leased, Seat, Service, has_number, seat_nu
 use Rattle.tds_service.specs.Ties.{sent_in}
 use Rattle.tds_relay.specs.declared.pool.Hold.{Hold}
 use Rattle.tds_relay.specs.Pool as pool
-use Rattle.tds_relay.specs.Pool.{Action, Pool, Event, Turn, Way, find_lease, find_number, key_of, turn, whose}
+use Rattle.tds_relay.specs.Pool.{Action, Pool, Event, PoolTurn, Way, find_lease, find_number, key_of, turn, whose}
 use Rattle.tds_relay.specs.Behind.{gone_on}
-use Rattle.tds_relay.specs.Core.{IsBegun, IsHere, IsWhole, holder, sent_by}
+use Rattle.tds_relay.specs.Core.{IsBegun, IsHere, HasWholeRequest, holder, sent_by}
 use Rattle.tds_relay.specs.Promises.{CaresFor, Each, IsCaredFor}
 use Rattle.tds_relay.proofs.promises.Caring.{Sound}
 use Rattle.tds_relay.proofs.ends.Fronting.{out_of}
@@ -50,33 +50,33 @@ lent_at key d (inl lent) = inl (record { hold = lent.hold; seat = lent.seat; its
 lent_at key d (inr absent) = inr absent
 
 -- What stands where.
-pub record Holds (outs : ℕ → Bool) (d : Pool) (key : ℕ) (stage : Stage) (w : Bool) (p : Place) : Type 0 where
+pub record Holds (outs : ℕ → Bool) (d : Pool) (key : ℕ) (stage : Stage) (w : Bool) (p : ServerIsAt) : Type 0 where
   pub hold : Hold
   pub seat : Seat
   pub its : Its d key hold seat
   pub tied : Tied stage w p seat.line.stage (outs hold.number)
 
-pub record Lacks (d : Pool) (key : ℕ) (stage : Stage) (w : Bool) (p : Place) : Type 0 where
+pub record Lacks (d : Pool) (key : ℕ) (stage : Stage) (w : Bool) (p : ServerIsAt) : Type 0 where
   pub absent : IsAbsent key d
   pub rests : tying.Rests stage w p
 
-abbrev pub Standing : (ℕ → Bool) → Pool → ℕ → Stage → Bool → Place → Type 0
+abbrev pub Standing : (ℕ → Bool) → Pool → ℕ → Stage → Bool → ServerIsAt → Type 0
 Standing outs d key stage w p = Holds outs d key stage w p ⊎ Lacks d key stage w p
 
-pub at_pool : (outs : ℕ → Bool) (d : Pool) (key : ℕ) (stage : Stage) (w : Bool) (p : Place) → Standing outs d key stage w p → AtPool key d
+pub at_pool : (outs : ℕ → Bool) (d : Pool) (key : ℕ) (stage : Stage) (w : Bool) (p : ServerIsAt) → Standing outs d key stage w p → AtPool key d
 at_pool outs d key stage w p (inl k) = inl (record { hold = k.hold; seat = k.seat; its = k.its })
 at_pool outs d key stage w p (inr k) = inr k.absent
 
 -- An end moves, and what is behind it.
-pub record Next (outs : ℕ → Bool) (d : Pool) (key : ℕ) (stage : Stage) (p : Place) (es : List Passed) (next : Stage) (w : Bool) : Type 0 where
-  pub place : Place
+pub record Next (outs : ℕ → Bool) (d : Pool) (key : ℕ) (stage : Stage) (p : ServerIsAt) (es : List FrontEvent) (next : Stage) (w : Bool) : Type 0 where
+  pub place : ServerIsAt
   pub standing : Standing outs d key next w place
   pub leads : Leads stage p es next place
 
-pub stays_next : (outs : ℕ → Bool) (d : Pool) (key : ℕ) (stage : Stage) (w : Bool) (p : Place) → Standing outs d key stage w p → Next outs d key stage p [] stage w
+pub stays_next : (outs : ℕ → Bool) (d : Pool) (key : ℕ) (stage : Stage) (w : Bool) (p : ServerIsAt) → Standing outs d key stage w p → Next outs d key stage p [] stage w
 stays_next outs d key stage w p s = record { place = p; standing = s; leads = leads_nothing stage p }
 
-lent_stands : (outs : ℕ → Bool) (d : Pool) (key : ℕ) (stage : Stage) (w : Bool) (p : Place) → tying.Rests stage w p → IsLent key d ⊎ IsAbsent key d → Standing outs d key stage w p
+lent_stands : (outs : ℕ → Bool) (d : Pool) (key : ℕ) (stage : Stage) (w : Bool) (p : ServerIsAt) → tying.Rests stage w p → IsLent key d ⊎ IsAbsent key d → Standing outs d key stage w p
 lent_stands outs d key stage w p r (inl lent) = inl (record { hold = lent.hold; seat = lent.seat; its = lent.its; tied = idle_tied lent.seat.line.stage stage w p (outs lent.hold.number) lent.idle r })
 lent_stands outs d key stage w p r (inr absent) = inr (record { absent = absent; rests = r })
 
@@ -187,7 +187,7 @@ module _ (d : Pool) (key : ℕ) (outs outs2 : ℕ → Bool) (sound : Sound d) (s
   abbrev pub Leaves : Event → Type 0
   Leaves event = (n : ℕ) → outs2 n ≡ out_after (outs n) (on n (steps d.service (turn d event).calls))
 
-  pub others_hold : (event : Event) (stage : Stage) (w : Bool) (p : Place) (k : Holds outs d key stage w p) → IsOthers key k.hold.number event → Leaves event → Holds outs2 (turn d event).pool key stage w p
+  pub others_hold : (event : Event) (stage : Stage) (w : Bool) (p : ServerIsAt) (k : Holds outs d key stage w p) → IsOthers key k.hold.number event → Leaves event → Holds outs2 (turn d event).pool key stage w p
   others_hold event stage w p k others leaves =
       let h = k.hold in
       let c = k.seat in
@@ -204,7 +204,7 @@ module _ (d : Pool) (key : ℕ) (outs outs2 : ℕ → Bool) (sound : Sound d) (s
       }
 
   -- an event of its own by which its line goes on
-  pub ours_hold : (event : Event) (h : Hold) (c c2 : Seat) (acts : List (Act Token)) (next : Stage) (w : Bool) (p : Place) → Ours d key h c c2 acts (turn d event) → Leaves event
+  pub ours_hold : (event : Event) (h : Hold) (c c2 : Seat) (acts : List (Act Token)) (next : Stage) (w : Bool) (p : ServerIsAt) → Ours d key h c c2 acts (turn d event) → Leaves event
       → Tied next w p (line_after c.line acts).stage (out_after (outs h.number) (history c.line acts)) → Holds outs2 (turn d event).pool key next w p
   ours_hold event h c c2 acts next w p ours leaves tied =
       let out : outs2 h.number ≡ out_after (outs h.number) (history c.line acts) = leaves h.number ∙ ap (out_after (outs h.number)) ours.out in
@@ -212,27 +212,27 @@ module _ (d : Pool) (key : ℕ) (outs outs2 : ℕ → Bool) (sound : Sound d) (s
       subst (λ (l : Line). Tied next w p l.stage (out_after (outs h.number) (history c.line acts))) (sym ours.line) tied in
       record { hold = h; seat = c2; its = ours.its; tied = subst (λ (o : Bool). Tied next w p c2.line.stage o) (sym out) one }
 
-  pub lacks_stand : (event : Event) (stage : Stage) (w : Bool) (p : Place) → Lacks d key stage w p → WaitsOnce key d event → Standing outs2 (turn d event).pool key stage w p
+  pub lacks_stand : (event : Event) (stage : Stage) (w : Bool) (p : ServerIsAt) → Lacks d key stage w p → WaitsOnce key d event → Standing outs2 (turn d event).pool key stage w p
   lacks_stand event stage w p k once = lent_stands outs2 (turn d event).pool key stage w p k.rests (away d key k.absent sound event once)
 
   -- it is another's
-  pub apart_stands : (event : Event) (stage : Stage) (w : Bool) (p : Place) → Standing outs d key stage w p → ((n : ℕ) → IsOthers key n event) → WaitsOnce key d event → Leaves event
+  pub apart_stands : (event : Event) (stage : Stage) (w : Bool) (p : ServerIsAt) → Standing outs d key stage w p → ((n : ℕ) → IsOthers key n event) → WaitsOnce key d event → Leaves event
       → Standing outs2 (turn d event).pool key stage w p
   apart_stands event stage w p (inl k) others once leaves = inl (others_hold event stage w p k (others k.hold.number) leaves)
   apart_stands event stage w p (inr k) others once leaves = lacks_stand event stage w p k once
 
   -- it lets its connection go, or that is lost: nothing of it has gone on
-  gone_stands : (event : Event) (stage : Stage) (w : Bool) (p : Place) (out : Bool) (s : line.Stage) → Tied stage w p s out → IsHere stage → Gone key (turn d event).pool
+  gone_stands : (event : Event) (stage : Stage) (w : Bool) (p : ServerIsAt) (out : Bool) (s : line.LineStage) → Tied stage w p s out → IsHere stage → Gone key (turn d event).pool
       → Standing outs2 (turn d event).pool key stage false p
   gone_stands event stage w p out s tied here gone = inr (record {
     absent = gone_absent key (turn d event).pool gone;
     rests = record { here = here; its = refl; ready = ready s stage w p out tied here };
   })
 
-  let_open : (event : Event) (stage : Stage) (w : Bool) (p : Place) → tying.Rests stage w p → Standing outs2 (turn d event).pool key stage w p → Standing outs2 (turn d event).pool key stage false p
+  let_open : (event : Event) (stage : Stage) (w : Bool) (p : ServerIsAt) → tying.Rests stage w p → Standing outs2 (turn d event).pool key stage w p → Standing outs2 (turn d event).pool key stage false p
   let_open event stage w p r s = subst (λ (b : Bool). Standing outs2 (turn d event).pool key stage b p) r.its s
 
-  pub lets_stand : (gives : Bool) (way : Way) (stage : Stage) (w : Bool) (p : Place) → Standing outs d key stage w p → IsHere stage
+  pub lets_stand : (gives : Bool) (way : Way) (stage : Stage) (w : Bool) (p : ServerIsAt) → Standing outs d key stage w p → IsHere stage
       → Standing outs2 (turn d (pool.Leaves key gives way)).pool key stage false p
   lets_stand gives way stage w p (inl k) here =
       gone_stands (pool.Leaves key gives way) stage w p (outs k.hold.number) k.seat.line.stage k.tied here (leaves_gone d key k.hold k.seat gives way sound k.its)
@@ -240,7 +240,7 @@ module _ (d : Pool) (key : ℕ) (outs outs2 : ℕ → Bool) (sound : Sound d) (s
       let_open (pool.Leaves key gives way) stage w p k.rests (lacks_stand (pool.Leaves key gives way) stage w p k tt)
 
   -- its connection is lost, and it stays
-  pub replaced_stands : (n : ℕ) (stage : Stage) (w : Bool) (p : Place) → Standing outs d key stage w p → IsHere stage → holder d n ≡ Some key → Standing outs2 (turn d (pool.Loses n)).pool key stage false p
+  pub replaced_stands : (n : ℕ) (stage : Stage) (w : Bool) (p : ServerIsAt) → Standing outs d key stage w p → IsHere stage → holder d n ≡ Some key → Standing outs2 (turn d (pool.Loses n)).pool key stage false p
   replaced_stands n stage w p (inl k) here e =
       let number = holder_number d key n k.hold k.seat k.its e in
       let gone : Gone key (turn d (pool.Loses n)).pool = subst (λ (m : ℕ). Gone key (turn d (pool.Loses m)).pool) number (loses_gone d key k.hold k.seat k.its) in
@@ -252,7 +252,7 @@ module _ (d : Pool) (key : ℕ) (outs outs2 : ℕ → Bool) (sound : Sound d) (s
   apart_number n h true e never = absurd (never (eqb-true h.number n e))
   apart_number n h false e never = refl
 
-  pub unlost_stands : (n : ℕ) (stage : Stage) (w : Bool) (p : Place) → Standing outs d key stage w p → (holder d n ≡ Some key → ⊥) → Leaves (pool.Loses n) → Standing outs2 (turn d (pool.Loses n)).pool key stage w p
+  pub unlost_stands : (n : ℕ) (stage : Stage) (w : Bool) (p : ServerIsAt) → Standing outs d key stage w p → (holder d n ≡ Some key → ⊥) → Leaves (pool.Loses n) → Standing outs2 (turn d (pool.Loses n)).pool key stage w p
   unlost_stands n stage w p (inl k) never leaves =
       let ne : (k.hold.number == n) ≡ false =
       (let b : (k.hold.number == n) ≡ false = apart_number n k.hold (k.hold.number == n) refl (λ is. never (subst (λ (m : ℕ). holder d m ≡ Some key) is (own_holder d key k.hold k.seat sound sit k.its))) in b) in
@@ -260,7 +260,7 @@ module _ (d : Pool) (key : ℕ) (outs outs2 : ℕ → Bool) (sound : Sound d) (s
   unlost_stands n stage w p (inr k) never leaves = lacks_stand (pool.Loses n) stage w p k tt
 
   -- what comes isn't its own
-  pub unheard_stands : (n : ℕ) (part : Part Token) (way : Way) (stage : Stage) (w : Bool) (p : Place) → Standing outs d key stage w p → (whose d n ≡ Some key → ⊥) → Leaves (pool.Comes n part way)
+  pub unheard_stands : (n : ℕ) (part : Part Token) (way : Way) (stage : Stage) (w : Bool) (p : ServerIsAt) → Standing outs d key stage w p → (whose d n ≡ Some key → ⊥) → Leaves (pool.Comes n part way)
       → Standing outs2 (turn d (pool.Comes n part way)).pool key stage w p
   unheard_stands n part way stage w p (inl k) never leaves =
       let ne : (k.hold.number == n) ≡ false =
@@ -269,30 +269,30 @@ module _ (d : Pool) (key : ℕ) (outs outs2 : ℕ → Bool) (sound : Sound d) (s
   unheard_stands n part way stage w p (inr k) never leaves = lacks_stand (pool.Comes n part way) stage w p k tt
 
   -- it keeps its connection
-  renewed_stands : (resumes : Bool) (stage : Stage) (w : Bool) (p : Place) (k : Holds outs d key stage w p) → Renewed d key k.hold k.seat resumes → Leaves (pool.Renews key resumes)
+  renewed_stands : (resumes : Bool) (stage : Stage) (w : Bool) (p : ServerIsAt) (k : Holds outs d key stage w p) → Renewed d key k.hold k.seat resumes → Leaves (pool.Renews key resumes)
       → Standing outs2 (turn d (pool.Renews key resumes)).pool key stage w p
   renewed_stands resumes stage w p k (Rests none is) leaves =
-      let out : outs2 k.hold.number ≡ outs k.hold.number = leaves k.hold.number ∙ ap (λ (t : Turn). out_after (outs k.hold.number) (on k.hold.number (steps d.service t.calls))) is in
+      let out : outs2 k.hold.number ≡ outs k.hold.number = leaves k.hold.number ∙ ap (λ (t : PoolTurn). out_after (outs k.hold.number) (on k.hold.number (steps d.service t.calls))) is in
       let same : Holds outs2 d key stage w p = record { hold = k.hold; seat = k.seat; its = k.its; tied = subst (λ (o : Bool). Tied stage w p k.seat.line.stage o) (sym out) k.tied } in
-      inl (subst (λ (t : Turn). Holds outs2 t.pool key stage w p) (sym is) same)
+      inl (subst (λ (t : PoolTurn). Holds outs2 t.pool key stage w p) (sym is) same)
   renewed_stands resumes stage w p k (Lends ticket some given idle lent) leaves =
       lent_stands outs2 (turn d (pool.Renews key resumes)).pool key stage w p (rests k.seat.line.stage stage w p (outs k.hold.number) idle k.tied) (inl (relent_lent d key k.hold k.seat resumes idle lent))
   renewed_stands resumes stage w p k (Goes ticket some given idle gone) leaves =
       inr (record { absent = gone_absent key (turn d (pool.Renews key resumes)).pool gone; rests = rests k.seat.line.stage stage w p (outs k.hold.number) idle k.tied })
 
-  pub renews_stand : (resumes : Bool) (stage : Stage) (w : Bool) (p : Place) → Standing outs d key stage w p → Leaves (pool.Renews key resumes) → Standing outs2 (turn d (pool.Renews key resumes)).pool key stage w p
+  pub renews_stand : (resumes : Bool) (stage : Stage) (w : Bool) (p : ServerIsAt) → Standing outs d key stage w p → Leaves (pool.Renews key resumes) → Standing outs2 (turn d (pool.Renews key resumes)).pool key stage w p
   renews_stand resumes stage w p (inl k) leaves = renewed_stands resumes stage w p k (renewed d key k.hold k.seat sound k.its resumes) leaves
   renews_stand resumes stage w p (inr k) leaves = lacks_stand (pool.Renews key resumes) stage w p k tt
 
   -- it asks, or takes back what has gone nowhere
-  pub asks_stand : (stage : Stage) (w : Bool) (p : Place) → Standing outs d key stage w p → Leaves (pool.Does key pool.Asks) → Standing outs2 (turn d (pool.Does key pool.Asks)).pool key stage w p
+  pub asks_stand : (stage : Stage) (w : Bool) (p : ServerIsAt) → Standing outs d key stage w p → Leaves (pool.Does key pool.Asks) → Standing outs2 (turn d (pool.Does key pool.Asks)).pool key stage w p
   asks_stand stage w p (inl k) leaves =
       let did = actions d key k.hold k.seat pool.Asks sound k.its in
       inl (ours_hold (pool.Does key pool.Asks) k.hold k.seat (with_line k.seat (line_after k.seat.line (acts_done k.seat.line pool.Asks))) (acts_done k.seat.line pool.Asks) stage w p did.ours leaves
       (asks_tied k.seat.line stage w p (outs k.hold.number) k.tied))
   asks_stand stage w p (inr k) leaves = lacks_stand (pool.Does key pool.Asks) stage w p k tt
 
-  pub stops_stand : (stage : Stage) (w : Bool) (p : Place) → Standing outs d key stage w p → IsHere stage → Leaves (pool.Does key pool.Stops) → Standing outs2 (turn d (pool.Does key pool.Stops)).pool key stage w p
+  pub stops_stand : (stage : Stage) (w : Bool) (p : ServerIsAt) → Standing outs d key stage w p → IsHere stage → Leaves (pool.Does key pool.Stops) → Standing outs2 (turn d (pool.Does key pool.Stops)).pool key stage w p
   stops_stand stage w p (inl k) here leaves =
       let did = actions d key k.hold k.seat pool.Stops sound k.its in
       inl (ours_hold (pool.Does key pool.Stops) k.hold k.seat (with_line k.seat (line_after k.seat.line (acts_done k.seat.line pool.Stops))) (acts_done k.seat.line pool.Stops) stage w p did.ours leaves
@@ -300,11 +300,11 @@ module _ (d : Pool) (key : ℕ) (outs outs2 : ℕ → Bool) (sound : Sound d) (s
   stops_stand stage w p (inr k) here leaves = lacks_stand (pool.Does key pool.Stops) stage w p k tt
 
   -- something of its request goes on
-  pub record Sent (action : Action) (stage : Stage) (w : Bool) (p : Place) : Type 0 where
+  pub record Sent (action : Action) (stage : Stage) (w : Bool) (p : ServerIsAt) : Type 0 where
     pub next : Next outs2 (turn d (pool.Does key action)).pool key stage p (gone_on (sent_by d (pool.Does key action))) (went_by (sent_by d (pool.Does key action)) stage) w
     pub whole : EndsWhole stage (gone_on (sent_by d (pool.Does key action)))
 
-  sent_hold : (action : Action) (stage : Stage) (w : Bool) (p : Place) (k : Holds outs d key stage w p) → SentBy stage w p (outs k.hold.number) k.seat.line (acts_done k.seat.line action) → Leaves (pool.Does key action)
+  sent_hold : (action : Action) (stage : Stage) (w : Bool) (p : ServerIsAt) (k : Holds outs d key stage w p) → SentBy stage w p (outs k.hold.number) k.seat.line (acts_done k.seat.line action) → Leaves (pool.Does key action)
       → Sent action stage w p
   sent_hold action stage w p k s leaves =
       let acts = acts_done k.seat.line action in
@@ -318,7 +318,7 @@ module _ (d : Pool) (key : ℕ) (outs outs2 : ℕ → Bool) (sound : Sound d) (s
         whole = subst (λ (ps : List Packet). EndsWhole stage (gone_on ps)) (sym did.sent) s.whole;
       }
 
-  sent_lacks : (action : Action) (stage : Stage) (w : Bool) (p : Place) → Lacks d key stage w p → Sent action stage w p
+  sent_lacks : (action : Action) (stage : Stage) (w : Bool) (p : ServerIsAt) → Lacks d key stage w p → Sent action stage w p
   sent_lacks action stage w p k =
       let none : sent_by d (pool.Does key action) ≡ [] = actions_none d key action (theirs_none key d.holds k.absent.none) in
       let s : Standing outs2 (turn d (pool.Does key action)).pool key stage w p = lacks_stand (pool.Does key action) stage w p k tt in
@@ -328,14 +328,14 @@ module _ (d : Pool) (key : ℕ) (outs outs2 : ℕ → Bool) (sound : Sound d) (s
         whole = subst (λ (ps : List Packet). EndsWhole stage (gone_on ps)) (sym none) tt;
       }
 
-  pub puts_stand : (count : ℕ) (stage : Stage) (w : Bool) (p : Place) → Standing outs d key stage w p → IsBegun stage
+  pub puts_stand : (count : ℕ) (stage : Stage) (w : Bool) (p : ServerIsAt) → Standing outs d key stage w p → IsBegun stage
       → ((n : ℕ) (c : Seat) → seat_numbered n d.service.seats ≡ Some c → out_of c.line.stage (outs n) ≡ outs n) → Leaves (pool.Does key (pool.Puts count)) → Sent (pool.Puts count) stage w p
   puts_stand count stage w p (inl k) begun known leaves =
       sent_hold (pool.Puts count) stage w p k
       (puts_tied k.seat.line count stage w p (outs k.hold.number) k.tied begun (known k.hold.number k.seat k.its.there)) leaves
   puts_stand count stage w p (inr k) begun known leaves = sent_lacks (pool.Puts count) stage w p k
 
-  pub ends_stand : (count : ℕ) (stage : Stage) (w : Bool) (p : Place) → Standing outs d key stage w p → IsWhole stage → Leaves (pool.Does key (pool.Ends count)) → Sent (pool.Ends count) stage w p
+  pub ends_stand : (count : ℕ) (stage : Stage) (w : Bool) (p : ServerIsAt) → Standing outs d key stage w p → HasWholeRequest stage → Leaves (pool.Does key (pool.Ends count)) → Sent (pool.Ends count) stage w p
   ends_stand count stage w p (inl k) whole leaves =
       sent_hold (pool.Ends count) stage w p k (ends_tied k.seat.line count stage w p (outs k.hold.number) k.tied whole) leaves
   ends_stand count stage w p (inr k) whole leaves = sent_lacks (pool.Ends count) stage w p k

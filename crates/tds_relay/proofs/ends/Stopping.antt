@@ -9,19 +9,19 @@ use Rattle.tds_wire.specs.declared.told.Token.{Token}
 use Rattle.tds_front.specs.declared.front.Front.{Front}
 use Rattle.tds_front.specs.declared.stage.Stage.{Stage}
 use Rattle.tds_front.specs.declared.stage.Stage.TheVariants as stages
-use Rattle.tds_front.specs.Passing.{Event as Passed, EndsWhole, behind}
+use Rattle.tds_front.specs.Passing.{FrontEvent, EndsWhole, happenings_of}
 use Rattle.tds_front.specs.Serving as serving
-use Rattle.tds_front.specs.Serving.{Place, Ready, IsLawful, behind_brought}
+use Rattle.tds_front.specs.Serving.{ServerIsAt, Ready, IsLawful, behind_brought}
 use Rattle.tds_service.specs.Line as line
-use Rattle.tds_service.specs.Line.{turn as turning}
+use Rattle.tds_service.specs.Line.{line_turn}
 use Rattle.tds_service.specs.History.{Done, history, line_after, done_by as done_so}
 use Rattle.tds_service.specs.Parts.{Part, is_end}
 use Rattle.tds_service.specs.Service.{Seat, seat_numbered, on}
 use Rattle.tds_relay.specs.Pool as pool
-use Rattle.tds_relay.specs.Pool.{Action, Pool, Event, Hearing, Turn, Way, find_key, hearing_of, moves, turn, whose}
+use Rattle.tds_relay.specs.Pool.{Action, Pool, Event, Hearing, PoolTurn, Way, find_key, hearing_of, moves, turn, whose}
 use Rattle.tds_relay.specs.Behind.{said_by, said_in, unless_withdrawn}
 use Rattle.tds_relay.specs.Fronting.{AnswersOnce}
-use Rattle.tds_relay.specs.Core.{End, Open, Over, done_by, told, what_in, what_of}
+use Rattle.tds_relay.specs.Core.{End, Open, Over, dones_of_part, end_told, what_in, what_of}
 use Rattle.tds_relay.proofs.promises.Caring.{Sound}
 use Rattle.tds_relay.proofs.ends.Fronting.{out_of}
 use Rattle.tds_relay.proofs.held.Seated.{AllSit}
@@ -52,7 +52,7 @@ quits_gone d key gives way sound (inl k) = leaves_gone d key k.hold k.seat gives
 quits_gone d key gives way sound (inr x) =
     let t : turn d (pool.Leaves key gives way) ≡ moves d d.holds (pool.without key d.line) [] = ap (λ (y : Option Hold). pool.leaves d key gives way y) (theirs_none key d.holds x.none) in
     let gone : Gone key (moves d d.holds (pool.without key d.line) []).pool = record { holds = x.none; waits = without_none key d.line x.once } in
-    subst (λ (y : Turn). Gone key y.pool) (sym t) gone
+    subst (λ (y : PoolTurn). Gone key y.pool) (sym t) gone
 
 -- ---- At the pool alone, behind any event
 
@@ -85,7 +85,7 @@ module _ (d : Pool) (key : ℕ) (sound : Sound d) (sit : AllSit d) where
   waits_then k other false e w = others_then k (pool.Waits other) e
 
   renewed_then : (k : HoldsOne key d) (resumes : Bool) → Renewed d key k.hold k.seat resumes → Then (pool.Renews key resumes)
-  renewed_then k resumes (Rests none is) = inl (record { hold = k.hold; seat = k.seat; its = subst (λ (t : Turn). Its t.pool key k.hold k.seat) (sym is) k.its })
+  renewed_then k resumes (Rests none is) = inl (record { hold = k.hold; seat = k.seat; its = subst (λ (t : PoolTurn). Its t.pool key k.hold k.seat) (sym is) k.its })
   renewed_then k resumes (Lends ticket some given idle lent) = inl (record { hold = pool.holding k.hold.key lent.lease k.seat.number; seat = relent lent.lease k.seat; its = lent.its })
   renewed_then k resumes (Goes ticket some given idle gone) = gone_then (pool.Renews key resumes) gone
 
@@ -148,14 +148,14 @@ module _ (d : Pool) (key : ℕ) (sound : Sound d) (sit : AllSit d) where
 -- ---- A packet that comes on its connection
 
 -- what an end is then
-abbrev pub Told : (ℕ → Bool) → Pool → ℕ → Stage → Place → List Passed → End → Type 0
+abbrev pub Told : (ℕ → Bool) → Pool → ℕ → Stage → ServerIsAt → List FrontEvent → End → Type 0
 Told outs d key stage p es (Open front w asks) = Next outs d key stage p es front.stage w
 Told outs d key stage p es (Over why) = AtPool key d
 
 module _ (d : Pool) (key : ℕ) (outs outs2 : ℕ → Bool) (sound : Sound d) (sit : AllSit d) where
-  told_right : (k : HoldsOne key d) (part : Part Token) (way : Way) (stage : Stage) (p : Place) (es : List Passed) (end : End)
+  told_right : (k : HoldsOne key d) (part : Part Token) (way : Way) (stage : Stage) (p : ServerIsAt) (es : List FrontEvent) (end : End)
       → Ours d key k.hold k.seat (with_came k.seat part) (line.Come part ∷ []) (turn d (pool.Comes k.hold.number part way)) → Leaves d key outs outs2 sound sit (pool.Comes k.hold.number part way)
-      → EndTied end stage p es (turning k.seat.line (line.Come part)).line.stage (out_by (outs k.hold.number) (done_so (line.Come part) (turning k.seat.line (line.Come part))))
+      → EndTied end stage p es (line_turn k.seat.line (line.Come part)).line.stage (out_by (outs k.hold.number) (done_so (line.Come part) (line_turn k.seat.line (line.Come part))))
       → Told outs2 (turn d (pool.Comes k.hold.number part way)).pool key stage p es end
   told_right k part way stage p es (Open front w asks) ours leaves t = record {
     place = t.0;
@@ -164,33 +164,33 @@ module _ (d : Pool) (key : ℕ) (outs outs2 : ℕ → Bool) (sound : Sound d) (s
   }
   told_right k part way stage p es (Over why) ours leaves t = inl (record { hold = k.hold; seat = with_came k.seat part; its = ours.its })
 
-  told_as : (k : HoldsOne key d) (part : Part Token) (way : Way) (front : Front) (w : Bool) (asks : Option Reset) (p : Place) → Tied front.stage w p k.seat.line.stage (outs k.hold.number)
-      → Leaves d key outs outs2 sound sit (pool.Comes k.hold.number part way) → HeardAs k.seat.line.stage (is_end part.close) (turning k.seat.line (line.Come part))
+  told_as : (k : HoldsOne key d) (part : Part Token) (way : Way) (front : Front) (w : Bool) (asks : Option Reset) (p : ServerIsAt) → Tied front.stage w p k.seat.line.stage (outs k.hold.number)
+      → Leaves d key outs outs2 sound sit (pool.Comes k.hold.number part way) → HeardAs k.seat.line.stage (is_end part.close) (line_turn k.seat.line (line.Come part))
       → (heard_of k.seat.line part ≡ pool.Wrong → ⊥)
-      → Told outs2 (turn d (pool.Comes k.hold.number part way)).pool key front.stage p (unless_withdrawn w (said_by (is_end part.close) (turning k.seat.line (line.Come part)).answer))
-      (told (what_of (turning k.seat.line (line.Come part)).answer) (Open front w asks))
+      → Told outs2 (turn d (pool.Comes k.hold.number part way)).pool key front.stage p (unless_withdrawn w (said_by (is_end part.close) (line_turn k.seat.line (line.Come part)).answer))
+      (end_told (what_of (line_turn k.seat.line (line.Come part)).answer) (Open front w asks))
   told_as k part way front w asks p tied leaves heard right =
-      let t = turning k.seat.line (line.Come part) in
-      told_right k part way front.stage p (unless_withdrawn w (said_by (is_end part.close) t.answer)) (told (what_of t.answer) (Open front w asks))
+      let t = line_turn k.seat.line (line.Come part) in
+      told_right k part way front.stage p (unless_withdrawn w (said_by (is_end part.close) t.answer)) (end_told (what_of t.answer) (Open front w asks))
       (hears_right d key k.hold k.seat part way sound k.its right) leaves
       (heard_tied front w asks p (outs k.hold.number) (is_end part.close) k.seat.line.stage t tied heard)
 
-  abbrev Result : (k : HoldsOne key d) → Part Token → Way → Front → Bool → Option Reset → Place → Type 0
+  abbrev Result : (k : HoldsOne key d) → Part Token → Way → Front → Bool → Option Reset → ServerIsAt → Type 0
   Result k part way front w asks p =
-      Told outs2 (turn d (pool.Comes k.hold.number part way)).pool key front.stage p (unless_withdrawn w (said_by (is_end part.close) (turning k.seat.line (line.Come part)).answer))
-      (told (what_of (turning k.seat.line (line.Come part)).answer) (Open front w asks))
+      Told outs2 (turn d (pool.Comes k.hold.number part way)).pool key front.stage p (unless_withdrawn w (said_by (is_end part.close) (line_turn k.seat.line (line.Come part)).answer))
+      (end_told (what_of (line_turn k.seat.line (line.Come part)).answer) (Open front w asks))
 
-  not_wrong : (k : HoldsOne key d) (part : Part Token) (answer : line.Answer) → (turning k.seat.line (line.Come part)).answer ≡ answer → (hearing_of answer ≡ pool.Wrong → ⊥) → heard_of k.seat.line part ≡ pool.Wrong → ⊥
+  not_wrong : (k : HoldsOne key d) (part : Part Token) (answer : line.Answer) → (line_turn k.seat.line (line.Come part)).answer ≡ answer → (hearing_of answer ≡ pool.Wrong → ⊥) → heard_of k.seat.line part ≡ pool.Wrong → ⊥
   not_wrong k part answer a never wrong = never (ap hearing_of (sym a) ∙ wrong)
 
-  told_by : (k : HoldsOne key d) (part : Part Token) (way : Way) (front : Front) (w : Bool) (asks : Option Reset) (p : Place) → Tied front.stage w p k.seat.line.stage (outs k.hold.number)
-      → Leaves d key outs outs2 sound sit (pool.Comes k.hold.number part way) → HeardAs k.seat.line.stage (is_end part.close) (turning k.seat.line (line.Come part)) → Result k part way front w asks p
+  told_by : (k : HoldsOne key d) (part : Part Token) (way : Way) (front : Front) (w : Bool) (asks : Option Reset) (p : ServerIsAt) → Tied front.stage w p k.seat.line.stage (outs k.hold.number)
+      → Leaves d key outs outs2 sound sit (pool.Comes k.hold.number part way) → HeardAs k.seat.line.stage (is_end part.close) (line_turn k.seat.line (line.Come part)) → Result k part way front w asks p
   told_by k part way front w asks p tied leaves (Breaks fault a) =
       let wrong : heard_of k.seat.line part ≡ pool.Wrong = ap hearing_of a in
       let gone = hears_wrong d key k.hold k.seat part way k.its wrong in
       let d2 = (turn d (pool.Comes k.hold.number part way)).pool in
       let at : AtPool key d2 = inr (gone_absent key d2 gone) in
-      subst (λ (x : line.Answer). Told outs2 d2 key front.stage p (unless_withdrawn w (said_by (is_end part.close) x)) (told (what_of x) (Open front w asks))) (sym a) at
+      subst (λ (x : line.Answer). Told outs2 d2 key front.stage p (unless_withdrawn w (said_by (is_end part.close) x)) (end_told (what_of x) (Open front w asks))) (sym a) at
   told_by k part way front w asks p tied leaves (ReadsOn is goes a sent l) =
       told_as k part way front w asks p tied leaves (ReadsOn is goes a sent l) (not_wrong k part line.More a (λ e. let u : ⊥ = cc in u))
   told_by k part way front w asks p tied leaves (ReadsEnd request is a sent l) =
@@ -200,41 +200,41 @@ module _ (d : Pool) (key : ℕ) (outs outs2 : ℕ → Bool) (sound : Sound d) (s
   told_by k part way front w asks p tied leaves (SkipsEnd request is a sent l) =
       told_as k part way front w asks p tied leaves (SkipsEnd request is a sent l) (not_wrong k part (line.Acked request) a (λ e. let u : ⊥ = cc in u))
 
-  told_here : (k : HoldsOne key d) (part : Part Token) (way : Way) (front : Front) (w : Bool) (asks : Option Reset) (p : Place) → Tied front.stage w p k.seat.line.stage (outs k.hold.number)
+  told_here : (k : HoldsOne key d) (part : Part Token) (way : Way) (front : Front) (w : Bool) (asks : Option Reset) (p : ServerIsAt) → Tied front.stage w p k.seat.line.stage (outs k.hold.number)
       → Leaves d key outs outs2 sound sit (pool.Comes k.hold.number part way)
-      → Told outs2 (turn d (pool.Comes k.hold.number part way)).pool key front.stage p (unless_withdrawn w (said_in (done_by d k.hold.number part))) (told (what_in (done_by d k.hold.number part)) (Open front w asks))
+      → Told outs2 (turn d (pool.Comes k.hold.number part way)).pool key front.stage p (unless_withdrawn w (said_in (dones_of_part d k.hold.number part))) (end_told (what_in (dones_of_part d k.hold.number part)) (Open front w asks))
   told_here k part way front w asks p tied leaves =
-      subst (λ (ds : List (Done Token)). Told outs2 (turn d (pool.Comes k.hold.number part way)).pool key front.stage p (unless_withdrawn w (said_in ds)) (told (what_in ds) (Open front w asks)))
+      subst (λ (ds : List (Done Token)). Told outs2 (turn d (pool.Comes k.hold.number part way)).pool key front.stage p (unless_withdrawn w (said_in ds)) (end_told (what_in ds) (Open front w asks)))
       (sym (came_done d key k.hold k.seat part k.its)) (told_by k part way front w asks p tied leaves (heard_as k.seat.line part))
 
-  pub hears_stand : (n : ℕ) (part : Part Token) (way : Way) (front : Front) (w : Bool) (asks : Option Reset) (p : Place) → Standing outs d key front.stage w p → whose d n ≡ Some key
+  pub hears_stand : (n : ℕ) (part : Part Token) (way : Way) (front : Front) (w : Bool) (asks : Option Reset) (p : ServerIsAt) → Standing outs d key front.stage w p → whose d n ≡ Some key
       → Leaves d key outs outs2 sound sit (pool.Comes n part way)
-      → Told outs2 (turn d (pool.Comes n part way)).pool key front.stage p (unless_withdrawn w (said_in (done_by d n part))) (told (what_in (done_by d n part)) (Open front w asks))
+      → Told outs2 (turn d (pool.Comes n part way)).pool key front.stage p (unless_withdrawn w (said_in (dones_of_part d n part))) (end_told (what_in (dones_of_part d n part)) (Open front w asks))
   hears_stand n part way front w asks p (inl k) mine leaves =
       let number = whose_number d key n k.hold k.seat sound k.its mine in
       let P : ℕ → Type 0 = λ (m : ℕ). Leaves d key outs outs2 sound sit (pool.Comes m part way)
-      → Told outs2 (turn d (pool.Comes m part way)).pool key front.stage p (unless_withdrawn w (said_in (done_by d m part))) (told (what_in (done_by d m part)) (Open front w asks)) in
+      → Told outs2 (turn d (pool.Comes m part way)).pool key front.stage p (unless_withdrawn w (said_in (dones_of_part d m part))) (end_told (what_in (dones_of_part d m part)) (Open front w asks)) in
       let at : P k.hold.number = λ l. told_here (record { hold = k.hold; seat = k.seat; its = k.its }) part way front w asks p k.tied l in
       let done : P n = subst P number at in
       done leaves
   hears_stand n part way front w asks p (inr k) mine leaves = absurd (absent_whose d key n sound k.absent.none mine)
 
   -- what is said to it is lawful
-  lawful_here : (k : HoldsOne key d) (part : Part Token) (way : Way) (stage : Stage) (w : Bool) (p : Place) → Tied stage w p k.seat.line.stage (outs k.hold.number)
-      → AnswersOnce (outs k.hold.number) (done_by d k.hold.number part)
-      → IsLawful p (behind stage (unless_withdrawn w (said_in (done_by d k.hold.number part)))) × EndsWhole stage (unless_withdrawn w (said_in (done_by d k.hold.number part)))
+  lawful_here : (k : HoldsOne key d) (part : Part Token) (way : Way) (stage : Stage) (w : Bool) (p : ServerIsAt) → Tied stage w p k.seat.line.stage (outs k.hold.number)
+      → AnswersOnce (outs k.hold.number) (dones_of_part d k.hold.number part)
+      → IsLawful p (happenings_of stage (unless_withdrawn w (said_in (dones_of_part d k.hold.number part)))) × EndsWhole stage (unless_withdrawn w (said_in (dones_of_part d k.hold.number part)))
   lawful_here k part way stage w p tied once =
       let did = came_done d key k.hold k.seat part k.its in
       let may = (subst (AnswersOnce (outs k.hold.number)) did once).0 in
-      subst (λ (ds : List (Done Token)). IsLawful p (behind stage (unless_withdrawn w (said_in ds))) × EndsWhole stage (unless_withdrawn w (said_in ds))) (sym did)
-      (heard_lawful w p (outs k.hold.number) (is_end part.close) stage k.seat.line.stage (turning k.seat.line (line.Come part)) tied (heard_as k.seat.line part) may)
+      subst (λ (ds : List (Done Token)). IsLawful p (happenings_of stage (unless_withdrawn w (said_in ds))) × EndsWhole stage (unless_withdrawn w (said_in ds))) (sym did)
+      (heard_lawful w p (outs k.hold.number) (is_end part.close) stage k.seat.line.stage (line_turn k.seat.line (line.Come part)) tied (heard_as k.seat.line part) may)
 
-  pub hears_lawful : (n : ℕ) (part : Part Token) (way : Way) (stage : Stage) (w : Bool) (p : Place) → Standing outs d key stage w p → whose d n ≡ Some key → AnswersOnce (outs n) (done_by d n part)
-      → IsLawful p (behind stage (unless_withdrawn w (said_in (done_by d n part)))) × EndsWhole stage (unless_withdrawn w (said_in (done_by d n part)))
+  pub hears_lawful : (n : ℕ) (part : Part Token) (way : Way) (stage : Stage) (w : Bool) (p : ServerIsAt) → Standing outs d key stage w p → whose d n ≡ Some key → AnswersOnce (outs n) (dones_of_part d n part)
+      → IsLawful p (happenings_of stage (unless_withdrawn w (said_in (dones_of_part d n part)))) × EndsWhole stage (unless_withdrawn w (said_in (dones_of_part d n part)))
   hears_lawful n part way stage w p (inl k) mine once =
       let number = whose_number d key n k.hold k.seat sound k.its mine in
-      let P : ℕ → Type 0 = λ (m : ℕ). AnswersOnce (outs m) (done_by d m part)
-      → IsLawful p (behind stage (unless_withdrawn w (said_in (done_by d m part)))) × EndsWhole stage (unless_withdrawn w (said_in (done_by d m part))) in
+      let P : ℕ → Type 0 = λ (m : ℕ). AnswersOnce (outs m) (dones_of_part d m part)
+      → IsLawful p (happenings_of stage (unless_withdrawn w (said_in (dones_of_part d m part)))) × EndsWhole stage (unless_withdrawn w (said_in (dones_of_part d m part))) in
       let at : P k.hold.number = λ o. lawful_here (record { hold = k.hold; seat = k.seat; its = k.its }) part way stage w p k.tied o in
       let done : P n = subst P number at in
       done once
@@ -248,22 +248,22 @@ module _ (d : Pool) (key : ℕ) (outs outs2 : ℕ → Bool) (sound : Sound d) (s
   abbrev pub Known : Type 0
   Known = (n : ℕ) (c : Seat) → seat_numbered n d.service.seats ≡ Some c → out_of c.line.stage (outs n) ≡ outs n
 
-  stopped_hold : (k : HoldsOne key d) (next : Stage) (w : Bool) (p : Place) → Stopped k.seat.line (outs k.hold.number) → Tied next w p line.Cancelling (outs k.hold.number) → Leaves d key outs outs2 sound sit Stops
+  stopped_hold : (k : HoldsOne key d) (next : Stage) (w : Bool) (p : ServerIsAt) → Stopped k.seat.line (outs k.hold.number) → Tied next w p line.Cancelling (outs k.hold.number) → Leaves d key outs outs2 sound sit Stops
       → Holds outs2 (turn d Stops).pool key next w p
   stopped_hold k next w p stopped tied leaves =
       let l = k.seat.line in
       let acts = acts_done l pool.Stops in
       let did = actions d key k.hold k.seat pool.Stops sound k.its in
-      let one : Tied next w p (line_after l acts).stage (outs k.hold.number) = subst (λ (s : line.Stage). Tied next w p s (outs k.hold.number)) (sym stopped.stage_is) tied in
+      let one : Tied next w p (line_after l acts).stage (outs k.hold.number) = subst (λ (s : line.LineStage). Tied next w p s (outs k.hold.number)) (sym stopped.stage_is) tied in
       let two : Tied next w p (line_after l acts).stage (out_after (outs k.hold.number) (history l acts)) = subst (λ (o : Bool). Tied next w p (line_after l acts).stage o) (sym stopped.out_is) one in
       ours_hold d key outs outs2 sound sit Stops k.hold k.seat (with_line k.seat (line_after l acts)) acts next w p did.ours leaves two
 
   -- it takes that back
-  pub record TakenBack (p : Place) : Type 0 where
+  pub record TakenBack (p : ServerIsAt) : Type 0 where
     pub standing : Standing outs2 (turn d Stops).pool key stages.Quiet true Ready
     pub was : p ≡ Ready
 
-  takes_at : (k : HoldsOne key d) (stage : Stage) (w : Bool) (p : Place) → ForgetsFrom stage true → GoneAt stage w p k.seat.line.stage → Leaves d key outs outs2 sound sit Stops → TakenBack p
+  takes_at : (k : HoldsOne key d) (stage : Stage) (w : Bool) (p : ServerIsAt) → ForgetsFrom stage true → GoneAt stage w p k.seat.line.stage → Leaves d key outs outs2 sound sit Stops → TakenBack p
   takes_at k stage w p from (SendsOut its at is) leaves = record {
     standing = inl (stopped_hold k stages.Quiet true Ready (stopped_sending k.seat.line (outs k.hold.number) at) (refl, tt, refl) leaves);
     was = is;
@@ -277,26 +277,26 @@ module _ (d : Pool) (key : ℕ) (outs outs2 : ℕ → Bool) (sound : Sound d) (s
   forgets_gone stages.Stopping from = from
   forgets_gone (stages.Broken fault) from = from
 
-  pub takes_back : (stage : Stage) (w : Bool) (p : Place) → Standing outs d key stage w p → ForgetsFrom stage true → Leaves d key outs outs2 sound sit Stops → TakenBack p
+  pub takes_back : (stage : Stage) (w : Bool) (p : ServerIsAt) → Standing outs d key stage w p → ForgetsFrom stage true → Leaves d key outs outs2 sound sit Stops → TakenBack p
   takes_back stage w p (inl k) from leaves =
       takes_at (record { hold = k.hold; seat = k.seat; its = k.its }) stage w p from (gone_at k.seat.line.stage stage w p (outs k.hold.number) k.tied (forgets_gone stage from)) leaves
   takes_back stage w p (inr k) from leaves = absurd (here_gone stage k.rests.here (forgets_gone stage from))
 
   -- its attention is the server's
-  hands_at : (k : HoldsOne key d) (stage : Stage) (w : Bool) (p : Place) → GoneAt stage w p k.seat.line.stage → Known → Leaves d key outs outs2 sound sit Stops
+  hands_at : (k : HoldsOne key d) (stage : Stage) (w : Bool) (p : ServerIsAt) → GoneAt stage w p k.seat.line.stage → Known → Leaves d key outs outs2 sound sit Stops
       → Holds outs2 (turn d Stops).pool key stages.Stopping false (behind_brought p serving.Attention)
   hands_at k stage w p (SendsOut its at is) known leaves =
       let out = outs k.hold.number in
-      let quiet : false ≡ out = ap (λ (s : line.Stage). out_of s out) (sym at) ∙ known k.hold.number k.seat k.its.there in
-      let place : behind_brought p serving.Attention ≡ serving.Stopping out = ap (λ (x : Place). behind_brought x serving.Attention) is ∙ ap serving.Stopping quiet in
+      let quiet : false ≡ out = ap (λ (s : line.LineStage). out_of s out) (sym at) ∙ known k.hold.number k.seat k.its.there in
+      let place : behind_brought p serving.Attention ≡ serving.Stopping out = ap (λ (x : ServerIsAt). behind_brought x serving.Attention) is ∙ ap serving.Stopping quiet in
       stopped_hold k stages.Stopping false (behind_brought p serving.Attention) (stopped_sending k.seat.line out at) (refl, place) leaves
   hands_at k stage w p (ReadsOut its at underway is) known leaves =
       let out = outs k.hold.number in
-      let quiet : true ≡ out = ap (λ (s : line.Stage). out_of s out) (sym at) ∙ known k.hold.number k.seat k.its.there in
-      let place : behind_brought p serving.Attention ≡ serving.Stopping out = ap (λ (x : Place). behind_brought x serving.Attention) is ∙ ap serving.Stopping quiet in
+      let quiet : true ≡ out = ap (λ (s : line.LineStage). out_of s out) (sym at) ∙ known k.hold.number k.seat k.its.there in
+      let place : behind_brought p serving.Attention ≡ serving.Stopping out = ap (λ (x : ServerIsAt). behind_brought x serving.Attention) is ∙ ap serving.Stopping quiet in
       stopped_hold k stages.Stopping false (behind_brought p serving.Attention) (stopped_reading k.seat.line out at) (refl, place) leaves
 
-  pub hands_on : (stage : Stage) (w : Bool) (p : Place) → Standing outs d key stage w p → IsGone stage → Known → Leaves d key outs outs2 sound sit Stops
+  pub hands_on : (stage : Stage) (w : Bool) (p : ServerIsAt) → Standing outs d key stage w p → IsGone stage → Known → Leaves d key outs outs2 sound sit Stops
       → Standing outs2 (turn d Stops).pool key stages.Stopping false (behind_brought p serving.Attention)
   hands_on stage w p (inl k) gone known leaves =
       inl (hands_at (record { hold = k.hold; seat = k.seat; its = k.its }) stage w p (gone_at k.seat.line.stage stage w p (outs k.hold.number) k.tied gone) known leaves)

@@ -5,15 +5,15 @@ use Rattle.std.proofs.lemmas.Bool.{eqb-true}
 use Rattle.tds_packet.specs.declared.status.Reset.TheVariants.{Full}
 use Rattle.tds_wire.specs.declared.told.Token.{Token}
 use Rattle.tds_service.specs.Line as line
-use Rattle.tds_service.specs.Line.{Line, Stage, new_line}
+use Rattle.tds_service.specs.Line.{Line, LineStage, new_line}
 use Rattle.tds_service.specs.History.{line_after}
 use Rattle.tds_service.specs.Service as calls
-use Rattle.tds_service.specs.Service.{Service, Step, Call, Leased, Seat, find_by, is_lendable, lease_at, on, on_one, seat_numbered, step, steps, does}
+use Rattle.tds_service.specs.Service.{Service, ServiceStep, Call, Leased, Seat, find_by, is_lendable, lease_at, on, on_one, seat_numbered, step, steps, does}
 use Rattle.tds_service.proofs.Numbered.{added_here, change_here}
 use Rattle.tds_service.proofs.Tests.{above}
 use Rattle.tds_relay.specs.declared.pool.Hold.{Hold}
 use Rattle.tds_relay.specs.Pool as pool
-use Rattle.tds_relay.specs.Pool.{Pool, Event, Action, Turn, Way, Hearing, find_key, holding, lent_in, moves, ticket_in, turn, without_lease}
+use Rattle.tds_relay.specs.Pool.{Pool, Event, Action, PoolTurn, Way, Hearing, find_key, holding, lent_in, moves, ticket_in, turn, without_lease}
 use Rattle.tds_relay.specs.Core.{is_in}
 use Rattle.tds_relay.specs.Promises.{Each}
 use Rattle.tds_relay.proofs.promises.Seats.{found_meets}
@@ -47,14 +47,14 @@ no_place key (k ∷ ks) e = no_place_by key k ks (k == key) e (no_place key ks)
 
 module _ (d : Pool) (key : ℕ) (none : theirs key d.holds ≡ []) (L : List ℕ → Type 0) (once : L d.line) (left : (p : ℕ → Bool) (line : List ℕ) → L line → L (filter p line)) where
   -- it holds none still, and the line is so still
-  abbrev pub StaysOut : Turn → Type 0
+  abbrev pub StaysOut : PoolTurn → Type 0
   StaysOut t = (theirs key t.pool.holds ≡ []) × L t.pool.line
 
   brings_away : (s : Service) (gives : Bool) (way : Way) (o : Option pool.Loan) → StaysOut (pool.brings_by d s gives way o)
   brings_away s gives way None = (none, once)
   brings_away s gives way (Some loan) = (none, once)
 
-  does_away : (action : Action) (o : Option Hold) → StaysOut (pool.does d action o)
+  does_away : (action : Action) (o : Option Hold) → StaysOut (pool.holder_does d action o)
   does_away action None = (none, once)
   does_away action (Some x) = (none, once)
 
@@ -145,7 +145,7 @@ pub record IsServed (key : ℕ) (d : Pool) : Type 0 where
   pub origin : Origin d hold.number seat.line
 
 pub full_idle : (l : Line) → l.stage ≡ line.Idle → (line_after {T = Token} l (line.Mark Full ∷ [])).stage ≡ line.Idle
-full_idle l is = ap (λ (st : Stage). (line.marks {T = Token} l Full st).line.stage) is ∙ is
+full_idle l is = ap (λ (st : LineStage). (line.marks {T = Token} l Full st).line.stage) is ∙ is
 
 pub origin_idle : (d : Pool) (number : ℕ) (l : Line) → Origin d number l → l.stage ≡ line.Idle
 origin_idle d number l (Clean was idle is) = ap (λ (x : Line). x.stage) is ∙ full_idle was idle
@@ -170,13 +170,13 @@ module _ (d : Pool) (key k : ℕ) (others : List ℕ) (x : IsAbsent key d) (soun
       let t : turn d pool.Serves ≡ moves d (d.holds ++ h ∷ []) others (calls.Lease ∷ []) = ap (λ (y : List ℕ). pool.serves d y) waits ∙ ap (λ (y : Option pool.Loan). pool.serves_by d k others y) lent in
       let once : Once key (k ∷ others) = subst (λ (y : List ℕ). Once key y) waits x.once in
       let its : Its (turn d pool.Serves).pool key h c =
-      subst (λ (y : Turn). Its y.pool key h c) (sym t) (record { sole = theirs_one key h d.holds x.none mine; there = there; lent = refl; line = none_behind key k others once mine }) in
+      subst (λ (y : PoolTurn). Its y.pool key h c) (sym t) (record { sole = theirs_one key h d.holds x.none mine; there = there; lent = refl; line = none_behind key k others once mine }) in
       inl (record { hold = h; seat = c; its = its; origin = origin })
 
   not_lent : lent_in (step {T = Token} d.service calls.Lease).reply ≡ None → Served
   not_lent none =
       let t : turn d pool.Serves ≡ moves d d.holds d.line [] = ap (λ (y : List ℕ). pool.serves d y) waits ∙ ap (λ (y : Option pool.Loan). pool.serves_by d k others y) none in
-      inr (record { none = ap (λ (y : Turn). theirs key y.pool.holds) t ∙ x.none; once = subst (λ (y : Turn). Once key y.pool.line) (sym t) x.once })
+      inr (record { none = ap (λ (y : PoolTurn). theirs key y.pool.holds) t ∙ x.none; once = subst (λ (y : PoolTurn). Once key y.pool.line) (sym t) x.once })
 
   lent_used : (c : Seat) → find_by is_lendable d.service.seats ≡ Some c → Served
   lent_used c e =
@@ -186,7 +186,7 @@ module _ (d : Pool) (key k : ℕ) (others : List ℕ) (x : IsAbsent key d) (soun
       ap (λ (o : Option Seat). calls.lends {T = Token} d.service o) e in
       let idle = lendable_idle c (found_meets is_lendable c d.service.seats e) in
       let there = change_here is_lendable c (Leased lease) l d.service.seats sound.tidy.distinct e in
-      is_first lease c.number l (ap (λ (t : Step Token). lent_in t.reply) did) (ap (λ (t : Step Token). seat_numbered c.number t.service.seats) did ∙ there) (Clean c.line idle refl)
+      is_first lease c.number l (ap (λ (t : ServiceStep Token). lent_in t.reply) did) (ap (λ (t : ServiceStep Token). seat_numbered c.number t.service.seats) did ∙ there) (Clean c.line idle refl)
 
   lent_new : find_by is_lendable d.service.seats ≡ None → nat_lt (length d.service.seats) d.service.max ≡ true → Served
   lent_new e room =
@@ -196,12 +196,12 @@ module _ (d : Pool) (key k : ℕ) (others : List ℕ) (x : IsAbsent key d) (soun
       let did : step {T = Token} d.service calls.Lease ≡ calls.opens d.service true =
       ap (λ (o : Option Seat). calls.lends {T = Token} d.service o) e ∙ ap (λ (b : Bool). calls.opens {T = Token} d.service b) room in
       let there : seat_numbered number (d.service.seats ++ c ∷ []) ≡ Some c = added_here c d.service.seats (numbered_none d.service.last d.service.seats sound.tidy.upto) in
-      let lent : lent_in (step {T = Token} d.service calls.Lease).reply ≡ Some (record { lease = lease; number = number }) = ap (λ (t : Step Token). lent_in t.reply) did in
+      let lent : lent_in (step {T = Token} d.service calls.Lease).reply ≡ Some (record { lease = lease; number = number }) = ap (λ (t : ServiceStep Token). lent_in t.reply) did in
       let t : turn d pool.Serves ≡ moves d (d.holds ++ holding k lease number ∷ []) others (calls.Lease ∷ []) =
       ap (λ (y : List ℕ). pool.serves d y) waits ∙ ap (λ (y : Option pool.Loan). pool.serves_by d k others y) lent in
-      let out : on number (steps d.service (turn d pool.Serves).calls) ≡ [] = ap (λ (y : Turn). on number (steps d.service y.calls)) t
-      ∙ ap (λ (y : Step Token). on_one (y.number == number) y.dones []) did ∙ none_on (0 == number) [] in
-      is_first lease number new_line lent (ap (λ (y : Step Token). seat_numbered number y.service.seats) did ∙ there) (New refl refl out)
+      let out : on number (steps d.service (turn d pool.Serves).calls) ≡ [] = ap (λ (y : PoolTurn). on number (steps d.service y.calls)) t
+      ∙ ap (λ (y : ServiceStep Token). on_one (y.number == number) y.dones []) did ∙ none_on (0 == number) [] in
+      is_first lease number new_line lent (ap (λ (y : ServiceStep Token). seat_numbered number y.service.seats) did ∙ there) (New refl refl out)
 
   lent_by_room : (b : Bool) → find_by is_lendable d.service.seats ≡ None → nat_lt (length d.service.seats) d.service.max ≡ b → Served
   lent_by_room true e room = lent_new e room
@@ -228,7 +228,7 @@ module _ (d : Pool) (key : ℕ) (x : IsAbsent key d) (sound : Sound d) where
   left : (p : ℕ → Bool) (line : List ℕ) → L line → L (filter p line)
   left p line once = once_filtered key p line once
 
-  abbrev Q : Turn → Type 0
+  abbrev Q : PoolTurn → Type 0
   Q t = StaysOut d key x.none L x.once left t
 
   stays : (event : Event) → Q (turn d event) → IsAbsent key (turn d event).pool

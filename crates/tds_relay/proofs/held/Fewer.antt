@@ -8,7 +8,7 @@ use Rattle.tds_service.specs.Service as calls
 use Rattle.tds_service.specs.Service.{Call, Service, lease_at, seat_numbered, step}
 use Rattle.tds_relay.specs.declared.pool.Hold.{Hold}
 use Rattle.tds_relay.specs.Pool as pool
-use Rattle.tds_relay.specs.Pool.{Action, Pool, Event, Hearing, Loan, Way, brings_by, comes_by, does, find_key, find_lease, find_number, hearing, holding, keeps_by, key_of, lent_in, renews, renews_by, serves, serves_by, ticket_in, turn, whose, without_lease, without_number}
+use Rattle.tds_relay.specs.Pool.{Action, Pool, Event, Hearing, Loan, Way, brings_by, comes_by, holder_does, find_key, find_lease, find_number, hearing, holding, keeps_by, key_of, lent_in, renews, renews_by, serves, serves_by, ticket_in, turn, whose, without_lease, without_number}
 use Rattle.tds_relay.specs.Core as core
 use Rattle.tds_relay.specs.Core.{CausesMove, Core, IsQuiet, Move, Moves, holder, moved, moved_all}
 use Rattle.tds_relay.specs.Promises.{Each}
@@ -101,9 +101,9 @@ brings_thins : (d : Pool) (s : Service) (gives : Bool) (way : Way) (o : Option L
 brings_thins d s gives way None = thins_as d (brings_by d s gives way None).pool refl (fewer_same d (brings_by d s gives way None).pool refl)
 brings_thins d s gives way (Some lent) = thins_as d (brings_by d s gives way (Some lent)).pool refl (fewer_same d (brings_by d s gives way (Some lent)).pool refl)
 
-does_thins : (d : Pool) (action : Action) (o : Option Hold) → Thins d (does d action o).pool
-does_thins d action None = thins_as d (does d action None).pool refl (fewer_same d (does d action None).pool refl)
-does_thins d action (Some h) = thins_as d (does d action (Some h)).pool refl (fewer_same d (does d action (Some h)).pool refl)
+does_thins : (d : Pool) (action : Action) (o : Option Hold) → Thins d (holder_does d action o).pool
+does_thins d action None = thins_as d (holder_does d action None).pool refl (fewer_same d (holder_does d action None).pool refl)
+does_thins d action (Some h) = thins_as d (holder_does d action (Some h)).pool refl (fewer_same d (holder_does d action (Some h)).pool refl)
 
 lost_thins : (d : Pool) (m : ℕ) → Thins d (turn d (pool.Loses m)).pool
 lost_thins d m = thins_as d (turn d (pool.Loses m)).pool refl (fewer_without d (turn d (pool.Loses m)).pool m refl)

@@ -5,14 +5,14 @@ use Rattle.std.proofs.lemmas.Bool.{eqb-true, eq-eqb}
 use Rattle.tds_packet.specs.declared.status.Reset.TheVariants.{KeepTransaction}
 use Rattle.tds_wire.specs.declared.told.Token.{Token}
 use Rattle.tds_service.specs.Line as line
-use Rattle.tds_service.specs.Line.{Line, Stage}
+use Rattle.tds_service.specs.Line.{Line, LineStage}
 use Rattle.tds_service.specs.History.{history, line_after}
 use Rattle.tds_service.specs.Service as calls
-use Rattle.tds_service.specs.Service.{Step, Call, Place, Leased, Cleaning, Kept, Free, Draining, Seat, find_by, change_by, has_lease, has_ticket, has_number, is_idle, is_open, keeps, may_keep, seat_numbered, on, on_one, step, steps, does, nothing}
+use Rattle.tds_service.specs.Service.{ServiceStep, Call, Place, Leased, Cleaning, Kept, Free, Draining, Seat, find_by, change_by, has_lease, has_ticket, has_number, is_idle, is_open, keeps, may_keep, seat_numbered, on, on_one, step, steps, does, nothing}
 use Rattle.tds_service.proofs.Numbered.{change_here, change_other, is_found}
 use Rattle.tds_relay.specs.declared.pool.Hold.{Hold}
 use Rattle.tds_relay.specs.Pool as pool
-use Rattle.tds_relay.specs.Pool.{Pool, Turn, holding, lent_in, moves, ticket_in, turn, without_lease, without_number}
+use Rattle.tds_relay.specs.Pool.{Pool, PoolTurn, holding, lent_in, moves, ticket_in, turn, without_lease, without_number}
 use Rattle.tds_relay.specs.Promises.{CaresFor, IsCaredFor}
 use Rattle.tds_relay.proofs.promises.Seats.{Distinct, each_found, found_meets, found_other}
 use Rattle.tds_relay.proofs.promises.Tidy.{step_rises}
@@ -67,7 +67,7 @@ ticket_of d ticket h c (Some x) sound by distinct e =
     (is_found (has_ticket ticket) x (change_by (has_lease h.lease) (Some (Kept ticket)) c.line d.service.seats) distinct e)
 
 pub marked_idle : (l : Line) → l.stage ≡ line.Idle → (line_after {T = Token} l (line.Mark KeepTransaction ∷ [])).stage ≡ line.Idle
-marked_idle l is = ap (λ (st : Stage). (line.marks {T = Token} l KeepTransaction st).line.stage) is ∙ is
+marked_idle l is = ap (λ (st : LineStage). (line.marks {T = Token} l KeepTransaction st).line.stage) is ∙ is
 
 -- ---- What comes of it
 
@@ -95,7 +95,7 @@ ticket_for d h = ticket_in (step {T = Token} d.service (calls.Keep h.lease)).rep
 
 pub data Renewed (d : Pool) (key : ℕ) (h : Hold) (c : Seat) (resumes : Bool) : Type 0 where
   -- nothing is done
-  Rests : ticket_for d h ≡ None → turn d (pool.Renews key resumes) ≡ pool.rests d → Renewed d key h c resumes
+  Rests : ticket_for d h ≡ None → turn d (pool.Renews key resumes) ≡ pool.pool_rests d → Renewed d key h c resumes
   -- it was idle, and is; or, where memory is refused to it, it is gone
   Lends : (ticket : ℕ) → ticket_for d h ≡ Some ticket → resumes ≡ true → c.line.stage ≡ line.Idle → IsRelent d key h c resumes → Renewed d key h c resumes
   Goes : (ticket : ℕ) → ticket_for d h ≡ Some ticket → resumes ≡ false → c.line.stage ≡ line.Idle → Gone key (turn d (pool.Renews key resumes)).pool → Renewed d key h c resumes
@@ -117,15 +117,15 @@ module _ (d : Pool) (key : ℕ) (h : Hold) (c : Seat) (sound : Sound d) (its : I
       let ticket = suc d.service.given in
       let lease = suc ticket in
       let keep = step {T = Token} d.service (calls.Keep h.lease) in
-      let kept2 : Step Token = does {T = Token} d.service ticket (has_lease h.lease) c (Some (Kept ticket)) [] (calls.Ticket ticket) in
+      let kept2 : ServiceStep Token = does {T = Token} d.service ticket (has_lease h.lease) c (Some (Kept ticket)) [] (calls.Ticket ticket) in
       let keeping : keep ≡ kept2 = ap (λ (o : Option Seat). calls.keeps_it {T = Token} d.service (has_lease h.lease) o) by
       ∙ ap (λ (b : Bool). if b then kept2 else nothing d.service calls.NotNow) may in
       let s1 = kept2.service in
-      let distinct : Distinct s1.seats = subst (λ (x : Step Token). Distinct x.service.seats) keeping (step_rises d.service (calls.Keep h.lease) sound.tidy).tidy.distinct in
+      let distinct : Distinct s1.seats = subst (λ (x : ServiceStep Token). Distinct x.service.seats) keeping (step_rises d.service (calls.Keep h.lease) sound.tidy).tidy.distinct in
       let c1 : Seat = record { number = c.number; place = Kept ticket; line = c.line } in
       let found1 : find_by (has_ticket ticket) s1.seats ≡ Some c1 = ticket_of d ticket h c (find_by (has_ticket ticket) s1.seats) sound by distinct refl in
       let l2 = line_after {T = Token} c.line (line.Mark KeepTransaction ∷ []) in
-      let resume2 : Step Token = does {T = Token} s1 lease (has_ticket ticket) c1 (Some (Leased lease)) (line.Mark KeepTransaction ∷ []) (calls.Lent lease c.number true) in
+      let resume2 : ServiceStep Token = does {T = Token} s1 lease (has_ticket ticket) c1 (Some (Leased lease)) (line.Mark KeepTransaction ∷ []) (calls.Lent lease c.number true) in
       let can : is_idle c.line.stage ≡ true = ap is_idle idle in
       let resuming : step {T = Token} s1 (calls.Resume ticket) ≡ resume2 = ap (λ (o : Option Seat). calls.resumes {T = Token} s1 (has_ticket ticket) o) found1
       ∙ ap (λ (b : Bool). if b then resume2 else nothing s1 calls.NotNow) can in
@@ -133,22 +133,22 @@ module _ (d : Pool) (key : ℕ) (h : Hold) (c : Seat) (sound : Sound d) (its : I
       let more = without_lease h.lease d.holds ++ h2 ∷ [] in
       let all : List (Call Token) = calls.Keep h.lease ∷ calls.Resume ticket ∷ [] in
       let t : turn d (pool.Renews key true) ≡ moves d more d.line all = ap (λ (x : Option Hold). pool.renews d true x) f
-      ∙ ap (λ (x : Step Token). pool.keeps_by d h true x.service (ticket_in x.reply)) keeping ∙ ap (λ (x : Step Token). pool.renews_by d h ticket (lent_in x.reply) true) resuming in
+      ∙ ap (λ (x : ServiceStep Token). pool.keeps_by d h true x.service (ticket_in x.reply)) keeping ∙ ap (λ (x : ServiceStep Token). pool.renews_by d h ticket (lent_in x.reply) true) resuming in
       let c2 : Seat = relent lease c in
       let there : seat_numbered c.number resume2.service.seats ≡ Some c2 = change_here (has_ticket ticket) c1 (Leased lease) l2 s1.seats distinct found1 in
       let there2 : seat_numbered c.number (moves d more d.line all).pool.service.seats ≡ Some c2 =
-      ap (λ (x : Step Token). seat_numbered c.number (step {T = Token} x.service (calls.Resume ticket)).service.seats) keeping
-      ∙ ap (λ (x : Step Token). seat_numbered c.number x.service.seats) resuming ∙ there in
+      ap (λ (x : ServiceStep Token). seat_numbered c.number (step {T = Token} x.service (calls.Resume ticket)).service.seats) keeping
+      ∙ ap (λ (x : ServiceStep Token). seat_numbered c.number x.service.seats) resuming ∙ there in
       let yes : (h.key == key) ≡ true = eq-eqb h.key key (key_is d key h c sound its) in
       let sole : theirs key more ≡ h2 ∷ [] =
       theirs_one key h2 (without_lease h.lease d.holds) (theirs_left key h (λ (x : Hold). not (x.lease == h.lease)) d.holds its.sole (not_same h.lease)) yes in
-      let its2 : Its (turn d (pool.Renews key true)).pool key h2 c2 = subst (λ (x : Turn). Its x.pool key h2 c2) (sym t) (record { sole = sole; there = there2; lent = refl; line = its.line }) in
+      let its2 : Its (turn d (pool.Renews key true)).pool key h2 c2 = subst (λ (x : PoolTurn). Its x.pool key h2 c2) (sym t) (record { sole = sole; there = there2; lent = refl; line = its.line }) in
       let done = history {T = Token} c.line (line.Mark KeepTransaction ∷ []) in
-      let out : on c.number (steps d.service (turn d (pool.Renews key true)).calls) ≡ done = ap (λ (x : Turn). on c.number (steps d.service x.calls)) t
-      ∙ ap (λ (x : Step Token). on_one (x.number == c.number) x.dones (on_one ((step {T = Token} x.service (calls.Resume ticket)).number == c.number) (step {T = Token} x.service (calls.Resume ticket)).dones [])) keeping
-      ∙ ap (λ (x : Step Token). on_one (c.number == c.number) [] (on_one (x.number == c.number) x.dones [])) resuming
+      let out : on c.number (steps d.service (turn d (pool.Renews key true)).calls) ≡ done = ap (λ (x : PoolTurn). on c.number (steps d.service x.calls)) t
+      ∙ ap (λ (x : ServiceStep Token). on_one (x.number == c.number) x.dones (on_one ((step {T = Token} x.service (calls.Resume ticket)).number == c.number) (step {T = Token} x.service (calls.Resume ticket)).dones [])) keeping
+      ∙ ap (λ (x : ServiceStep Token). on_one (c.number == c.number) [] (on_one (x.number == c.number) x.dones [])) resuming
       ∙ none_on (c.number == c.number) (on_one (c.number == c.number) done []) ∙ on_here (c.number == c.number) done (same_number c.number) ∙ append_done done in
-      Lends ticket (ap (λ (x : Step Token). ticket_in x.reply) keeping) refl idle (record { lease = lease; its = its2; out = out })
+      Lends ticket (ap (λ (x : ServiceStep Token). ticket_in x.reply) keeping) refl idle (record { lease = lease; its = its2; out = out })
 
   -- where memory is refused to it, it's closed
   refused : may_keep c ≡ true → Renewed d key h c false
@@ -158,10 +158,10 @@ module _ (d : Pool) (key : ℕ) (h : Hold) (c : Seat) (sound : Sound d) (its : I
       let ticket = suc d.service.given in
       let keep = step {T = Token} d.service (calls.Keep h.lease) in
       let some : ticket_in keep.reply ≡ Some ticket = rw (by, may) refl in
-      let t2 : Turn = moves d (without_number h.number d.holds) d.line (calls.Keep h.lease ∷ calls.Lost h.number ∷ []) in
+      let t2 : PoolTurn = moves d (without_number h.number d.holds) d.line (calls.Keep h.lease ∷ calls.Lost h.number ∷ []) in
       let t : turn d (pool.Renews key false) ≡ t2 = ap (λ (x : Option Hold). pool.renews d false x) f ∙ ap (λ (x : Option ℕ). pool.keeps_by d h false keep.service x) some in
       let gone : Gone key t2.pool = record { holds = theirs_left key h (λ (x : Hold). not (x.number == h.number)) d.holds its.sole (not_same h.number); waits = its.line } in
-      Goes ticket some refl (may_idle c may) (subst (λ (x : Turn). Gone key x.pool) (sym t) gone)
+      Goes ticket some refl (may_idle c may) (subst (λ (x : PoolTurn). Gone key x.pool) (sym t) gone)
 
   by : (resumes b : Bool) → may_keep c ≡ b → Renewed d key h c resumes
   by resumes false may = unkept resumes may

@@ -49,7 +49,7 @@ brings_line : (d : Pool) (s : Service) (gives : Bool) (way : Way) (o : Option po
 brings_line d s gives way None = among_same d.line []
 brings_line d s gives way (Some lent) = among_same d.line []
 
-does_line : (d : Pool) (action : Action) (o : Option Hold) → IsAmong (pool.does d action o).pool.line (d.line ++ [])
+does_line : (d : Pool) (action : Action) (o : Option Hold) → IsAmong (pool.holder_does d action o).pool.line (d.line ++ [])
 does_line d action None = among_same d.line []
 does_line d action (Some h) = among_same d.line []
 

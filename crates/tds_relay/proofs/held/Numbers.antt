@@ -9,12 +9,12 @@ use Rattle.tds_service.specs.Line as line
 use Rattle.tds_service.specs.Line.{Act, new_line}
 use Rattle.tds_service.specs.History.{line_after}
 use Rattle.tds_service.specs.Service as calls
-use Rattle.tds_service.specs.Service.{Service, Reply, Step, Leased, Seat, find_by, change_by, has_ticket, is_lendable, is_idle, does, lease_at, nothing, seat_numbered, step, service_after}
+use Rattle.tds_service.specs.Service.{Service, Reply, ServiceStep, Leased, Seat, find_by, change_by, has_ticket, is_lendable, is_idle, does, lease_at, nothing, seat_numbered, step, service_after}
 use Rattle.tds_service.proofs.Numbered.{added_here, change_here}
 use Rattle.tds_service.proofs.Tests.{above}
 use Rattle.tds_relay.specs.declared.pool.Hold.{Hold}
 use Rattle.tds_relay.specs.Pool as pool
-use Rattle.tds_relay.specs.Pool.{Pool, Event, Hearing, Way, Turn, pool_after, find_key, find_number, key_of, new_pool, holding, lent_in, moves, ticket_in, turn, without_lease, without_number}
+use Rattle.tds_relay.specs.Pool.{Pool, Event, Hearing, Way, PoolTurn, pool_after, find_key, find_number, key_of, new_pool, holding, lent_in, moves, ticket_in, turn, without_lease, without_number}
 use Rattle.tds_relay.specs.Promises.{Each}
 use Rattle.tds_relay.specs.Ties.{IsReached}
 use Rattle.tds_relay.proofs.held.Lists.{found_key}
@@ -72,11 +72,11 @@ front_of P x (y ∷ ys) h = let k = front_of P x ys h.1 in ((h.0, k.0), k.1)
 -- ---- The connection that is lent is there
 
 module _ (s : Service) (tidy : Tidy s) where
-  pub record IsThere (t : Step Token) (loan : pool.Loan) : Type 0 where
+  pub record IsThere (t : ServiceStep Token) (loan : pool.Loan) : Type 0 where
     pub seat : Seat
     pub there : seat_numbered loan.number t.service.seats ≡ Some seat
 
-  abbrev LentThere : Step Token → Type 0
+  abbrev LentThere : ServiceStep Token → Type 0
   LentThere t = (loan : pool.Loan) → lent_in t.reply ≡ Some loan → IsThere t loan
 
   none_there : (reply : Reply) → lent_in reply ≡ None → LentThere (nothing s reply)
@@ -148,7 +148,7 @@ module _ (d : Pool) (sound : Sound d) (sit : AllSit d) (hs : List Hold) (x : Hol
 
 module _ (d : Pool) (sound : Sound d) (apart : Apart d.holds) where
   -- each pool that sits, where it is sound
-  abbrev P : Turn → Type 0
+  abbrev P : PoolTurn → Type 0
   P t = Sound t.pool → AllSit t.pool → Apart t.pool.holds
 
   serves_by : (k : ℕ) (others : List ℕ) (o : Option pool.Loan) → lent_in (step {T = Token} d.service calls.Lease).reply ≡ o → P (pool.serves_by d k others o)
@@ -165,7 +165,7 @@ module _ (d : Pool) (sound : Sound d) (apart : Apart d.holds) where
   brings gives way s None next sits = apart
   brings gives way s (Some loan) next sits = apart
 
-  does_apart : (action : pool.Action) (o : Option Hold) → P (pool.does d action o)
+  does_apart : (action : pool.Action) (o : Option Hold) → P (pool.holder_does d action o)
   does_apart action None next sits = apart
   does_apart action (Some h) next sits = apart
 

@@ -10,7 +10,7 @@ use Rattle.tds_service.specs.History.{Done}
 use Rattle.tds_service.proofs.Tests.{above}
 use Rattle.tds_relay.specs.declared.pool.Hold.{Hold}
 use Rattle.tds_relay.specs.Pool as pool
-use Rattle.tds_relay.specs.Pool.{Pool, Event, Action, Way, Turn, Hearing, find_key, find_lease, without_lease, without_number, holding, moves, cleaning, cleaning_by, releasing, frees, lent_in, ticket_in, turn}
+use Rattle.tds_relay.specs.Pool.{Pool, Event, Action, Way, PoolTurn, Hearing, find_key, find_lease, without_lease, without_number, holding, moves, cleaning, cleaning_by, releasing, frees, lent_in, ticket_in, turn}
 use Rattle.tds_relay.proofs.promises.Seats.{each_found, found_meets}
 use Rattle.tds_relay.proofs.promises.Tidy.{Tidy, WithinAt, WithinIn, step_rises}
 use Rattle.tds_relay.proofs.promises.Holding.{found_by_lease}
@@ -81,7 +81,7 @@ releasing_spares s lease n other number true way tidy le e ne =
     )
 
 -- What a turn by others leaves.
-pub record Passes (d : Pool) (key n : ℕ) (h : Hold) (t : Turn) : Type 0 where
+pub record Passes (d : Pool) (key n : ℕ) (h : Hold) (t : PoolTurn) : Type 0 where
   pub service : t.pool.service ≡ service_after d.service t.calls
   pub spares : SparesAll h.lease n t.calls
   pub sole : theirs key t.pool.holds ≡ h ∷ []
@@ -118,7 +118,7 @@ brought_by d h c b true e number lent le there =
 brought_by d h c b false e number lent le there = refl
 
 module _ (d : Pool) (key : ℕ) (h : Hold) (c : Seat) (sound : Sound d) (sit : AllSit d) (its : Its d key h c) where
-  abbrev P : Turn → Type 0
+  abbrev P : PoolTurn → Type 0
   P t = Passes d key h.number h t
 
   rests_pass : (waiting : List ℕ) → places key waiting ≡ [] → P (moves d d.holds waiting [])
@@ -195,7 +195,7 @@ module _ (d : Pool) (key : ℕ) (h : Hold) (c : Seat) (sound : Sound d) (sit : A
   action_spares other (pool.Ends count) e = e
   action_spares other pool.Stops e = e
 
-  does_pass : (other : ℕ) (action : Action) (o : Option Hold) → find_key other d.holds ≡ o → (other == key) ≡ false → P (pool.does d action o)
+  does_pass : (other : ℕ) (action : Action) (o : Option Hold) → find_key other d.holds ≡ o → (other == key) ≡ false → P (pool.holder_does d action o)
   does_pass other action None e ne = rests_pass d.line its.line
   does_pass other action (Some x) e ne = record { service = refl; spares = (action_spares x.lease action (differs other x e ne), tt); sole = its.sole; line = its.line }
 

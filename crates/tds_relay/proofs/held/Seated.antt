@@ -5,11 +5,11 @@ use Rattle.std.proofs.lemmas.Bool.{eqb-true, eq-eqb}
 use Rattle.tds_wire.specs.declared.told.Token.{Token}
 use Rattle.tds_service.specs.Parts.{Part}
 use Rattle.tds_service.specs.Service as calls
-use Rattle.tds_service.specs.Service.{Service, Call, Reply, Step, Place, Leased, Cleaning, Kept, Free, Draining, Seat, find_by, change_by, has_lease, has_ticket, has_number, is_lendable, is_idle, may_keep, clean_place, drained, rests, rests_cleaned, does, nothing, acts_unless, lease_at, seat_numbered, step, service_after}
+use Rattle.tds_service.specs.Service.{Service, Call, Reply, ServiceStep, Place, Leased, Cleaning, Kept, Free, Draining, Seat, find_by, change_by, has_lease, has_ticket, has_number, is_lendable, is_idle, may_keep, clean_place, drained, rests, rests_cleaned, does, nothing, acts_unless, lease_at, seat_numbered, step, service_after}
 use Rattle.tds_service.proofs.Tests.{above}
 use Rattle.tds_relay.specs.declared.pool.Hold.{Hold}
 use Rattle.tds_relay.specs.Pool as pool
-use Rattle.tds_relay.specs.Pool.{Pool, Event, Action, Way, Turn, Hearing, find_key, find_lease, without_lease, without_number, holding, moves, cleaning, cleaning_by, releasing, frees, lent_in, ticket_in, turn}
+use Rattle.tds_relay.specs.Pool.{Pool, Event, Action, Way, PoolTurn, Hearing, find_key, find_lease, without_lease, without_number, holding, moves, cleaning, cleaning_by, releasing, frees, lent_in, ticket_in, turn}
 use Rattle.tds_relay.specs.Promises.{Each}
 use Rattle.tds_relay.proofs.promises.Seats.{each_added, each_weaker}
 use Rattle.tds_relay.proofs.promises.Tidy.{step_rises}
@@ -72,7 +72,7 @@ releasing_lets s lease other number true way e =
     (e, if_lets lease (frees given.reply) (cleaning given.service number way) [] (cleaning_lets lease number (suc given.service.given) way) tt)
 
 module _ (d : Pool) (sound : Sound d) (sit : AllSit d) where
-  abbrev P : Turn → Type 0
+  abbrev P : PoolTurn → Type 0
   P t = AllSit t.pool
 
   kept_all : (waiting : List ℕ) (all : List (Call Token)) → ((x : Hold) → find_lease x.lease d.holds ≡ Some x → LetsAll x.lease all) → P (moves d d.holds waiting all)
@@ -126,7 +126,7 @@ module _ (d : Pool) (sound : Sound d) (sit : AllSit d) where
   action_lets lease other (pool.Ends count) = tt
   action_lets lease other pool.Stops = tt
 
-  does_sit : (action : Action) (o : Option Hold) → P (pool.does d action o)
+  does_sit : (action : Action) (o : Option Hold) → P (pool.holder_does d action o)
   does_sit action None = sit
   does_sit action (Some h) = kept_all d.line (pool.call_of h.lease action ∷ []) (λ x found. (action_lets x.lease h.lease action, tt))
 

@@ -7,16 +7,16 @@ use Rattle.tds_client.specs.declared.fault.ClientRefusal.{ClientRefusal}
 use Rattle.tds_wire.specs.declared.told.Token.{Token}
 use Rattle.tds_service.specs.Parts.{Part}
 use Rattle.tds_service.specs.Line as line
-use Rattle.tds_service.specs.Line.{Line, Act, Stage, new_line}
+use Rattle.tds_service.specs.Line.{Line, Act, LineStage, new_line}
 use Rattle.tds_service.specs.History.{line_after}
 use Rattle.tds_service.specs.Refusing.{packets, refusal_in}
 use Rattle.tds_service.specs.Service as calls
-use Rattle.tds_service.specs.Service.{Service, Call, Reply, Step, Place, Leased, Cleaning, Kept, Free, Draining, Seat, find_by, change_by, has_lease, has_ticket, has_number, is_lendable, is_idle, may_keep, clean_place, drained, rests, rests_cleaned, does, nothing, acts_unless, lease_at, seat_numbered, step, service_after}
+use Rattle.tds_service.specs.Service.{Service, Call, Reply, ServiceStep, Place, Leased, Cleaning, Kept, Free, Draining, Seat, find_by, change_by, has_lease, has_ticket, has_number, is_lendable, is_idle, may_keep, clean_place, drained, rests, rests_cleaned, does, nothing, acts_unless, lease_at, seat_numbered, step, service_after}
 use Rattle.tds_service.proofs.Numbered.{added_here, added_other, change_here, change_other, change_out, is_found}
 use Rattle.tds_service.proofs.Tests.{above, below}
 use Rattle.tds_relay.specs.declared.pool.Hold.{Hold}
 use Rattle.tds_relay.specs.Pool as pool
-use Rattle.tds_relay.specs.Pool.{Pool, Event, Action, Way, Turn, Hearing, find_key, find_lease, without_lease, without_number, holding, moves, cleaning, cleaning_by, releasing, frees, lent_in, ticket_in, turn}
+use Rattle.tds_relay.specs.Pool.{Pool, Event, Action, Way, PoolTurn, Hearing, find_key, find_lease, without_lease, without_number, holding, moves, cleaning, cleaning_by, releasing, frees, lent_in, ticket_in, turn}
 use Rattle.tds_relay.specs.Promises.{Each}
 use Rattle.tds_relay.proofs.promises.Seats.{Distinct, each_found, found_meets}
 use Rattle.tds_relay.proofs.promises.Tidy.{Tidy, UpTo, step_rises}
@@ -73,7 +73,7 @@ module _ (s : Service) (x : Hold) (distinct : Distinct s.seats) (sits : Sits s x
   does_sits given test d place all reply e p =
       record { low = sits.low; lent = λ c found. does_at test d c place (line_after d.line all) (d.number == x.number) refl e p found }
 
-  if_sits : (b : Bool) (t u : Step Token) → (b ≡ true → Sits t.service x) → Sits u.service x → Sits (if b then t else u).service x
+  if_sits : (b : Bool) (t u : ServiceStep Token) → (b ≡ true → Sits t.service x) → Sits u.service x → Sits (if b then t else u).service x
   if_sits true t u h k = h refl
   if_sits false t u h k = k
 
@@ -114,7 +114,7 @@ module _ (s : Service) (x : Hold) (distinct : Distinct s.seats) (sits : Sits s x
 
   acts_sit : (test : Seat → Bool) (first : Act Token) (all : List (Act Token)) (o : Option Seat) → find_by test s.seats ≡ o → Sits (calls.acts s test first all o).service x
   acts_sit test first all None e = sits
-  acts_sit test first all (Some d) e = unless_sits test d all (refusal_in (line.turn d.line first).answer) e
+  acts_sit test first all (Some d) e = unless_sits test d all (refusal_in (line.line_turn d.line first).answer) e
 
   another : (other : ℕ) (d : Seat) → (x.lease == other) ≡ false → d.place ≡ Leased x.lease → has_lease other d ≡ false
   another other d ne is = rw is ne
@@ -158,7 +158,7 @@ module _ (s : Service) (x : Hold) (distinct : Distinct s.seats) (sits : Sits s x
   abandons_sit ticket (Some d) e =
       does_sits s.given (has_ticket ticket) d (rests d.line.stage) [] (calls.Back (rests d.line.stage)) e (unmet (has_ticket ticket) d (rests d.line.stage) e (unkept ticket d))
 
-  stays_drained : (place : Place) (stage : Stage) → place ≡ Leased x.lease → drained place stage ≡ Leased x.lease
+  stays_drained : (place : Place) (stage : LineStage) → place ≡ Leased x.lease → drained place stage ≡ Leased x.lease
   stays_drained place stage is = ap (λ (p : Place). drained p stage) is
 
   hears_sit : (test : Seat → Bool) (part : Part Token) (o : Option Seat) → find_by test s.seats ≡ o → Sits (calls.hears s test part o).service x
@@ -200,7 +200,7 @@ all_sit s x (call ∷ all) tidy h sits = all_sit (step s call).service x all (st
 -- ---- One that is lent
 
 module _ (s : Service) (tidy : Tidy s) (key : ℕ) where
-  abbrev LentSits : Step Token → Type 0
+  abbrev LentSits : ServiceStep Token → Type 0
   LentSits t = (loan : pool.Loan) → lent_in t.reply ≡ Some loan → Sits t.service (holding key loan.lease loan.number)
 
   placed_sits : (given : ℕ) (test : Seat → Bool) (d : Seat) (all : List (Act Token)) → find_by test s.seats ≡ Some d

@@ -11,7 +11,7 @@ use Rattle.tds_service.specs.Line.{Line, Act, new_line}
 use Rattle.tds_service.specs.History.{Done, history, line_after}
 use Rattle.tds_service.specs.Refusing.{packets, refusal_in}
 use Rattle.tds_service.specs.Service as calls
-use Rattle.tds_service.specs.Service.{Service, Call, Reply, Step, Place, Leased, Cleaning, Kept, Free, Draining, Seat, find_by, change_by, has_lease, has_ticket, has_number, holds, is_lendable, may_keep, clean_place, drained, rests, rests_cleaned, does, nothing, acts_unless, on, on_one, seat_numbered, step, steps, service_after, is_idle}
+use Rattle.tds_service.specs.Service.{Service, Call, Reply, ServiceStep, Place, Leased, Cleaning, Kept, Free, Draining, Seat, find_by, change_by, has_lease, has_ticket, has_number, holds, is_lendable, may_keep, clean_place, drained, rests, rests_cleaned, does, nothing, acts_unless, on, on_one, seat_numbered, step, steps, service_after, is_idle}
 use Rattle.tds_service.proofs.Numbered.{change_other, is_found}
 use Rattle.tds_relay.proofs.promises.Seats.{Distinct, found_meets}
 use Rattle.tds_relay.proofs.promises.Tidy.{Tidy, step_rises}
@@ -33,7 +33,7 @@ Spares lease n (calls.Came m part) = (n == m) ≡ false
 Spares lease n (calls.Lost m) = (n == m) ≡ false
 Spares lease n (calls.Without call) = Unit {0}
 
-pub record Spared (n : ℕ) (c : Seat) (t : Step Token) : Type 0 where
+pub record Spared (n : ℕ) (c : Seat) (t : ServiceStep Token) : Type 0 where
   pub stays : seat_numbered n t.service.seats ≡ Some c
   pub quiet : (others : List (Done Token)) → on_one (t.number == n) t.dones others ≡ others
 
@@ -54,7 +54,7 @@ added n c d [] e = absurd (let u : ⊥ = cc in u)
 added n c d (x ∷ cs) e = added_by (x.number == n) c x (seat_numbered n cs) (seat_numbered n (cs ++ d ∷ [])) (added n c d cs) e
 
 module _ (s : Service) (c : Seat) (lease : ℕ) (lent : c.place ≡ Leased lease) (distinct : Distinct s.seats) (there : seat_numbered c.number s.seats ≡ Some c) where
-  abbrev Does : Step Token → Type 0
+  abbrev Does : ServiceStep Token → Type 0
   Does t = Spared c.number c t
 
   nothing_spares : (reply : Reply) → Does (nothing s reply)
@@ -78,7 +78,7 @@ module _ (s : Service) (c : Seat) (lease : ℕ) (lent : c.place ≡ Leased lease
         quiet = λ others. other_on (d.number == c.number) (history d.line all) others other;
       }
 
-  if_spares : (b : Bool) (t u : Step Token) → (b ≡ true → Does t) → Does u → Does (if b then t else u)
+  if_spares : (b : Bool) (t u : ServiceStep Token) → (b ≡ true → Does t) → Does u → Does (if b then t else u)
   if_spares true t u h k = h refl
   if_spares false t u h k = k
 
@@ -114,7 +114,7 @@ module _ (s : Service) (c : Seat) (lease : ℕ) (lent : c.place ≡ Leased lease
 
   acts_spare : (test : Seat → Bool) (first : Act Token) (all : List (Act Token)) (o : Option Seat) → find_by test s.seats ≡ o → test c ≡ false → Does (calls.acts s test first all o)
   acts_spare test first all None e fails = nothing_spares calls.Unknown
-  acts_spare test first all (Some d) e fails = unless_spares test d all (refusal_in (line.turn d.line first).answer) e fails
+  acts_spare test first all (Some d) e fails = unless_spares test d all (refusal_in (line.line_turn d.line first).answer) e fails
 
   gives_spare : (test : Seat → Bool) (o : Option Seat) → find_by test s.seats ≡ o → test c ≡ false → Does (calls.gives_back {T = Token} s test o)
   gives_spare test None e fails = nothing_spares calls.Unknown

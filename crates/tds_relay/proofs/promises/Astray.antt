@@ -11,11 +11,11 @@ use Rattle.tds_client.specs.declared.heard.FinalDone.{FinalDone}
 use Rattle.tds_client.specs.declared.heard.FinalDone.TheVariants.{Awaited, Answered, Acknowledged}
 use Rattle.tds_listen.specs.declared.fault.ListenFault.{ListenFault}
 use Rattle.tds_service.specs.Line as line
-use Rattle.tds_service.specs.Line.{Line, Act, Stage, Packet, turn, marks, asks, sends, cancels, comes, reads, skips, skips_to_end, loses}
+use Rattle.tds_service.specs.Line.{Line, Act, LineStage, Packet, line_turn, marks, asks, sends, cancels, comes, reads, skips, skips_to_end, line_loses}
 use Rattle.tds_service.specs.History.{Done, history}
 use Rattle.tds_service.specs.Refusing.{packets, refusal_in}
 use Rattle.tds_service.specs.Service as calls
-use Rattle.tds_service.specs.Service.{Service, Call, Step, Seat, find_by, has_lease, has_ticket, has_number, is_lendable, is_idle, may_keep, clean_place, acts_unless, rests_cleaned, opens, does, nothing, step, steps, on, on_one}
+use Rattle.tds_service.specs.Service.{Service, Call, ServiceStep, Seat, find_by, has_lease, has_ticket, has_number, is_lendable, is_idle, may_keep, clean_place, acts_unless, rests_cleaned, opens, does, nothing, step, steps, on, on_one}
 use Rattle.tds_service.specs.Promises.{attentions, attentions_in}
 
 -- ---- One connection
@@ -47,7 +47,7 @@ skips_quiet l ends until (Err fault) = refl
 skips_quiet l false until (Ok heard) = refl
 skips_quiet l true until (Ok heard) = skips_end_quiet l heard heard.done
 
-turn_quiet : (l : Line) (act : Act Token) (stage : Stage) → l.stage ≡ stage → IsNoCancel act → attentions_in (turn l act).sent ≡ 0
+turn_quiet : (l : Line) (act : Act Token) (stage : LineStage) → l.stage ≡ stage → IsNoCancel act → attentions_in (line_turn l act).sent ≡ 0
 turn_quiet l (line.Mark reset) line.Idle e h = rw e refl
 turn_quiet l (line.Mark reset) (line.Sending begun) e h = rw e refl
 turn_quiet l (line.Mark reset) line.Reading e h = rw e refl
@@ -80,7 +80,7 @@ history_quiet : (l : Line) (acts : List (Act Token)) → AreNoCancels acts → a
 history_quiet l [] h = refl
 history_quiet l (act ∷ acts) h =
     let one = turn_quiet l act l.stage refl h.0 in
-    let others = history_quiet (turn l act).line acts h.1 in
+    let others = history_quiet (line_turn l act).line acts h.1 in
     omega (arith, one, others)
 
 -- ---- One call
@@ -91,7 +91,7 @@ unless_quiet s test c all (Some why) h = refl
 
 acts_quiet : (s : Service) (test : Seat → Bool) (first : Act Token) (all : List (Act Token)) (o : Option Seat) → AreNoCancels all → attentions (calls.acts s test first all o).dones ≡ 0
 acts_quiet s test first all None h = refl
-acts_quiet s test first all (Some c) h = unless_quiet s test c all (refusal_in (turn c.line first).answer) h
+acts_quiet s test first all (Some c) h = unless_quiet s test c all (refusal_in (line_turn c.line first).answer) h
 
 packets_none : (count : ℕ) → AreNoCancels (packets count)
 packets_none zero = tt
@@ -101,7 +101,7 @@ ended_none : (count : ℕ) → AreNoCancels (packets count ++ line.Send true ∷
 ended_none zero = (tt, tt)
 ended_none (suc count) = (tt, ended_none count)
 
-if_quiet : (b : Bool) (x y : Step Token) → attentions x.dones ≡ 0 → attentions y.dones ≡ 0 → attentions (if b then x else y).dones ≡ 0
+if_quiet : (b : Bool) (x y : ServiceStep Token) → attentions x.dones ≡ 0 → attentions y.dones ≡ 0 → attentions (if b then x else y).dones ≡ 0
 if_quiet true x y h g = h
 if_quiet false x y h g = g
 

@@ -7,13 +7,13 @@ use Rattle.tds_wire.specs.declared.told.Token.{Token}
 use Rattle.tds_packet.specs.declared.status.Reset.TheVariants.{Full}
 use Rattle.tds_relay.specs.declared.pool.Hold.{Hold}
 use Rattle.tds_service.specs.Line as line
-use Rattle.tds_service.specs.Line.{Line, Act, Stage, turn, new_line, sends, marks, asks, cancels}
+use Rattle.tds_service.specs.Line.{Line, Act, LineStage, line_turn, new_line, sends, marks, asks, cancels}
 use Rattle.tds_service.specs.History.{line_after}
 use Rattle.tds_service.specs.Refusing.{packets, refusal_in}
 use Rattle.tds_service.specs.Service as calls
-use Rattle.tds_service.specs.Service.{Service, Call, Reply, Step, Back, Place, Leased, Cleaning, Kept, Free, Draining, Seat, find_by, change_by, has_lease, has_ticket, has_number, holds, is_lendable, is_free, is_idle, rests, acts_unless, step, service_after, does, nothing}
+use Rattle.tds_service.specs.Service.{Service, Call, Reply, ServiceStep, Back, Place, Leased, Cleaning, Kept, Free, Draining, Seat, find_by, change_by, has_lease, has_ticket, has_number, holds, is_lendable, is_free, is_idle, rests, acts_unless, step, service_after, does, nothing}
 use Rattle.tds_relay.specs.Pool as pool
-use Rattle.tds_relay.specs.Pool.{Pool, Way, Event, Action, Turn, find_key, find_lease, without_lease, without_number, holding, moves, cleaning, releasing, frees, lent_in}
+use Rattle.tds_relay.specs.Pool.{Pool, Way, Event, Action, PoolTurn, find_key, find_lease, without_lease, without_number, holding, moves, cleaning, releasing, frees, lent_in}
 use Rattle.tds_relay.specs.Promises.{Each, CaresFor, IsCaredFor, IsHeld}
 use Rattle.tds_relay.proofs.promises.Seats.{Distinct, each_weaker, each_added, each_found, each_changed, each_fails, found_meets}
 use Rattle.tds_relay.proofs.promises.Tidy.{Tidy, WithinAt, WithinIn, step_rises, all_rise}
@@ -156,7 +156,7 @@ unless_cares d h c all None sound held e =
 acts_care : (d : Pool) (h : Hold) (first : Act Token) (all : List (Act Token)) (o : Option Seat) → Sound d → find_lease h.lease d.holds ≡ Some h → find_by (has_lease h.lease) d.service.seats ≡ o
     → Each (CaresFor d.holds) (calls.acts d.service (has_lease h.lease) first all o).service.seats
 acts_care d h first all None sound held e = sound.cared
-acts_care d h first all (Some c) sound held e = unless_cares d h c all (refusal_in (turn c.line first).answer) sound held e
+acts_care d h first all (Some c) sound held e = unless_cares d h c all (refusal_in (line_turn c.line first).answer) sound held e
 
 action_cares : (d : Pool) (h : Hold) (action : Action) → Sound d → find_lease h.lease d.holds ≡ Some h → Each (CaresFor d.holds) (step d.service (pool.call_of h.lease action)).service.seats
 action_cares d h pool.Asks sound held = acts_care d h line.Ask (line.Ask ∷ []) _ sound held refl
@@ -164,7 +164,7 @@ action_cares d h (pool.Puts count) sound held = acts_care d h (line.Send false) 
 action_cares d h (pool.Ends count) sound held = acts_care d h (line.Send true) (packets count ++ line.Send true ∷ []) _ sound held refl
 action_cares d h pool.Stops sound held = acts_care d h line.Cancel (line.Cancel ∷ []) _ sound held refl
 
-pub does_sound : (d : Pool) (key : ℕ) (action : Action) (o : Option Hold) → find_key key d.holds ≡ o → Sound d → Sound (pool.does d action o).pool
+pub does_sound : (d : Pool) (key : ℕ) (action : Action) (o : Option Hold) → find_key key d.holds ≡ o → Sound d → Sound (pool.holder_does d action o).pool
 does_sound d key action None e sound = rests_sound d d.line sound
 does_sound d key action (Some h) e sound =
     let behind = sound_by d d.holds d.line (pool.call_of h.lease action ∷ []) sound sound.rising (action_cares d h action sound (found_by_lease key 0 d.service.given h d.holds sound.rising e)) in
@@ -229,7 +229,7 @@ Rested (Some (Kept ticket)) l = ⊥
 Rested (Some Free) l = l.stage ≡ line.Idle
 Rested (Some Draining) l = l.stage ≡ line.Cancelling
 
-pub rested : (l : Line) (stage : Stage) → l.stage ≡ stage → Rested (rests (cancels {T = Token} l stage).line.stage) (cancels {T = Token} l stage).line
+pub rested : (l : Line) (stage : LineStage) → l.stage ≡ stage → Rested (rests (cancels {T = Token} l stage).line.stage) (cancels {T = Token} l stage).line
 rested l line.Idle e = rw e refl
 rested l (line.Sending false) e = refl
 rested l (line.Sending true) e = refl

@@ -10,9 +10,9 @@ use Rattle.tds_client.specs.declared.heard.FinalDone.{FinalDone}
 use Rattle.tds_client.specs.declared.heard.FinalDone.TheVariants.{Awaited, Answered, Acknowledged}
 use Rattle.tds_listen.specs.declared.fault.ListenFault.{ListenFault}
 use Rattle.tds_service.specs.Line as line
-use Rattle.tds_service.specs.Line.{Line, Act, Stage, turn, comes, reads, skips, skips_to_end}
+use Rattle.tds_service.specs.Line.{Line, Act, LineStage, line_turn, comes, reads, skips, skips_to_end}
 use Rattle.tds_service.specs.Service as calls
-use Rattle.tds_service.specs.Service.{Service, Call, Reply, Step, Back, Place, Leased, Cleaning, Kept, Free, Draining, Seat, find_by, change_by, has_lease, has_number, holds, is_idle, is_clean, drained, lease_in, lease_at, rests_clean, clean_place, rests_cleaned, step, service_after, does, nothing}
+use Rattle.tds_service.specs.Service.{Service, Call, Reply, ServiceStep, Back, Place, Leased, Cleaning, Kept, Free, Draining, Seat, find_by, change_by, has_lease, has_number, holds, is_idle, is_clean, drained, lease_in, lease_at, rests_clean, clean_place, rests_cleaned, step, service_after, does, nothing}
 use Rattle.tds_service.specs.History.{Done}
 use Rattle.tds_relay.specs.Pool as pool
 use Rattle.tds_relay.specs.Pool.{Pool, Way, find_lease, without_number, moves, cleaning, frees, Hearing, Goes, Settled, Wrong, hearing_of, settles, settles_of, comes_by}
@@ -25,7 +25,7 @@ use Rattle.tds_relay.proofs.promises.Caring.{Sound, sound_by, numbered, same_pha
 
 -- ---- The machine
 
-abbrev IsAwaiting : Stage → Type 0
+abbrev IsAwaiting : LineStage → Type 0
 IsAwaiting line.Idle = ⊥
 IsAwaiting (line.Sending begun) = ⊥
 IsAwaiting line.Reading = Unit {0}
@@ -33,7 +33,7 @@ IsAwaiting line.Cancelling = Unit {0}
 IsAwaiting (line.Broken fault) = ⊥
 
 -- What is heard where: a message goes on, and so does what is awaited; or it ended, and nothing is awaited.
-abbrev HeardAs : Stage → Hearing → Stage → Type 0
+abbrev HeardAs : LineStage → Hearing → LineStage → Type 0
 HeardAs old Goes new = IsAwaiting old × (new ≡ old)
 HeardAs old Settled new = IsAwaiting old × (new ≡ line.Idle)
 HeardAs old Wrong new = Unit {0}
@@ -56,7 +56,7 @@ skips_as l ends until (Err fault) = tt
 skips_as l false until (Ok heard) = (tt, refl)
 skips_as l true until (Ok heard) = skips_end_as l heard heard.done
 
-heard_as : (l : Line) (part : Part Token) (stage : Stage) → HeardAs stage (hearing_of (comes l part stage).answer) (comes l part stage).line.stage
+heard_as : (l : Line) (part : Part Token) (stage : LineStage) → HeardAs stage (hearing_of (comes l part stage).answer) (comes l part stage).line.stage
 heard_as l part line.Idle = tt
 heard_as l part (line.Sending begun) = tt
 heard_as l part line.Reading = reads_as l part (is_end part.close) (heard_until false l.heard part.items) (hear_part false l.heard part)
@@ -184,28 +184,28 @@ heard_seats : (d : Pool) (n : ℕ) (part : Part Token) (c : Seat) → find_by (h
       max = d.service.max;
       last = d.service.last;
       given = d.service.given;
-      seats = change_by (has_number n) (Some (drained c.place (turn c.line (line.Come part)).line.stage)) (turn c.line (line.Come part)).line d.service.seats;
+      seats = change_by (has_number n) (Some (drained c.place (line_turn c.line (line.Come part)).line.stage)) (line_turn c.line (line.Come part)).line d.service.seats;
     }
 heard_seats d n part c e = rw e refl
 
 comes_found : (d : Pool) (n : ℕ) (part : Part Token) (way : Way) (c : Seat) (h : Hearing) → Sound d → find_by (has_number n) d.service.seats ≡ Some c
-    → HeardAs c.line.stage h (turn c.line (line.Come part)).line.stage
+    → HeardAs c.line.stage h (line_turn c.line (line.Come part)).line.stage
     → Sound (comes_by d (calls.Came n part) (step d.service (calls.Came n part)).service n way (lease_in c.place) h).pool
 comes_found d n part way c Goes sound e fits =
-    let l = (turn c.line (line.Come part)).line in
+    let l = (line_turn c.line (line.Come part)).line in
     let seats = ap (λ (x : Service). x.seats) (heard_seats d n part c e) in
     sound_by d d.holds d.line (calls.Came n part ∷ []) sound sound.rising
     (subst (λ (cs : List Seat). Each (CaresFor d.holds) cs) (sym seats)
     (each_changed (CaresFor d.holds) (CaresFor d.holds) (has_number n) (Some (drained c.place l.stage)) l c d.service.seats e sound.tidy.distinct sound.cared (λ x hx other. hx)
     (goes_cared d.holds c.number c.place c.line l (each_found (CaresFor d.holds) (has_number n) c d.service.seats sound.cared e) fits.0 fits.1)))
 comes_found d n part way c Settled sound e fits =
-    let l = (turn c.line (line.Come part)).line in
+    let l = (line_turn c.line (line.Come part)).line in
     let s = (step d.service (calls.Came n part)).service in
     sound_by d d.holds d.line (calls.Came n part ∷ settles d.holds s n way (lease_in c.place)) sound sound.rising
     (settles_cares d n way c l c.place refl sound e (each_found (CaresFor d.holds) (has_number n) c d.service.seats sound.cared e) fits.0 fits.1 s (heard_seats d n part c e)
     (step_rises d.service (calls.Came n part) sound.tidy).tidy)
 comes_found d n part way c Wrong sound e fits =
-    let l = (turn c.line (line.Come part)).line in
+    let l = (line_turn c.line (line.Come part)).line in
     let s = (step d.service (calls.Came n part)).service in
     let one : (c.number == n) ≡ true = found_meets (has_number n) c d.service.seats e in
     let seats = ap (λ (x : Service). x.seats) (heard_seats d n part c e) in
@@ -216,26 +216,26 @@ comes_found d n part way c Wrong sound e fits =
     (lost_leaves s n any (CaresFor d.holds) (CaresFor (without_number n d.holds)) (step_rises d.service (calls.Came n part) sound.tidy).tidy.distinct phase
     (λ x other hx. numbered d.holds n x.number x.place x.line other hx))
 
-sound_broken : (n : ℕ) (dones : List (Done Token)) (t : pool.Turn) → Sound t.pool → Sound (pool.with_broken n dones t).pool
+sound_broken : (n : ℕ) (dones : List (Done Token)) (t : pool.PoolTurn) → Sound t.pool → Sound (pool.with_broken n dones t).pool
 sound_broken n dones t sound = record { tidy = sound.tidy; rising = sound.rising; cared = sound.cared }
 
-comes_by_found : (d : Pool) (n : ℕ) (part : Part Token) (way : Way) (o : Option Seat) → find_by (has_number n) d.service.seats ≡ o → Sound d → Sound (pool.comes d n part way).pool
+comes_by_found : (d : Pool) (n : ℕ) (part : Part Token) (way : Way) (o : Option Seat) → find_by (has_number n) d.service.seats ≡ o → Sound d → Sound (pool.packet_comes d n part way).pool
 comes_by_found d n part way None e sound =
     let same : (step d.service (calls.Came n part)).service ≡ d.service = rw e refl in
-    let goes : pool.comes d n part way ≡ moves d d.holds d.line (calls.Came n part ∷ []) = rw e refl in
-    subst (λ (t : pool.Turn). Sound t.pool) (sym goes)
+    let goes : pool.packet_comes d n part way ≡ moves d d.holds d.line (calls.Came n part ∷ []) = rw e refl in
+    subst (λ (t : pool.PoolTurn). Sound t.pool) (sym goes)
     (sound_by d d.holds d.line (calls.Came n part ∷ []) sound sound.rising (subst (λ (x : Service). Each (CaresFor d.holds) x.seats) (sym same) sound.cared))
 comes_by_found d n part way (Some c) e sound =
     let call = calls.Came n part in
     let s = (step d.service call).service in
-    let a = (turn c.line (line.Come part)).answer in
+    let a = (line_turn c.line (line.Come part)).answer in
     let lease : lease_at (find_by (has_number n) d.service.seats) ≡ lease_in c.place = ap lease_at e in
     let heard : pool.hearing (step d.service call).dones ≡ hearing_of a = rw e refl in
     let dones = (step d.service call).dones in
-    let goes : pool.comes d n part way ≡ pool.with_broken n dones (comes_by d call s n way (lease_in c.place) (hearing_of a)) =
+    let goes : pool.packet_comes d n part way ≡ pool.with_broken n dones (comes_by d call s n way (lease_in c.place) (hearing_of a)) =
     ap (λ (l : Option ℕ). pool.with_broken n dones (comes_by d call s n way l (pool.hearing dones))) lease
     ∙ ap (λ (h : Hearing). pool.with_broken n dones (comes_by d call s n way (lease_in c.place) h)) heard in
-    subst (λ (t : pool.Turn). Sound t.pool) (sym goes) (sound_broken n dones (comes_by d call s n way (lease_in c.place) (hearing_of a)) (comes_found d n part way c (hearing_of a) sound e (heard_as c.line part c.line.stage)))
+    subst (λ (t : pool.PoolTurn). Sound t.pool) (sym goes) (sound_broken n dones (comes_by d call s n way (lease_in c.place) (hearing_of a)) (comes_found d n part way c (hearing_of a) sound e (heard_as c.line part c.line.stage)))
 
-pub comes_sound : (d : Pool) (n : ℕ) (part : Part Token) (way : Way) → Sound d → Sound (pool.comes d n part way).pool
+pub comes_sound : (d : Pool) (n : ℕ) (part : Part Token) (way : Way) → Sound d → Sound (pool.packet_comes d n part way).pool
 comes_sound d n part way sound = comes_by_found d n part way (find_by (has_number n) d.service.seats) refl sound

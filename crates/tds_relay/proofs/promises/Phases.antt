@@ -6,11 +6,11 @@ use Rattle.tds_wire.specs.declared.told.Token.{Token}
 use Rattle.tds_packet.specs.declared.status.Reset.TheVariants.{Full}
 use Rattle.tds_relay.specs.declared.pool.Hold.{Hold}
 use Rattle.tds_service.specs.Line as line
-use Rattle.tds_service.specs.Line.{Line, Act, Stage, turn, sends, marks, asks, cancels}
+use Rattle.tds_service.specs.Line.{Line, Act, LineStage, line_turn, sends, marks, asks, cancels}
 use Rattle.tds_service.specs.History.{line_after}
 use Rattle.tds_service.specs.Refusing.{packets, refusal_in}
 use Rattle.tds_service.specs.Service as calls
-use Rattle.tds_service.specs.Service.{Service, Call, Reply, Step, Place, Leased, Cleaning, Kept, Free, Draining, Seat, find_by, change_by, has_lease, has_ticket, has_number, holds, is_lendable, is_free, is_idle, step, service_after, does, nothing}
+use Rattle.tds_service.specs.Service.{Service, Call, Reply, ServiceStep, Place, Leased, Cleaning, Kept, Free, Draining, Seat, find_by, change_by, has_lease, has_ticket, has_number, holds, is_lendable, is_free, is_idle, step, service_after, does, nothing}
 use Rattle.tds_relay.specs.Pool.{Way, Sent, NotLent, NotAsked, NotPut, NotEnded, cleaning, find_lease}
 use Rattle.tds_relay.specs.Promises.{Each, CaresFor, IsCaredFor}
 use Rattle.tds_relay.proofs.promises.Seats.{Distinct, Fits, each_weaker, each_found, each_changed, each_fails, found_meets}
@@ -149,12 +149,12 @@ found_its held lease n X c cs h e =
     (λ o. none_left held lease c (found_meets (has_lease lease) c cs e) o) (λ is x. (is, x))
 
 -- Acts that the connection takes.
-acts_taken : (s : Service) (test : Seat → Bool) (first : Act Token) (all : List (Act Token)) (c : Seat) → refusal_in (turn c.line first).answer ≡ None
+acts_taken : (s : Service) (test : Seat → Bool) (first : Act Token) (all : List (Act Token)) (c : Seat) → refusal_in (line_turn c.line first).answer ≡ None
     → (calls.acts s test first all (Some c)).service ≡ (does s s.given test c (Some c.place) all calls.Did).service
 acts_taken s test first all c e = rw e refl
 
 acts_by : (held : List Hold) (s : Service) (lease n : ℕ) (X Y : Seat → Type 0) (first : Act Token) (all : List (Act Token)) (o : Option Seat) → find_by (has_lease lease) s.seats ≡ o → Tidy s
-    → Each (Phase n X (Other held lease)) s.seats → ((x : Seat) → X x → has_lease lease x ≡ true) → ((c : Seat) → X c → refusal_in (turn c.line first).answer ≡ None)
+    → Each (Phase n X (Other held lease)) s.seats → ((x : Seat) → X x → has_lease lease x ≡ true) → ((c : Seat) → X c → refusal_in (line_turn c.line first).answer ≡ None)
     → ((c : Seat) → X c → Y (record { number = c.number; place = c.place; line = line_after c.line all }))
     → Each (Phase n Y (Other held lease)) (calls.acts s (has_lease lease) first all o).service.seats
 acts_by held s lease n X Y first all None e tidy h has taken new =
@@ -165,26 +165,26 @@ acts_by held s lease n X Y first all (Some c) e tidy h has taken new =
     subst P (sym (acts_taken s (has_lease lease) first all c (taken c its.1)))
     (phase_changed n X Y (Other held lease) (has_lease lease) (Some c.place) (line_after c.line all) c s.seats tidy.distinct h e its.0 (new c its.1))
 
-asked_taken : (l : Line) → l.stage ≡ line.Idle → refusal_in (turn {T = Token} l line.Ask).answer ≡ None
+asked_taken : (l : Line) → l.stage ≡ line.Idle → refusal_in (line_turn {T = Token} l line.Ask).answer ≡ None
 asked_taken l e = rw e refl
 
 asked_sends : (l : Line) → l.stage ≡ line.Idle → (line_after {T = Token} l (line.Ask ∷ [])).stage ≡ line.Sending false
 asked_sends l e = rw e refl
 
-sent_taken : (l : Line) (last begun : Bool) → l.stage ≡ line.Sending begun → refusal_in (turn {T = Token} l (line.Send last)).answer ≡ None
+sent_taken : (l : Line) (last begun : Bool) → l.stage ≡ line.Sending begun → refusal_in (line_turn {T = Token} l (line.Send last)).answer ≡ None
 sent_taken l last begun e = rw e refl
 
 sent_goes : (l : Line) (begun : Bool) (count : ℕ) → l.stage ≡ line.Sending begun → (b : Bool) × ((line_after {T = Token} l (packets count)).stage ≡ line.Sending b)
 sent_goes l begun zero e = (begun, e)
 sent_goes l begun (suc count) e =
-    let one : (turn {T = Token} l (line.Send false)).line.stage ≡ line.Sending true = rw e refl in
-    sent_goes (turn {T = Token} l (line.Send false)).line true count one
+    let one : (line_turn {T = Token} l (line.Send false)).line.stage ≡ line.Sending true = rw e refl in
+    sent_goes (line_turn {T = Token} l (line.Send false)).line true count one
 
 ended_reads : (l : Line) (begun : Bool) (count : ℕ) → l.stage ≡ line.Sending begun → (line_after {T = Token} l (packets count ++ line.Send true ∷ [])).stage ≡ line.Reading
 ended_reads l begun zero e = rw e refl
 ended_reads l begun (suc count) e =
-    let one : (turn {T = Token} l (line.Send false)).line.stage ≡ line.Sending true = rw e refl in
-    ended_reads (turn {T = Token} l (line.Send false)).line true count one
+    let one : (line_turn {T = Token} l (line.Send false)).line.stage ≡ line.Sending true = rw e refl in
+    ended_reads (line_turn {T = Token} l (line.Send false)).line true count one
 
 -- The calls of a cleaning, one behind the other.
 abbrev Stands : List Hold → ℕ → ℕ → (Seat → Type 0) → Service → Type 0

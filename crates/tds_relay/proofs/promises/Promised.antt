@@ -6,7 +6,7 @@ use Rattle.tds_client.specs.declared.fault.ClientRefusal.{ClientRefusal}
 use Rattle.tds_wire.specs.declared.told.Token.{Token}
 use Rattle.tds_relay.specs.declared.pool.Hold.{Hold}
 use Rattle.tds_service.specs.Line as line
-use Rattle.tds_service.specs.Line.{Line, Stage, turn as turning}
+use Rattle.tds_service.specs.Line.{Line, LineStage, line_turn}
 use Rattle.tds_service.specs.History.{history, line_after}
 use Rattle.tds_service.specs.Refusing.{refusal_in}
 use Rattle.tds_service.specs.Service as calls
@@ -94,7 +94,7 @@ serves_quiet d [] = tt
 serves_quiet d (key ∷ others) = serves_by_quiet d key others (lent_in (step {T = Token} d.service calls.Lease).reply)
 
 -- where one is cancelled, and an attention goes out, something of a request is out
-out_by : (c : Seat) (stage : Stage) → c.line.stage ≡ stage → 0 < attentions (history {T = Token} c.line (line.Cancel ∷ [])) → IsOut stage
+out_by : (c : Seat) (stage : LineStage) → c.line.stage ≡ stage → 0 < attentions (history {T = Token} c.line (line.Cancel ∷ [])) → IsOut stage
 out_by c line.Idle e lt = never (attentions (history {T = Token} c.line (line.Cancel ∷ []))) (rw e refl) lt
 out_by c (line.Sending false) e lt = never (attentions (history {T = Token} c.line (line.Cancel ∷ []))) (rw e refl) lt
 out_by c (line.Sending true) e lt = tt
@@ -128,7 +128,7 @@ stops_out : (d : Pool) (key n : ℕ) (h : Hold) (o : Option Seat) → Sound d �
     → Cancels d key n
 stops_out d key n h None sound its e number lt = never 0 refl lt
 stops_out d key n h (Some c) sound its e number lt =
-    let out = unless_out d.service (has_lease h.lease) c n (refusal_in (turning {T = Token} c.line line.Cancel).answer) number lt in
+    let out = unless_out d.service (has_lease h.lease) c n (refusal_in (line_turn {T = Token} c.line line.Cancel).answer) number lt in
     cancels_there d key n h c sound its e out.0 out.1
 
 gives_out : (d : Pool) (key n : ℕ) (h : Hold) (o : Option Seat) → Sound d → find_key key d.holds ≡ Some h → find_by (has_lease h.lease) d.service.seats ≡ o
@@ -146,7 +146,7 @@ does_astray d key n h pool.Stops sound its lt =
     let one = first_alone n d.service (calls.Cancel h.lease) [] (λ t. refl) lt in
     (tt, stops_out d key n h (find_by (has_lease h.lease) d.service.seats) sound its refl one.0 one.1)
 
-does_none : (d : Pool) (key n : ℕ) (action : Action) (o : Option Hold) → find_key key d.holds ≡ o → Sound d → 0 < attentions (on n (steps d.service (pool.does d action o).calls)) → IsStop action × Cancels d key n
+does_none : (d : Pool) (key n : ℕ) (action : Action) (o : Option Hold) → find_key key d.holds ≡ o → Sound d → 0 < attentions (on n (steps d.service (pool.holder_does d action o).calls)) → IsStop action × Cancels d key n
 does_none d key n action None e sound lt = never 0 refl lt
 does_none d key n action (Some h) e sound lt = does_astray d key n h action sound e lt
 
@@ -207,7 +207,7 @@ none_astray d (pool.Renews key resumes) sound n lt =
 none_astray d (pool.Comes number part way) sound n lt =
     let heard = step d.service (calls.Came number part) in
     never (attentions_on d (pool.Comes number part way) n)
-    (all_quiet n d.service (pool.comes d number part way).calls
+    (all_quiet n d.service (pool.packet_comes d number part way).calls
     (comes_quiet d (calls.Came number part) heard.service number way (lease_at (seat_numbered number d.service.seats)) (pool.hearing heard.dones) tt)) lt
 none_astray d (pool.Loses number) sound n lt = never (attentions_on d (pool.Loses number) n) (all_quiet n d.service (calls.Lost number ∷ []) (tt, tt)) lt
 

@@ -6,12 +6,12 @@ use Rattle.tds_wire.specs.declared.told.Token.{Token}
 use Rattle.tds_packet.specs.declared.status.Reset.TheVariants.{KeepTransaction}
 use Rattle.tds_relay.specs.declared.pool.Hold.{Hold}
 use Rattle.tds_service.specs.Line as line
-use Rattle.tds_service.specs.Line.{Line, Stage, cancels, new_line}
+use Rattle.tds_service.specs.Line.{Line, LineStage, cancels, new_line}
 use Rattle.tds_service.specs.History.{line_after}
 use Rattle.tds_service.specs.Service as calls
 use Rattle.tds_service.specs.Service.{Service, Call, Reply, Place, Leased, Cleaning, Kept, Free, Draining, Seat, find_by, change_by, has_lease, has_ticket, has_number, is_lendable, is_idle, is_free, is_open, may_keep, rests, step, service_after, does, nothing}
 use Rattle.tds_relay.specs.Pool as pool
-use Rattle.tds_relay.specs.Pool.{Pool, Way, Turn, find_key, find_lease, without_lease, without_number, holding, moves, cleaning, releasing, frees, lent_in, ticket_in, renews_by, keeps_by, brings_by}
+use Rattle.tds_relay.specs.Pool.{Pool, Way, PoolTurn, find_key, find_lease, without_lease, without_number, holding, moves, cleaning, releasing, frees, lent_in, ticket_in, renews_by, keeps_by, brings_by}
 use Rattle.tds_relay.specs.Promises.{Each, CaresFor, IsCaredFor}
 use Rattle.tds_relay.proofs.promises.Seats.{each_found, each_changed, found_meets}
 use Rattle.tds_relay.proofs.promises.Tidy.{Tidy, WithinIn, step_rises, all_rise}
@@ -50,7 +50,7 @@ and_first : (a b : Bool) → (a && b) ≡ true → a ≡ true
 and_first true b e = refl
 and_first false b e = absurd (let u : ⊥ = cc in u)
 
-pub idle_is : (stage : Stage) → is_idle stage ≡ true → stage ≡ line.Idle
+pub idle_is : (stage : LineStage) → is_idle stage ≡ true → stage ≡ line.Idle
 idle_is line.Idle e = refl
 idle_is (line.Sending begun) e = absurd (let u : ⊥ = cc in u)
 idle_is line.Reading e = absurd (let u : ⊥ = cc in u)
@@ -86,13 +86,13 @@ resumes_found d h c2 true sound held s is tidy le phase e closed =
     (λ o. not_kept d.holds s.given c2.number c2.place c2.line o (found_meets (has_ticket s.given) c2 s.seats e)) (λ one x. (one, x)) in
     let idle : is_idle c2.line.stage ≡ true = rw both.1.idle refl in
     let done : step {T = Token} s (calls.Resume s.given) ≡ does {T = Token} s (suc s.given) (has_ticket s.given) c2 (Some (Leased (suc s.given))) (line.Mark KeepTransaction ∷ []) (calls.Lent (suc s.given) c2.number true) = rw (e, idle) refl in
-    let lent : lent_in (step {T = Token} s (calls.Resume s.given)).reply ≡ Some (record { lease = suc s.given; number = c2.number }) = ap (λ (t : calls.Step Token). lent_in t.reply) done in
+    let lent : lent_in (step {T = Token} s (calls.Resume s.given)).reply ≡ Some (record { lease = suc s.given; number = c2.number }) = ap (λ (t : calls.ServiceStep Token). lent_in t.reply) done in
     let all : List (Call Token) = calls.Keep h.lease ∷ calls.Resume s.given ∷ [] in
     let less = without_lease h.lease d.holds in
     let more = less ++ holding h.key (suc s.given) c2.number ∷ [] in
     let after : service_after d.service all ≡ (step {T = Token} s (calls.Resume s.given)).service = ap (λ (x : Service). (step {T = Token} x (calls.Resume s.given)).service) (sym is) in
     let end : service_after d.service all ≡ (does {T = Token} s (suc s.given) (has_ticket s.given) c2 (Some (Leased (suc s.given))) (line.Mark KeepTransaction ∷ []) (calls.Lent (suc s.given) c2.number true)).service =
-    after ∙ ap (λ (t : calls.Step Token). t.service) done in
+    after ∙ ap (λ (t : calls.ServiceStep Token). t.service) done in
     let given : (service_after d.service all).given ≡ suc s.given = ap (λ (x : Service). x.given) end in
     let rising : Rising 0 s.given less = rising_more 0 d.service.given s.given less le (rising_filtered (λ (x : Hold). not (x.lease == h.lease)) 0 d.service.given d.holds sound.rising) in
     let sound2 : Sound (moves d more d.line all).pool = record {
@@ -170,7 +170,7 @@ number_found d h loan s (Some c2) e phase is =
     (λ o. not_kept d.holds s.given c2.number c2.place c2.line o (found_meets (has_ticket s.given) c2 s.seats e)) (λ one x. (one, x)) in
     let idle : is_idle c2.line.stage ≡ true = rw both.1.idle refl in
     let done : step {T = Token} s (calls.Resume s.given) ≡ does {T = Token} s (suc s.given) (has_ticket s.given) c2 (Some (Leased (suc s.given))) (line.Mark KeepTransaction ∷ []) (calls.Lent (suc s.given) c2.number true) = rw (e, idle) refl in
-    let lent : lent_in (step {T = Token} s (calls.Resume s.given)).reply ≡ Some (record { lease = suc s.given; number = c2.number }) = ap (λ (t : calls.Step Token). lent_in t.reply) done in
+    let lent : lent_in (step {T = Token} s (calls.Resume s.given)).reply ≡ Some (record { lease = suc s.given; number = c2.number }) = ap (λ (t : calls.ServiceStep Token). lent_in t.reply) done in
     lent_number loan _ (suc s.given) c2.number lent is ∙ eqb-true c2.number h.number both.0
 
 number_kept : (d : Pool) (h : Hold) (c : Seat) (ticket : ℕ) (loan : pool.Loan) (may : Bool) → may_keep c ≡ may → Sound d → find_lease h.lease d.holds ≡ Some h → find_by (has_lease h.lease) d.service.seats ≡ Some c

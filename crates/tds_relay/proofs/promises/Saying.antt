@@ -128,7 +128,7 @@ once true lt = (refl, refl)
 once false lt = absurd (let u : ⊥ = omega arith in u)
 
 does_once : (d : Pool) (key other : ℕ) (action : Action) (h : Hold) (o : Option Hold) → Sound d → find_key key d.holds ≡ Some h → find_key other d.holds ≡ o
-    → 0 < said_by h.lease (pool.does d action o).calls → (does : Action) × (pool.Does other action ≡ pool.Does key does) × (said_by h.lease (pool.does d action o).calls ≡ 1)
+    → 0 < said_by h.lease (pool.holder_does d action o).calls → (does : Action) × (pool.Does other action ≡ pool.Does key does) × (said_by h.lease (pool.holder_does d action o).calls ≡ 1)
 does_once d key other action h None sound e f lt = never 0 refl lt
 does_once d key other pool.Asks h (Some x) sound e f lt =
     let one = once (x.lease == h.lease) lt in

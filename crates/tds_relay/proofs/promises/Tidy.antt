@@ -6,11 +6,11 @@ use Rattle.tds_wire.specs.declared.told.Token.{Token}
 use Rattle.tds_service.specs.Parts.{Part}
 use Rattle.tds_packet.specs.declared.status.Reset.TheVariants.{Full, KeepTransaction}
 use Rattle.tds_service.specs.Line as line
-use Rattle.tds_service.specs.Line.{Line, Act, Stage, new_line}
+use Rattle.tds_service.specs.Line.{Line, Act, LineStage, new_line}
 use Rattle.tds_service.specs.History.{line_after}
 use Rattle.tds_service.specs.Refusing.{packets, refusal_in}
 use Rattle.tds_service.specs.Service as calls
-use Rattle.tds_service.specs.Service.{Service, Call, Reply, Step, AllInUse, Place, Leased, Cleaning, Kept, Free, Draining, Seat, find_by, change_by, has_lease, has_ticket, has_number, holds, is_lendable, is_idle, may_keep, clean_place, drained, is_clean, rests_clean, rests_cleaned, does, nothing, acts_unless, opens, step, service_after, rests}
+use Rattle.tds_service.specs.Service.{Service, Call, Reply, ServiceStep, AllInUse, Place, Leased, Cleaning, Kept, Free, Draining, Seat, find_by, change_by, has_lease, has_ticket, has_number, holds, is_lendable, is_idle, may_keep, clean_place, drained, is_clean, rests_clean, rests_cleaned, does, nothing, acts_unless, opens, step, service_after, rests}
 use Rattle.tds_relay.specs.Promises.{Each}
 use Rattle.tds_relay.proofs.promises.Seats.{Distinct, Fits, each_weaker, each_added, each_found, each_changed, distinct_changed, distinct_added}
 
@@ -99,9 +99,9 @@ unless_rises s test c all (Some why) tidy e = nothing_rises s tidy
 acts_rises : {T : Type 0} (s : Service) (test : Seat → Bool) (first : Act T) (all : List (Act T)) (o : Option Seat) → find_by test s.seats ≡ o → Tidy s
     → Rises s (calls.acts s test first all o).service
 acts_rises s test first all None e tidy = nothing_rises s tidy
-acts_rises s test first all (Some c) e tidy = unless_rises s test c all (refusal_in (line.turn c.line first).answer) tidy e
+acts_rises s test first all (Some c) e tidy = unless_rises s test c all (refusal_in (line.line_turn c.line first).answer) tidy e
 
-rests_within : (given : ℕ) (stage : Stage) → PlacedWithin given (rests stage)
+rests_within : (given : ℕ) (stage : LineStage) → PlacedWithin given (rests stage)
 rests_within given line.Idle = tt
 rests_within given (line.Sending begun) = tt
 rests_within given line.Reading = tt
@@ -112,7 +112,7 @@ drains_within : (given : ℕ) (b : Bool) → WithinAt given (if b then Free else
 drains_within given true = tt
 drains_within given false = tt
 
-drained_within : (given : ℕ) (place : Place) (stage : Stage) → WithinAt given place → WithinAt given (drained place stage)
+drained_within : (given : ℕ) (place : Place) (stage : LineStage) → WithinAt given place → WithinAt given (drained place stage)
 drained_within given (Leased lease) stage h = h
 drained_within given (Cleaning lease) stage h = h
 drained_within given (Kept ticket) stage h = h
@@ -155,7 +155,7 @@ abbrev AllPlaced : ℕ → Option (Option Place) → Type 0
 AllPlaced given None = Unit {0}
 AllPlaced given (Some place) = PlacedWithin given place
 
-rests_clean_within : (given : ℕ) (clean : Bool) (stage : Stage) → AllPlaced given (rests_clean clean stage)
+rests_clean_within : (given : ℕ) (clean : Bool) (stage : LineStage) → AllPlaced given (rests_clean clean stage)
 rests_clean_within given clean line.Idle = clean_if given clean
 rests_clean_within given clean (line.Sending begun) = tt
 rests_clean_within given clean line.Reading = tt

@@ -10,7 +10,7 @@ use Rattle.tds_service.specs.Line.{Line, Act}
 use Rattle.tds_service.specs.History.{line_after}
 use Rattle.tds_service.specs.Refusing.{packets, refusal_in}
 use Rattle.tds_service.specs.Service as calls
-use Rattle.tds_service.specs.Service.{Service, Call, Reply, Step, Place, Leased, Cleaning, Kept, Seat, find_by, change_by, has_lease, has_ticket, has_number, is_lendable, is_idle, may_keep, clean_place, drained, rests, rests_cleaned, does, nothing, acts_unless, seat_numbered, step, service_after}
+use Rattle.tds_service.specs.Service.{Service, Call, Reply, ServiceStep, Place, Leased, Cleaning, Kept, Seat, find_by, change_by, has_lease, has_ticket, has_number, is_lendable, is_idle, may_keep, clean_place, drained, rests, rests_cleaned, does, nothing, acts_unless, seat_numbered, step, service_after}
 use Rattle.tds_service.proofs.Numbered.{change_other, change_out}
 use Rattle.tds_relay.specs.Pool as pool
 use Rattle.tds_relay.specs.Pool.{Way, cleaning}
@@ -66,7 +66,7 @@ module _ (s : Service) (n : ℕ) where
   pub does_same : (given : ℕ) (test : Seat → Bool) (c : Seat) (place : Place) (all : List (Act Token)) (reply : Reply) → Same (does s given test c (Some place) all reply).service
   does_same given test c place all reply = changed test n place (line_after c.line all) s.seats
 
-  if_same : (b : Bool) (t u : Step Token) → Same t.service → Same u.service → Same (if b then t else u).service
+  if_same : (b : Bool) (t u : ServiceStep Token) → Same t.service → Same u.service → Same (if b then t else u).service
   if_same true t u h k = h
   if_same false t u h k = k
 
@@ -76,7 +76,7 @@ module _ (s : Service) (n : ℕ) where
 
   acts_same : (test : Seat → Bool) (first : Act Token) (all : List (Act Token)) (o : Option Seat) → Same (calls.acts s test first all o).service
   acts_same test first all None = refl
-  acts_same test first all (Some c) = unless_same test c all (refusal_in (line.turn c.line first).answer)
+  acts_same test first all (Some c) = unless_same test c all (refusal_in (line.line_turn c.line first).answer)
 
   resumes_same : (test : Seat → Bool) (o : Option Seat) → Same (calls.resumes {T = Token} s test o).service
   resumes_same test None = refl

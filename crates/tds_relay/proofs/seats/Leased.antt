@@ -9,7 +9,7 @@ use Rattle.tds_service.specs.Index.{holder_in, holder_of, holders_in, number_hel
 use Rattle.tds_service.specs.Line as line
 use Rattle.tds_service.specs.Line.{new_line}
 use Rattle.tds_service.specs.Service as calls
-use Rattle.tds_service.specs.Service.{Service, Step, Place, Leased, Cleaning, Kept, Free, Draining, Seat, drained, find_by, has_lease, has_number, holds, is_lendable, lease_at, lease_in, seat_numbered, step}
+use Rattle.tds_service.specs.Service.{Service, ServiceStep, Place, Leased, Cleaning, Kept, Free, Draining, Seat, drained, find_by, has_lease, has_number, holds, is_lendable, lease_at, lease_in, seat_numbered, step}
 use Rattle.tds_service.specs.Table.{seat_in, seats_in, service_in}
 use Rattle.tds_service.proofs.Indexing.{lease_id}
 use Rattle.tds_service.proofs.Numbered.{added_here, added_other, is_found}
@@ -40,7 +40,7 @@ numbered_none last (c ∷ cs) h =
     rw ne (numbered_none last cs h.1)
 
 module _ (s : Service) (tidy : Tidy s) where
-  abbrev Lent : Step Token → Type 0
+  abbrev Lent : ServiceStep Token → Type 0
   Lent t = (lease number : ℕ) (had : Bool) → t.reply ≡ calls.Lent lease number had → Lends had number s t.service
 
   opened_lends : (room : Bool) → Lent (calls.opens {T = Token} s room)
@@ -107,7 +107,7 @@ lent_on s new lease number had tidy next is reply =
 
 -- ---- Of which a packet came
 
-pub lease_drained : (place : Place) (stage : line.Stage) (lease : ℕ) → lease_in place ≡ Some lease → holds lease (drained place stage) ≡ true
+pub lease_drained : (place : Place) (stage : line.LineStage) (lease : ℕ) → lease_in place ≡ Some lease → holds lease (drained place stage) ≡ true
 lease_drained (Leased other) stage lease e = let same : other ≡ lease = cc in subst (λ (k : ℕ). (k == lease) ≡ true) (sym same) (let t : (lease == lease) ≡ true = grind arith in t)
 lease_drained (Cleaning other) stage lease e = let same : other ≡ lease = cc in subst (λ (k : ℕ). (k == lease) ≡ true) (sym same) (let t : (lease == lease) ≡ true = grind arith in t)
 lease_drained (Kept ticket) stage lease e = absurd (let u : ⊥ = cc in u)

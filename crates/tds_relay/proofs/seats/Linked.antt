@@ -4,7 +4,7 @@ use Rattle.std.proofs.lemmas.Bool.{cases_eq, eq-eqb}
 use Rattle.tds_relay.specs.declared.link.Link.{Link}
 use Rattle.tds_relay.specs.Pool.{Pool}
 use Rattle.tds_relay.specs.Lent.{AllLast}
-use Rattle.tds_relay.specs.Reads.{Stays, bytes_on, link_at, reader_at, reader_of, waits_on}
+use Rattle.tds_relay.specs.Reads.{LinksStay, bytes_on, link_at, reader_at, reader_of, waits_on}
 use Rattle.tds_relay.specs.Few.{AreSeated, AreSeatedBut, AreSeatedOff, has_seat}
 use Rattle.tds_relay.specs.Sending.{sending_at, sending_of}
 use Rattle.tds_relay.specs.Told.{is_there}
@@ -41,7 +41,7 @@ some_by None (Some x) h k = absurd (let u : None ≡ Some x = sym (k refl) in le
 some_by (Some y) None h k = absurd (let u : None ≡ Some y = sym (h refl) in let v : ⊥ = cc in v)
 some_by (Some y) (Some x) h k = refl
 
-pub lasting_there : (a b : List Link) → AllLast a b → Stays a b → SameThere a b
+pub lasting_there : (a b : List Link) → AllLast a b → LinksStay a b → SameThere a b
 lasting_there a b last stays = λ number.
     there_waits number b ∙ some_by (waits_on number a) (waits_on number b) (last number) (none_stays a b stays number) ∙ sym (there_waits number a)
 

@@ -10,7 +10,7 @@ use Rattle.tds_relay.specs.declared.link.Link.{Link}
 use Rattle.tds_relay.specs.Pool as pool
 use Rattle.tds_relay.specs.Pool.{Action, Pool, Event, pool_after, find_key, lent_in, new_pool, turn}
 use Rattle.tds_relay.specs.Few.{AreSeated, AreSeatedBut, AreSeatedOff, KeepsSeats, SeatIs, SeatStays, has_seat}
-use Rattle.tds_relay.specs.Ties.{GoesOn, IsReached, IsServed, Neither, Serving, Turns}
+use Rattle.tds_relay.specs.Ties.{LedOn, IsReached, IsServed, Neither, Serving, Turns}
 use Rattle.tds_relay.proofs.seats.Counting.{Keeps, all_same, lost_stays, step_same}
 use Rattle.tds_relay.proofs.bytes.Walking.{led_tidy}
 use Rattle.tds_relay.specs.TokenParsers.{IsLed}
@@ -32,7 +32,7 @@ turned event d e before after t r = (
   after_both (new_pool r.0) r.1 (event ∷ []) ∙ ap (λ (x : Pool). (turn x event).pool) r.2 ∙ sym t.pool_is,
 )
 
-pub gone_on : (d e : Pool) → GoesOn d e → IsReached d → IsReached e
+pub gone_on : (d e : Pool) → LedOn d e → IsReached d → IsReached e
 gone_on d e g r = reached_on Neither d e (g Neither) r
 
 -- ---- With the relay's
@@ -57,7 +57,7 @@ action_call lease (pool.Puts count) = tt
 action_call lease (pool.Ends count) = tt
 action_call lease pool.Stops = tt
 
-does_keep : (d : Pool) (action : Action) (o : Option Hold) → KeepsSeats d.service (pool.does d action o).pool.service
+does_keep : (d : Pool) (action : Action) (o : Option Hold) → KeepsSeats d.service (pool.holder_does d action o).pool.service
 does_keep d action None = λ n. refl
 does_keep d action (Some h) = λ n. step_same d.service n (pool.call_of h.lease action) (action_call h.lease action)
 

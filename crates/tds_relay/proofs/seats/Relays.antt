@@ -15,7 +15,7 @@ use Rattle.tds_relay.specs.declared.relay.Relay as code
 use Rattle.tds_relay.specs.Pool as pool
 use Rattle.tds_relay.specs.Pool.{Pool, Sharing, Way, new_pool}
 use Rattle.tds_relay.specs.Lent.{AllLast}
-use Rattle.tds_relay.specs.Reads.{Stays, reader_at, waits_on}
+use Rattle.tds_relay.specs.Reads.{LinksStay, reader_at, waits_on}
 use Rattle.tds_relay.specs.Few.{AreSeated, AreSeatedBut, AreSeatedOff, BringsSeat, HearsSeat, IsSeated, IsSeatedBehind, IsSeatedBut, IsSeatedIf, IsSeatedOff, KeepsSeats, LeavesSeat, RenewsSeat, SeatIs, SeatStays, has_seat, is_left}
 use Rattle.tds_relay.specs.Told.{is_there}
 use Rattle.tds_relay.specs.Ties.{IsReached, Serving, Turns, pool_in}
@@ -53,7 +53,7 @@ pool_seated d e ls same s = subst (λ (x : Pool). AreSeated x ls) (sym same) s
 pub pool_kept : (d : pools.Pool) (ls : List Link) (r : code.Relay) → r.pool ≡ d → r.links.items ≡ ls → AreSeated (pool_in d) ls → IsSeated r
 pool_kept d ls r same links s = at_pool d r.pool r.links.items same (subst (AreSeated (pool_in d)) (sym links) s)
 
-pub pool_lasting : (d : pools.Pool) (ls : List Link) (r : code.Relay) → r.pool ≡ d → AllLast ls r.links.items → Stays ls r.links.items → AreSeated (pool_in d) ls → IsSeated r
+pub pool_lasting : (d : pools.Pool) (ls : List Link) (r : code.Relay) → r.pool ≡ d → AllLast ls r.links.items → LinksStay ls r.links.items → AreSeated (pool_in d) ls → IsSeated r
 pool_lasting d ls r same last stays s = at_pool d r.pool r.links.items same (seated_as (pool_in d) ls r.links.items (lasting_there ls r.links.items last stays) s)
 
 pub pool_but : (number : ℕ) (d : pools.Pool) (ls : List Link) (r : code.Relay) → r.pool ≡ d → r.links.items ≡ ls → AreSeatedBut number false (pool_in d) ls → IsSeatedBut number false r
@@ -68,7 +68,7 @@ pub unwaited : (key : ℕ) (d : pools.Pool) (r : code.Relay) (ls : List Link) �
 unwaited key d r ls turns same links s = subst (AreSeated (pool_in r.pool)) (sym links) (serviced_seated (pool.Unwaits key) d r.pool ls [] [] turns same s)
 
 -- and each connection lasts
-pub lasting_seated : (a b : code.Relay) → b.pool ≡ a.pool → AllLast a.links.items b.links.items → Stays a.links.items b.links.items → IsSeated a → IsSeated b
+pub lasting_seated : (a b : code.Relay) → b.pool ≡ a.pool → AllLast a.links.items b.links.items → LinksStay a.links.items b.links.items → IsSeated a → IsSeated b
 lasting_seated a b same last stays s = kept_there a b same (lasting_there a.links.items b.links.items last stays) s
 
 -- ---- One is closed that the pool has no more
@@ -181,7 +181,7 @@ off_kept number a b same there s = subst (λ (x : pools.Pool). AreSeatedOff numb
 pub but_kept : (number : ℕ) (has : Bool) (a b : code.Relay) → b.pool ≡ a.pool → SameThere a.links.items b.links.items → IsSeatedBut number has a → IsSeatedBut number has b
 but_kept number has a b same there s = but_pool number has a.pool b.pool b.links.items same (but_as number has (pool_in a.pool) a.links.items b.links.items there s)
 
-pub but_lasting : (number : ℕ) (has : Bool) (a b : code.Relay) → b.pool ≡ a.pool → AllLast a.links.items b.links.items → Stays a.links.items b.links.items → IsSeatedBut number has a → IsSeatedBut number has b
+pub but_lasting : (number : ℕ) (has : Bool) (a b : code.Relay) → b.pool ≡ a.pool → AllLast a.links.items b.links.items → LinksStay a.links.items b.links.items → IsSeatedBut number has a → IsSeatedBut number has b
 but_lasting number has a b same last stays s = but_kept number has a b same (lasting_there a.links.items b.links.items last stays) s
 
 pub links_there : (a b : List Link) → b ≡ a → SameThere a b

@@ -7,7 +7,7 @@ use Rattle.tds_service.specs.Parts.{Part}
 use Rattle.tds_service.specs.Line as line
 use Rattle.tds_service.specs.History.{line_after}
 use Rattle.tds_service.specs.Service as calls
-use Rattle.tds_service.specs.Service.{Call, Seat, Service, Step, change_by, drained, find_by, has_lease, has_number, lease_at, lease_in, seat_numbered, step, service_after}
+use Rattle.tds_service.specs.Service.{Call, Seat, Service, ServiceStep, change_by, drained, find_by, has_lease, has_number, lease_at, lease_in, seat_numbered, step, service_after}
 use Rattle.tds_service.specs.Table.{StepsIn, rest_of, service_in}
 use Rattle.tds_service.proofs.Numbered.{change_here}
 use Rattle.tds_relay.specs.declared.pool.coming.What.{What}

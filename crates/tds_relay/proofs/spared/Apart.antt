@@ -10,8 +10,8 @@ use Rattle.tds_relay.specs.Apart.{Alone, AloneWho, LendsAfter, LendsInTurn, Lose
 use Rattle.tds_relay.specs.declared.pool.Hold.{Hold}
 use Rattle.tds_relay.specs.declared.pool.Served.{Served}
 use Rattle.tds_relay.specs.Pool as pool
-use Rattle.tds_relay.specs.Pool.{Pool, Action, does, find_key, leaves, lent_in, serves, serves_by, turn, without}
-use Rattle.tds_relay.specs.Core.{End, Ends, Core, change_end, change_whose, closes, end_at, holder, is_in}
+use Rattle.tds_relay.specs.Pool.{Pool, Action, holder_does, find_key, leaves, lent_in, serves, serves_by, turn, without}
+use Rattle.tds_relay.specs.Core.{End, EndList, Core, change_end, change_whose, closes, end_at, holder, is_in}
 use Rattle.tds_relay.specs.Ties.{IsServed, Serving, Turns}
 
 -- ---- One after the other
@@ -28,17 +28,17 @@ alone_on (Err e) key a b c k h = tt
 
 -- ---- What is done
 
-pub set_apart : (es : Ends) (key other : ℕ) (o : Option End) → other ≢ key → end_at (Rattle.std.specs.Prelude.slice_set es key o) other ≡ end_at es other
+pub set_apart : (es : EndList) (key other : ℕ) (o : Option End) → other ≢ key → end_at (Rattle.std.specs.Prelude.slice_set es key o) other ≡ end_at es other
 set_apart es key other o differs = get_or-set_other es key other o None differs
 
 pub alone_changed : (key : ℕ) (by : End → End) (old new : Core) → new.ends ≡ change_end key by old.ends → new.pool.line ≡ old.pool.line → Alone key old new
 alone_changed key by old new ends line = record {
-  ends = λ other differs. ap (λ (es : Ends). end_at es other) ends ∙ set_apart old.ends key other (option_map by (end_at old.ends key)) differs;
+  ends = λ other differs. ap (λ (es : EndList). end_at es other) ends ∙ set_apart old.ends key other (option_map by (end_at old.ends key)) differs;
   line = line;
 }
 
 pub alone_same : (key : ℕ) (old new : Core) → new.ends ≡ old.ends → new.pool.line ≡ old.pool.line → Alone key old new
-alone_same key old new ends line = record { ends = λ other differs. ap (λ (es : Ends). end_at es other) ends; line = line }
+alone_same key old new ends line = record { ends = λ other differs. ap (λ (es : EndList). end_at es other) ends; line = line }
 
 pub alone_whose : (key : ℕ) (who : Option ℕ) (old new : Core) → who ≡ Some key → new.ends ≡ change_whose who closes old.ends → new.pool.line ≡ old.pool.line → Alone key old new
 alone_whose key who old new is ends line = alone_changed key closes old new (ends ∙ ap (λ (o : Option ℕ). change_whose o closes old.ends) is) line
@@ -48,7 +48,7 @@ pub alone_lost : {A E : Type 0} (r : Result A E) (key number : ℕ) (old new : C
 alone_lost (Ok x) key number old new its ends line = alone_whose key (holder old.pool number) old new its ends line
 alone_lost (Err e) key number old new its ends line = tt
 
-line_by : (d : Pool) (action : Action) (o : Option Hold) → (does d action o).pool.line ≡ d.line
+line_by : (d : Pool) (action : Action) (o : Option Hold) → (holder_does d action o).pool.line ≡ d.line
 line_by d action None = refl
 line_by d action (Some hold) = refl
 
@@ -115,19 +115,19 @@ unserved_on a b m c o served before after h s is t ends alone = record {
       let x = h.was key e in
       let n = not_served key b.pool m.pool served before after (subst (Serving b.pool) is s) t x.0 in (
         ap (is_in key) alone.line ∙ n.waits_not,
-        alone.ends key n.other ∙ ap (λ (es : Ends). end_at es key) ends ∙ x.1,
+        alone.ends key n.other ∙ ap (λ (es : EndList). end_at es key) ends ∙ x.1,
       );
 }
 
 -- ---- One is lost
 
-whose_apart : (es : Ends) (who : Option ℕ) (key : ℕ) → who ≢ Some key → end_at (change_whose who closes es) key ≡ end_at es key
+whose_apart : (es : EndList) (who : Option ℕ) (key : ℕ) → who ≢ Some key → end_at (change_whose who closes es) key ≡ end_at es key
 whose_apart es None key differs = refl
 whose_apart es (Some k) key differs = set_apart es k key (option_map closes (end_at es k)) (λ same. differs (ap (λ (n : ℕ). Some n) (sym same)))
 
 pub loses_only : {A E : Type 0} (r : Result A E) (number : ℕ) (old mid new : Core) → mid.ends ≡ change_whose (holder old.pool number) closes old.ends → mid.pool.line ≡ old.pool.line → OnOk r (UnlessServed mid new) → OnOk r (LosesOnly number old new)
 loses_only (Ok x) number old mid new ends line served = λ key apart e.
-    served key (ap (is_in key) line ∙ e) ∙ ap (λ (es : Ends). end_at es key) ends ∙ whose_apart old.ends (holder old.pool number) key apart
+    served key (ap (is_in key) line ∙ e) ∙ ap (λ (es : EndList). end_at es key) ends ∙ whose_apart old.ends (holder old.pool number) key apart
 loses_only (Err e) number old mid new ends line served = tt
 
 -- ---- The first of them
@@ -144,7 +144,7 @@ pub lends_none : (h : Core) → LendsInTurn h.pool.line h.ends h
 lends_none h = record { lent = []; are = refl; apart = λ key e. refl }
 
 -- one more
-pub lends_on : (line : List ℕ) (ends : Ends) (b m c : Core) (o : Option Served) (served : Served) (before after : List ℕ) → LendsInTurn line ends b → Serving b.pool o → o ≡ Some served → Turns pool.Serves b.pool m.pool before after → m.ends ≡ b.ends
+pub lends_on : (line : List ℕ) (ends : EndList) (b m c : Core) (o : Option Served) (served : Served) (before after : List ℕ) → LendsInTurn line ends b → Serving b.pool o → o ≡ Some served → Turns pool.Serves b.pool m.pool before after → m.ends ≡ b.ends
     → Alone served.hold.key m c → LendsInTurn line ends c
 lends_on line ends b m c o served before after h s is t same alone =
     let k = served.hold.key in
@@ -154,7 +154,7 @@ lends_on line ends b m c o served before after h s is t same alone =
       lent = h.lent ++ k ∷ [];
       are = h.are ∙ ap (λ (ks : List ℕ). h.lent ++ ks) lent.1 ∙ sym (append_assoc h.lent (k ∷ []) lent.0) ∙ ap (λ (ks : List ℕ). (h.lent ++ k ∷ []) ++ ks) (sym left);
       apart = λ key e.
-          alone.ends key (differ k key (or_first (k == key) false (in_second key h.lent (k ∷ []) e))) ∙ ap (λ (es : Ends). end_at es key) same ∙ h.apart key (in_first key h.lent (k ∷ []) e);
+          alone.ends key (differ k key (or_first (k == key) false (in_second key h.lent (k ∷ []) e))) ∙ ap (λ (es : EndList). end_at es key) same ∙ h.apart key (in_first key h.lent (k ∷ []) e);
     }
 
 rests_line : (d : Pool) (ks : List ℕ) → IsServed ks d.service → (serves d ks).pool.line ≡ d.line
@@ -162,20 +162,20 @@ rests_line d [] s = refl
 rests_line d (k ∷ ks) s = ap (λ (r : calls.Reply). (serves_by d k ks (lent_in r)).pool.line) s
 
 -- where nobody is lent one
-pub lends_nobody : (line : List ℕ) (ends : Ends) (b c : Core) (o : Option Served) (before after : List ℕ) → LendsInTurn line ends b → Serving b.pool o → o ≡ None → Turns pool.Serves b.pool c.pool before after → c.ends ≡ b.ends → LendsInTurn line ends c
+pub lends_nobody : (line : List ℕ) (ends : EndList) (b c : Core) (o : Option Served) (before after : List ℕ) → LendsInTurn line ends b → Serving b.pool o → o ≡ None → Turns pool.Serves b.pool c.pool before after → c.ends ≡ b.ends → LendsInTurn line ends c
 lends_nobody line ends b c o before after h s is t same =
     let rests : c.pool.line ≡ b.pool.line = ap (λ (x : Pool). x.line) t.pool_is ∙ rests_line b.pool b.pool.line (subst (Serving b.pool) is s) in
     record {
       lent = h.lent;
       are = h.are ∙ ap (λ (ks : List ℕ). h.lent ++ ks) (sym rests);
-      apart = λ key e. ap (λ (es : Ends). end_at es key) same ∙ h.apart key e;
+      apart = λ key e. ap (λ (es : EndList). end_at es key) same ∙ h.apart key e;
     }
 
-pub lends_from : {A E : Type 0} (r : Result A E) (line line1 : List ℕ) (ends ends1 : Ends) (c : Core) → line1 ≡ line → ends1 ≡ ends → OnOk r (LendsInTurn line1 ends1 c) → OnOk r (LendsInTurn line ends c)
-lends_from r line line1 ends ends1 c lines same h = subst (λ (es : Ends). OnOk r (LendsInTurn line es c)) same (subst (λ (ks : List ℕ). OnOk r (LendsInTurn ks ends1 c)) lines h)
+pub lends_from : {A E : Type 0} (r : Result A E) (line line1 : List ℕ) (ends ends1 : EndList) (c : Core) → line1 ≡ line → ends1 ≡ ends → OnOk r (LendsInTurn line1 ends1 c) → OnOk r (LendsInTurn line ends c)
+lends_from r line line1 ends ends1 c lines same h = subst (λ (es : EndList). OnOk r (LendsInTurn line es c)) same (subst (λ (ks : List ℕ). OnOk r (LendsInTurn ks ends1 c)) lines h)
 
-pub lends_at : (line line1 : List ℕ) (ends ends1 : Ends) (c : Core) → line1 ≡ line → ends1 ≡ ends → LendsInTurn line1 ends1 c → LendsInTurn line ends c
-lends_at line line1 ends ends1 c lines same h = subst (λ (es : Ends). LendsInTurn line es c) same (subst (λ (ks : List ℕ). LendsInTurn ks ends1 c) lines h)
+pub lends_at : (line line1 : List ℕ) (ends ends1 : EndList) (c : Core) → line1 ≡ line → ends1 ≡ ends → LendsInTurn line1 ends1 c → LendsInTurn line ends c
+lends_at line line1 ends ends1 c lines same h = subst (λ (es : EndList). LendsInTurn line es c) same (subst (λ (ks : List ℕ). LendsInTurn ks ends1 c) lines h)
 
 -- what is done for who holds a connection
 pub who_alone : {A E : Type 0} (r : Result A E) (key : ℕ) (who : Option ℕ) (a b : Core) → who ≡ Some key → OnOk r (Alone key a b) → OnOk r (AloneWho who a b)
@@ -188,7 +188,7 @@ none_alone who h = record { ends = λ other w. refl; line = refl }
 pub lends_after : {A E : Type 0} (r : Result A E) (number : ℕ) (a m b c : Core) → m.pool ≡ a.pool → m.ends ≡ a.ends → AloneWho (holder m.pool number) m b → OnOk r (LendsInTurn b.pool.line b.ends c) → OnOk r (LendsAfter (holder a.pool number) a c)
 lends_after (Ok x) number a m b c same ends h k = record {
   ends = b.ends;
-  others = λ key w. h.ends key (λ e. w (ap (λ (d : Pool). holder d number) (sym same) ∙ e)) ∙ ap (λ (es : Ends). end_at es key) ends;
+  others = λ key w. h.ends key (λ e. w (ap (λ (d : Pool). holder d number) (sym same) ∙ e)) ∙ ap (λ (es : EndList). end_at es key) ends;
   lends = lends_at a.pool.line b.pool.line b.ends b.ends c (h.line ∙ ap (λ (d : Pool). d.line) same) refl k;
 }
 lends_after (Err e) number a m b c same ends h k = tt

@@ -7,16 +7,16 @@ use Rattle.tds_packet.specs.declared.status.Reset.TheVariants.{Full}
 use Rattle.tds_wire.specs.declared.told.Token.{Token}
 use Rattle.tds_service.specs.History.{line_after}
 use Rattle.tds_service.specs.Line as line
-use Rattle.tds_service.specs.Line.{Act, Line, Stage}
+use Rattle.tds_service.specs.Line.{Act, Line, LineStage}
 use Rattle.tds_service.specs.Refusing.{packets, refusal_in}
 use Rattle.tds_service.specs.Parts.{Part}
 use Rattle.tds_service.specs.Service as calls
-use Rattle.tds_service.specs.Service.{Call, Cleaning, Draining, Free, Kept, Leased, Place, Reply, Seat, Service, Step, acts_unless, does, find_by, has_lease, has_number, is_lendable, nothing, rests, step}
+use Rattle.tds_service.specs.Service.{Call, Cleaning, Draining, Free, Kept, Leased, Place, Reply, Seat, Service, ServiceStep, acts_unless, does, find_by, has_lease, has_number, is_lendable, nothing, rests, step}
 use Rattle.tds_service.specs.Table.{KeepsClients, KeepsClientsOff, client_of, service_in}
 use Rattle.tds_service.specs.declared.service.Service as services
 use Rattle.tds_relay.specs.Pool.{Pool, find_key, find_lease, new_pool, without_lease, without_number}
 use Rattle.tds_relay.specs.Promises.{Each, CaresFor, IsCaredFor}
-use Rattle.tds_relay.specs.Sparing.{AsideHeld, AsideStay, Held, IsAside, OffHold, OthersHold, held_by}
+use Rattle.tds_relay.specs.Sparing.{AsideHeld, AsideStay, HeldConnection, IsAside, OffHold, OthersHold, held_with_client}
 use Rattle.tds_relay.specs.Ties.{IsReached, pool_in}
 use Rattle.tds_relay.specs.TokenParsers.{IsLed}
 use Rattle.tds_relay.specs.declared.pool.Pool as pools
@@ -45,7 +45,7 @@ bare_if : (clean : Bool) → IsBare (Some (if clean then Some Free else None))
 bare_if true = tt
 bare_if false = tt
 
-bare_clean : (clean : Bool) (stage : Stage) → IsBare (calls.rests_clean clean stage)
+bare_clean : (clean : Bool) (stage : LineStage) → IsBare (calls.rests_clean clean stage)
 bare_clean clean line.Idle = bare_if clean
 bare_clean clean (line.Sending begun) = tt
 bare_clean clean line.Reading = tt
@@ -77,9 +77,9 @@ module _ (lease number : ℕ) where
 
     each_acts : (test : Seat → Bool) (first : Act Token) (all : List (Act Token)) (o : Option Seat) → find_by test s.seats ≡ o → Each Apart (calls.acts s test first all o).service.seats
     each_acts test first all None e = apart
-    each_acts test first all (Some c) e = each_unless test c all (refusal_in (line.turn c.line first).answer) e
+    each_acts test first all (Some c) e = each_unless test c all (refusal_in (line.line_turn c.line first).answer) e
 
-    rests_fit : (n : ℕ) (stage : Stage) (l : Line) → Fits Apart n (rests stage) l
+    rests_fit : (n : ℕ) (stage : LineStage) (l : Line) → Fits Apart n (rests stage) l
     rests_fit n line.Idle l = λ e. absurd (let u : false ≡ true = e in let v : ⊥ = cc in v)
     rests_fit n (line.Sending begun) l = λ e. absurd (let u : false ≡ true = e in let v : ⊥ = cc in v)
     rests_fit n line.Reading l = λ e. absurd (let u : false ≡ true = e in let v : ⊥ = cc in v)
@@ -92,7 +92,7 @@ module _ (lease number : ℕ) where
         let stage = (line_after {T = Token} c.line (line.Cancel ∷ [])).stage in
         each_does s.given test c (rests stage) (line.Cancel ∷ []) (calls.Back (rests stage)) e (rests_fit c.number stage (line_after {T = Token} c.line (line.Cancel ∷ [])))
 
-    each_if : (b : Bool) (t u : Step Token) → Each Apart t.service.seats → Each Apart u.service.seats → Each Apart (if b then t else u).service.seats
+    each_if : (b : Bool) (t u : ServiceStep Token) → Each Apart t.service.seats → Each Apart u.service.seats → Each Apart (if b then t else u).service.seats
     each_if true t u h k = h
     each_if false t u h k = k
 
@@ -113,7 +113,7 @@ module _ (lease number : ℕ) where
     holds_if true e = e
     holds_if false e = e
 
-    holds_drained : (place : Place) (stage : Stage) → calls.holds lease (calls.drained place stage) ≡ true → calls.holds lease place ≡ true
+    holds_drained : (place : Place) (stage : LineStage) → calls.holds lease (calls.drained place stage) ≡ true → calls.holds lease place ≡ true
     holds_drained (Leased other) stage e = e
     holds_drained (Cleaning other) stage e = e
     holds_drained (Kept ticket) stage e = e
@@ -269,7 +269,7 @@ left_where d e key g its found stay = record {
       holds_on d e other (λ h client theirs there.
       let sound : Sound (pool_in d) = sound_at (pool_in d) reached in
       let apart : h.lease ≢ g.lease = lease_apart (pool_in d) key other g h sound its theirs differs in
-      let off : h.number ≢ g.number = λ same. off_others d key other g reached its differs client (is_held d other h client theirs there ∙ ap (λ (n : ℕ). let x : Held = (n, client) in Some x) same) in
+      let off : h.number ≢ g.number = λ same. off_others d key other g reached its differs client (is_held d other h client theirs there ∙ ap (λ (n : ℕ). let x : HeldConnection = (n, client) in Some x) same) in
       let held : find_lease h.lease d.holds.items ≡ Some h = found_by_lease other 0 (pool_in d).service.given h d.holds.items sound.rising theirs in
       let aside : IsAside h.lease g.number (pool_in d).service = record {
         led = led_at (pool_in d) reached;
@@ -293,7 +293,7 @@ left_others d e key g its left stay = left_where d e key g its (λ other h their
 pub none_others : (d e : pools.Pool) (key : ℕ) → e.holds.items ≡ d.holds.items → e.service ≡ d.service → OthersHold key d e
 none_others d e key holds service = record {
   hold = λ reached other differs.
-      inl (ap (λ (s : services.Service). held_by s (find_key other e.holds.items)) service ∙ ap (λ (hs : List Hold). held_by d.service (find_key other hs)) holds);
+      inl (ap (λ (s : services.Service). held_with_client s (find_key other e.holds.items)) service ∙ ap (λ (hs : List Hold). held_with_client d.service (find_key other hs)) holds);
 }
 
 -- ---- One that is kept with its transaction
@@ -342,7 +342,7 @@ came_off number d e t part is keeps later kept = record {
   hold = λ reached key off.
       holds_on d e key (λ h client its there.
       let sound : Sound (pool_in d) = sound_at (pool_in d) reached in
-      let differs : h.number ≢ number = λ same. off client (is_held d key h client its there ∙ ap (λ (n : ℕ). let x : Held = (n, client) in Some x) same) in
+      let differs : h.number ≢ number = λ same. off client (is_held d key h client its there ∙ ap (λ (n : ℕ). let x : HeldConnection = (n, client) in Some x) same) in
       let aside : IsAside h.lease number (pool_in d).service = aside_at (pool_in d) key number h sound reached its differs in
       let held : find_lease h.lease d.holds.items ≡ Some h = found_by_lease key 0 (pool_in d).service.given h d.holds.items sound.rising its in
       let behind : IsAside h.lease number (service_in t) = aside_step h.lease number (service_in d.service) (service_in t) (calls.Came number part) tt is aside in
@@ -357,7 +357,7 @@ kept_off number key h hs its differs = kept_key (λ (x : Hold). not (x.number ==
 pub off_same : (number : ℕ) (d e : pools.Pool) → e.holds.items ≡ d.holds.items → e.service ≡ d.service → OffHold number d e
 off_same number d e holds service = record {
   hold = λ reached key off.
-      inl (ap (λ (s : services.Service). held_by s (find_key key e.holds.items)) service ∙ ap (λ (hs : List Hold). held_by d.service (find_key key hs)) holds);
+      inl (ap (λ (s : services.Service). held_with_client s (find_key key e.holds.items)) service ∙ ap (λ (hs : List Hold). held_with_client d.service (find_key key hs)) holds);
 }
 
 -- ---- Where a message has ended

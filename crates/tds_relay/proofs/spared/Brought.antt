@@ -10,7 +10,7 @@ use Rattle.tds_wire.specs.declared.told.Token.{Token}
 use Rattle.tds_service.specs.declared.service.Service as services
 use Rattle.tds_service.specs.History.{line_after}
 use Rattle.tds_service.specs.Line as line
-use Rattle.tds_service.specs.Line.{Stage, new_line}
+use Rattle.tds_service.specs.Line.{LineStage, new_line}
 use Rattle.tds_service.specs.Service as calls
 use Rattle.tds_service.specs.Service.{Leased, Seat, Service, find_by, has_lease, is_idle, is_lendable, step}
 use Rattle.tds_service.specs.Table.{client_of, service_in}
@@ -45,7 +45,7 @@ use Rattle.tds_relay.proofs.steps.Reaching.{reached_on, reaches_next}
 abbrev IsLentIdle : ℕ → Seat → Type 0
 IsLentIdle lease c = has_lease lease c ≡ true → c.line.stage ≡ line.Idle
 
-idle_is : (stage : Stage) → is_idle stage ≡ true → stage ≡ line.Idle
+idle_is : (stage : LineStage) → is_idle stage ≡ true → stage ≡ line.Idle
 idle_is line.Idle e = refl
 idle_is (line.Sending begun) e = absurd (let u : ⊥ = cc in u)
 idle_is line.Reading e = absurd (let u : ⊥ = cc in u)

@@ -6,7 +6,7 @@ use Rattle.tds_client.specs.declared.message.MessageKind.TheVariants.{Batch}
 use Rattle.tds_client.specs.Session.{ClientSession}
 use Rattle.tds_client.specs.Streams.{finished, opened, put}
 use Rattle.tds_service.specs.declared.service.Service as services
-use Rattle.tds_service.specs.Table.{CancelsOut, DoesAt, Opens, client_of}
+use Rattle.tds_service.specs.Table.{CancelsOut, DoesAt, BeginsMessage, client_of}
 use Rattle.tds_service.specs.Ties.{cancel_out}
 use Rattle.tds_packet.specs.declared.status.Reset.TheVariants.{Full}
 use Rattle.tds_relay.specs.declared.pool.Pool as pools
@@ -19,21 +19,21 @@ use Rattle.tds_relay.specs.Cleaning as cleaning
 use Rattle.tds_relay.specs.Pool as pool
 use Rattle.tds_relay.specs.Pool.{Pool, find_key, find_lease, find_number, whose_by, without_lease, next}
 use Rattle.tds_relay.specs.Promises.{Each}
-use Rattle.tds_relay.specs.Closings.{ClosesOnly, IsWaiting, Nobody, Register, open_name, register_in}
+use Rattle.tds_relay.specs.Closings.{ClosesOnly, IsWaiting, NoKey, Register, open_name, register_in}
 use Rattle.tds_relay.specs.Lent.{HasClosed, IsMade, LastBut}
 use Rattle.tds_relay.specs.Reads.{CalledAt, FillsBy, Opens as OpensLinks, Seen, bytes_on, link_at, queue_on, reader_at, reader_of, seen_at, seen_of, waits_on}
 use Rattle.tds_relay.specs.Few.{LeavesSeat, SeatStays, has_seat}
-use Rattle.tds_relay.specs.Queues.{Queue, fits, nothing, queue_in}
+use Rattle.tds_relay.specs.Queues.{Queue, fits, empty_queue, queue_in}
 use Rattle.tds_relay.specs.Reasons.{HasNoRoom}
 use Rattle.tds_wire.specs.declared.features.Features.{Features}
-use Rattle.tds_relay.specs.Ties.{GoesOn, IsNumberOf, IsReached, Reaches, Turns, pool_in}
+use Rattle.tds_relay.specs.Ties.{LedOn, IsNumberOf, IsReached, Reaches, Turns, pool_in}
 use Rattle.tds_relay.proofs.held.Sitting.{Sits}
 use Rattle.tds_relay.proofs.spared.Held.{Seated, same_lease, seated, sits_at, sound_at}
 
 -- ---- At the pool
 
 -- a batch is begun, put and ended
-pub cleans : (text : List ℕ) (lease : ℕ) (cleaned asked sent ended : services.Service) (before between after : List ℕ) → Opens Batch lease cleaned asked
+pub cleans : (text : List ℕ) (lease : ℕ) (cleaned asked sent ended : services.Service) (before between after : List ℕ) → BeginsMessage Batch lease cleaned asked
     → DoesAt (λ (s : ClientSession). put s text) lease asked sent before between → DoesAt finished lease sent ended between after → IsPutBehind (IsBatch text) before after
 cleans text lease cleaned asked sent ended before between after o p f =
     let one : p.session ≡ opened o.0 Batch = (let u : Some p.session ≡ Some (opened o.0 Batch) = sym p.moves.was ∙ o.1.is in cc) in
@@ -49,7 +49,7 @@ cleans text lease cleaned asked sent ended before between after o p f =
     }
 
 -- and it asks for the full reset
-pub cleans_all : (text : List ℕ) (lease : ℕ) (cleaned asked sent ended : services.Service) (before between after : List ℕ) → (o : Opens Batch lease cleaned asked) → o.0.heard.mark ≡ Some Full
+pub cleans_all : (text : List ℕ) (lease : ℕ) (cleaned asked sent ended : services.Service) (before between after : List ℕ) → (o : BeginsMessage Batch lease cleaned asked) → o.0.heard.mark ≡ Some Full
     → DoesAt (λ (s : ClientSession). put s text) lease asked sent before between → DoesAt finished lease sent ended between after → IsPutBehind (IsCleaning text) before after
 cleans_all text lease cleaned asked sent ended before between after o full p f =
     let one : p.session ≡ opened o.0 Batch = (let u : Some p.session ≡ Some (opened o.0 Batch) = sym p.moves.was ∙ o.1.is in cc) in
@@ -327,7 +327,7 @@ pub since_at : (Fails Lost : Type 0) (number : ℕ) (p q u : ℕ × ℕ) (ms ns 
     → (waits_on number ns ≡ None → (waits_on number ms ≡ None) ⊎ Lost) → CountsSince Fails Lost number p u ns
 since_at Fails Lost number p q u ms ns counts same opens lost = since_by Fails Lost number p q u ms ns (waits_on number ms) (waits_on number ns) refl refl counts same (opens.called number) lost
 
-cannot_on : (key : ℕ) (hold : Hold) (old mid new : code.Relay) → GoesOn (pool_in mid.pool) (pool_in new.pool) → CannotClean key hold old mid → CannotClean key hold old new
+cannot_on : (key : ℕ) (hold : Hold) (old mid new : code.Relay) → LedOn (pool_in mid.pool) (pool_in new.pool) → CannotClean key hold old mid → CannotClean key hold old new
 cannot_on key hold old mid new on (inl up) = inl (record { gives = up.gives; way = up.way; lost = up.lost; goes = λ by from h. on by from (up.goes by from h) })
 cannot_on key hold old mid new on (inr x) = inr x
 
@@ -337,15 +337,15 @@ lost_since : (May : ℕ → Type 0) (a b c : Register) → ((key tag : ℕ) → 
 lost_since May a b c were (inl all) number e = inl (all number e)
 lost_since May a b c were (inr y) number e = inr (record { key = y.key; may = y.may; tag = y.tag; was = were y.key y.tag y.was; closed = y.closed })
 
-pub since_served : (key : ℕ) (was : Register) (old mid new : code.Relay) → CountsAtEnd key old mid → GoesOn (pool_in mid.pool) (pool_in new.pool) → OpensLinks mid.links.items new.links.items → cleaned_in new ≡ cleaned_in mid → ClosesOnly Nobody was (register_in mid)
+pub since_served : (key : ℕ) (was : Register) (old mid new : code.Relay) → CountsAtEnd key old mid → LedOn (pool_in mid.pool) (pool_in new.pool) → OpensLinks mid.links.items new.links.items → cleaned_in new ≡ cleaned_in mid → ClosesOnly NoKey was (register_in mid)
     → LastBut (IsWaiting (pool_in old.pool).line) (register_in mid) (register_in new) → CountsSinceEnd key was old new
 since_served key was old mid new counts on opens same closes lasts = λ hold its there.
     since_at (CannotClean key hold old new) (LosesWaiting was old new) hold.number (cleaned_in old) (cleaned_in mid) (cleaned_in new) mid.links.items new.links.items
     (sent_for (CannotClean key hold old mid) (CannotClean key hold old new) (waits_on hold.number mid.links.items) (cleaned_in old) (cleaned_in mid) (cannot_on key hold old mid new on) (counts hold its there)) same opens
     (lost_since (IsWaiting (pool_in old.pool).line) was (register_in mid) (register_in new) closes.were_open lasts hold.number)
 
-pub since_served_on : {A E : Type 0} (r : Result A E) (key : ℕ) (was : Register) (old mid new : code.Relay) → CountsAtEnd key old mid → OnOk r (GoesOn (pool_in mid.pool) (pool_in new.pool))
-    → OnOk r (OpensLinks mid.links.items new.links.items) → cleaned_in new ≡ cleaned_in mid → ClosesOnly Nobody was (register_in mid) → OnOk r (LastBut (IsWaiting (pool_in old.pool).line) (register_in mid) (register_in new)) → OnOk r (CountsSinceEnd key was old new)
+pub since_served_on : {A E : Type 0} (r : Result A E) (key : ℕ) (was : Register) (old mid new : code.Relay) → CountsAtEnd key old mid → OnOk r (LedOn (pool_in mid.pool) (pool_in new.pool))
+    → OnOk r (OpensLinks mid.links.items new.links.items) → cleaned_in new ≡ cleaned_in mid → ClosesOnly NoKey was (register_in mid) → OnOk r (LastBut (IsWaiting (pool_in old.pool).line) (register_in mid) (register_in new)) → OnOk r (CountsSinceEnd key was old new)
 since_served_on (Ok x) key was old mid new counts on opens same closes lasts = since_served key was old mid new counts on opens same closes lasts
 since_served_on (Err e) key was old mid new counts on opens same closes lasts = tt
 
@@ -361,7 +361,7 @@ too_long size number features l ls ms before outbox empty more is made none noth
     let unfit : Some (fits (queue_in l.out) p.out) ≡ Some false =
     sym (ap (option_map (λ (x : Link). fits (queue_in x.out) p.out)) there) ∙ subst (λ (xs : List ℕ). HasNoRoom number xs ms) out full in
     let one : fits (queue_in l.out) p.out ≡ false = (let u : Some (fits (queue_in l.out) p.out) ≡ Some false = unfit in cc) in
-    let queue : queue_in l.out ≡ nothing size =
+    let queue : queue_in l.out ≡ empty_queue size =
     ap (λ (n : ℕ). record { tag = None; size = n; bytes = bytes_on l; is_full = l.out.is_full }) made.2
     ∙ ap (λ (xs : List ℕ). record { tag = None; size = size; bytes = xs; is_full = l.out.is_full }) none
     ∙ ap (λ (b : Bool). record { tag = None; size = size; bytes = []; is_full = b }) made.5 in

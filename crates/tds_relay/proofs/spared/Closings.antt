@@ -3,13 +3,13 @@ use Rattle.std.proofs.Common.{◌≡◌, ◌⊎◌, ◌∙◌, ℕ, true, List, 
 use Rattle.std.specs.Prelude.{Result, Ok, Err, OnOk}
 use Rattle.tds_relay.specs.declared.order.Order.{Order}
 use Rattle.tds_relay.specs.declared.order.Order.TheVariants as orders
-use Rattle.tds_relay.specs.Closings.{ClosesOnly, IsDue, IsToWriteAll, KeptBeside, Nobody, OfApplication, OfConnection, Register, Settings, but_told, is_shut, is_shut_at, open_name, name_with}
-use Rattle.tds_relay.specs.Core.{Ends, end_at}
+use Rattle.tds_relay.specs.Closings.{ClosesOnly, IsDue, IsToWriteAll, KeptBeside, NoKey, OfApplication, OfConnection, Register, Settings, but_told, is_shut, is_shut_at, open_name, name_with}
+use Rattle.tds_relay.specs.Core.{EndList, end_at}
 use Rattle.tds_relay.specs.Ordering.{IsOrdered, StayOrdered}
 use Rattle.tds_relay.specs.Queues.{HasAll, Queue, Queues, names_of, queue_at}
 use Rattle.tds_relay.specs.declared.fault.Refused.{Refused}
 use Rattle.tds_relay.specs.Reads.{seen_at}
-use Rattle.tds_relay.specs.Sending.{IsToWrite, IsWritten, Sending, called_at, name_in, sending_at}
+use Rattle.tds_relay.specs.Sending.{IsToWrite, IsWritten, NamedWaiting, called_at, name_in, sending_at}
 use Rattle.tds_relay.proofs.spared.Ordered.{ordered_both, ordered_refl}
 use Rattle.tds_relay.proofs.spared.Once.{once_as, once_then, one_called_on, same_named, were_named}
 use Rattle.tds_relay.proofs.spared.Sending.{is_ordered_on}
@@ -108,14 +108,14 @@ nothing_or : (A : Type 0) (o : Option ℕ) (xs ys : List Order) → StayOrdered 
 nothing_or A o xs ys s (inl e) = inl e
 nothing_or A o xs ys s (inr w) = inr (named_on o xs ys s w)
 
-written_on : (s : Option Sending) (xs ys : List Order) → StayOrdered xs ys → IsWritten s xs → IsWritten s ys
+written_on : (s : Option NamedWaiting) (xs ys : List Order) → StayOrdered xs ys → IsWritten s xs → IsWritten s ys
 written_on None xs ys more w = tt
 written_on (Some s) xs ys more w = nothing_or (s.1 ≡ []) s.0 xs ys more w
 
 sends_or : (number : ℕ) (a b c : Register) → StayOrdered b.orders c.orders → sending_at number c.links ≡ sending_at number b.links
     → (sending_at number b.links ≡ sending_at number a.links) ⊎ IsWritten (sending_at number b.links) b.orders → (sending_at number c.links ≡ sending_at number a.links) ⊎ IsWritten (sending_at number c.links) c.orders
 sends_or number a b c more same (inl e) = inl (same ∙ e)
-sends_or number a b c more same (inr w) = inr (subst (λ (s : Option Sending). IsWritten s c.orders) (sym same) (written_on (sending_at number b.links) b.orders c.orders more w))
+sends_or number a b c more same (inr w) = inr (subst (λ (s : Option NamedWaiting). IsWritten s c.orders) (sym same) (written_on (sending_at number b.links) b.orders c.orders more w))
 
 sends_then : (May : ℕ → Type 0) (number : ℕ) (a b c : Register) → ClosesOnly May a b → StayOrdered b.orders c.orders → (sending_at number c.links ≡ sending_at number b.links) ⊎ IsWritten (sending_at number c.links) c.orders
     → (sending_at number c.links ≡ sending_at number a.links) ⊎ IsWritten (sending_at number c.links) c.orders
@@ -178,23 +178,23 @@ closes_more_on (Ok x) May More a b f h = closes_more May More a b f h
 closes_more_on (Err e) May More a b f h = tt
 
 -- nobody is: nor is any of these
-pub closes_nobody : (May : ℕ → Type 0) (a b : Register) → ClosesOnly Nobody a b → ClosesOnly May a b
-closes_nobody May a b h = closes_more Nobody May a b (λ key none. absurd none) h
+pub closes_nobody : (May : ℕ → Type 0) (a b : Register) → ClosesOnly NoKey a b → ClosesOnly May a b
+closes_nobody May a b h = closes_more NoKey May a b (λ key none. absurd none) h
 
 -- and then whoever is one of those is one of these
 pub closes_with : {A E : Type 0} (r : Result A E) (May More : ℕ → Type 0) (a b c : Register) → ((key : ℕ) → May key → More key) → OnOk r (ClosesOnly May b c) → ClosesOnly More a b → OnOk r (ClosesOnly More a c)
 closes_with r May More a b c f k h = closes_on r More a b c (closes_more_on r May More b c f k) h
 
 -- nobody is, behind whom these are
-pub closes_behind : {A E : Type 0} (r : Result A E) (May : ℕ → Type 0) (a b c : Register) → OnOk r (ClosesOnly Nobody b c) → ClosesOnly May a b → OnOk r (ClosesOnly May a c)
-closes_behind r May a b c k h = closes_with r Nobody May a b c (λ key none. absurd none) k h
+pub closes_behind : {A E : Type 0} (r : Result A E) (May : ℕ → Type 0) (a b c : Register) → OnOk r (ClosesOnly NoKey b c) → ClosesOnly May a b → OnOk r (ClosesOnly May a c)
+closes_behind r May a b c k h = closes_with r NoKey May a b c (λ key none. absurd none) k h
 
 -- before whom nobody is
-pub closes_first : {A E : Type 0} (r : Result A E) (May : ℕ → Type 0) (a b c : Register) → OnOk r (ClosesOnly May b c) → ClosesOnly Nobody a b → OnOk r (ClosesOnly May a c)
+pub closes_first : {A E : Type 0} (r : Result A E) (May : ℕ → Type 0) (a b c : Register) → OnOk r (ClosesOnly May b c) → ClosesOnly NoKey a b → OnOk r (ClosesOnly May a c)
 closes_first r May a b c k h = closes_on r May a b c k (closes_nobody May a b h)
 
 -- whoever is, then, is one of these
-pub closes_next : {A E : Type 0} (r : Result A E) (May More : ℕ → Type 0) (a b c : Register) → ((key : ℕ) → May key → More key) → OnOk r (ClosesOnly May b c) → ClosesOnly Nobody a b → OnOk r (ClosesOnly More a c)
+pub closes_next : {A E : Type 0} (r : Result A E) (May More : ℕ → Type 0) (a b c : Register) → ((key : ℕ) → May key → More key) → OnOk r (ClosesOnly May b c) → ClosesOnly NoKey a b → OnOk r (ClosesOnly More a c)
 closes_next r May More a b c f k h = closes_on r More a b c (closes_more_on r May More b c f k) (closes_nobody More a b h)
 
 -- ---- A packet that comes
@@ -214,7 +214,7 @@ pub closes_heard : (May : ℕ → Type 0) (a b c : Register) → ClosesOnly May 
     → ((number : ℕ) → is_shut_at number c ≡ true → is_shut_at number b ≡ true) → c.orders ≡ b.orders → c.kept.settings ≡ b.kept.settings → ClosesOnly May (but_told c a) c
 closes_heard May a b c h ends names sends shut are settings =
     let same : (key : ℕ) → open_name key c ≡ open_name key b =
-    λ key. ap (λ (es : Ends). name_with (end_at es key) (slice_index_or (names_of c.queues) key None)) ends
+    λ key. ap (λ (es : EndList). name_with (end_at es key) (slice_index_or (names_of c.queues) key None)) ends
     ∙ ap (λ (ns : List (Option (Option ℕ))). name_with (end_at b.ends key) (slice_index_or ns key None)) names in
     let first : (key : ℕ) → open_name key (but_told c a) ≡ open_name key (but_told b a) = λ key. ap (λ (ns : List (Option (Option ℕ))). name_with (end_at a.ends key) (slice_index_or ns key None)) names in
     record {
@@ -232,7 +232,7 @@ closes_heard May a b c h ends names sends shut are settings =
           once_as tag (but_told b a) b (but_told c a) c (same_named (but_told b a) (but_told c a) first (λ number. refl)) (same_named b c same (λ number. ap name_in (sends number))) refl are (h.once tag) one;
       writes = λ key. inl refl;
       writes_on = λ number.
-          subst (λ (s : Option Sending). (s ≡ sending_at number a.links) ⊎ IsWritten s c.orders) (sym (sends number))
+          subst (λ (s : Option NamedWaiting). (s ≡ sending_at number a.links) ⊎ IsWritten s c.orders) (sym (sends number))
           (subst (λ (xs : List Order). (sending_at number b.links ≡ sending_at number a.links) ⊎ IsWritten (sending_at number b.links) xs) (sym are) (h.writes_on number));
       were_open = λ key tag e. first key ∙ h.were_open key tag (sym (same key) ∙ e);
       were_called = λ number tag e. h.were_called number tag (sym (ap name_in (sends number)) ∙ e);

@@ -16,7 +16,7 @@ use Rattle.tds_relay.specs.Coming.{AllAlong, Begins, Ends, GoesAlong, Hears, Hea
 use Rattle.tds_relay.specs.Pool.{find_key}
 use Rattle.tds_relay.specs.Reads.{waits_on}
 use Rattle.tds_relay.specs.Sparing.{AllGo, AllRest, IsUnkept, OthersRest}
-use Rattle.tds_relay.specs.Ties.{Connection, Goes, IsReached, pool_in}
+use Rattle.tds_relay.specs.Ties.{Connection, LedTo, IsReached, pool_in}
 use Rattle.tds_relay.proofs.spared.Resting.{go_one, rests_start}
 use Rattle.tds_relay.proofs.steps.Reaching.{reached_on}
 
@@ -124,7 +124,7 @@ body_along (Err e) a b c h same = tt
 
 -- ---- One packet
 
-pub one_along : (number : ℕ) (a b c d : code.Relay) → IsReached (pool_in a.pool) → AllAlong a b → Goes (Connection number) (pool_in a.pool) (pool_in b.pool) → Goes (Connection number) (pool_in b.pool) (pool_in c.pool)
+pub one_along : (number : ℕ) (a b c d : code.Relay) → IsReached (pool_in a.pool) → AllAlong a b → LedTo (Connection number) (pool_in a.pool) (pool_in b.pool) → LedTo (Connection number) (pool_in b.pool) (pool_in c.pool)
     → AskAsBefore b.applications c.applications → (IsReached (pool_in c.pool) → AllAlong c d) → AllAlong a d
 one_along number a b c d reached h first next asks k =
     along_both a b d h (along_both b c d (same_along b c asks) (k (reached_on (Connection number) (pool_in a.pool) (pool_in c.pool) (λ from led. next from (first from led)) reached)))

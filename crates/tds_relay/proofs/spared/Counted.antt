@@ -10,7 +10,7 @@ use Rattle.tds_relay.specs.Cleaning.{CountsGone, CountsHeard, CountsLost, Counts
 use Rattle.tds_relay.specs.Pool.{next}
 use Rattle.tds_relay.specs.Few.{is_left}
 use Rattle.tds_relay.specs.Machine.{Machine}
-use Rattle.tds_relay.specs.Reads.{Opens, Stays, StaysAt, link_at, open_at, reader_at, reader_of, seen_at, seen_of}
+use Rattle.tds_relay.specs.Reads.{Opens, LinksStay, StaysAt, link_at, open_at, reader_at, reader_of, seen_at, seen_of}
 use Rattle.tds_relay.specs.Sending.{sending_at, sending_of}
 use Rattle.tds_relay.specs.Reasons.{HearsNothing, IsHeardAs, IsIdle}
 use Rattle.tds_relay.proofs.steps.Staying.{at_refl, gone_open}
@@ -100,19 +100,19 @@ not_seen None None stays gone = refl
 not_seen None (Some m) stays gone = absurd (let u : ⊥ = cc in u)
 not_seen (Some l) p stays gone = absurd (let u : ⊥ = cc in u)
 
-gone_on : (number : ℕ) (ls ms : List Link) → Stays ls ms → reader_at number ls ≡ None → reader_at number ms ≡ None
+gone_on : (number : ℕ) (ls ms : List Link) → LinksStay ls ms → reader_at number ls ≡ None → reader_at number ms ≡ None
 gone_on number ls ms stays gone = not_seen (link_at number ls) (link_at number ms) (stays.seen number (seen_at number ls) (at_refl (seen_at number ls))) gone
 
 -- of what isn't there nothing is heard
 lost_then : (number : ℕ) (left : List ℕ) (o : Option Heard) (a b c d : code.Relay) (new : Machine) → (HearsNothing o × IsIdle b c) ⊎ IsHeardAs number left o b new → cleaned_in c ≡ cleaned_in b
-    → ((other : ℕ) → sending_at other c.links.items ≡ sending_at other b.links.items) → Stays c.links.items d.links.items → CountsHeard number o c d → CountsLost number a b → CountsLost number a d
+    → ((other : ℕ) → sending_at other c.links.items ≡ sending_at other b.links.items) → LinksStay c.links.items d.links.items → CountsHeard number o c d → CountsLost number a b → CountsLost number a d
 lost_then number left o a b c d new heard then sends stays counts (inl same) = lost_on number a b c d same then (heard_lost o number c d counts)
 lost_then number left o a b c d new (inl none) then sends stays counts (inr lost) =
     inr (nothing_counts o number c d none.0 counts ∙ then ∙ lost.0, gone_on number c.links.items d.links.items stays (as_sent (link_at number b.links.items) (link_at number c.links.items) (sends number) lost.1))
 lost_then number left o a b c d new (inr heard) then sends stays counts (inr lost) = absurd (no_link (link_at number b.links.items) heard.link lost.1 heard.there)
 
 pub one_lost : (number : ℕ) (left : List ℕ) (o : Option Heard) (a b c d : code.Relay) (new : Machine) → (HearsNothing o × IsIdle b c) ⊎ IsHeardAs number left o b new → cleaned_in c ≡ cleaned_in b
-    → ((other : ℕ) → sending_at other c.links.items ≡ sending_at other b.links.items) → Stays c.links.items d.links.items → CountsHeard number o c d → CountsLost number a b → CountsLost number a d
+    → ((other : ℕ) → sending_at other c.links.items ≡ sending_at other b.links.items) → LinksStay c.links.items d.links.items → CountsHeard number o c d → CountsLost number a b → CountsLost number a d
 one_lost number left o a b c d new heard then sends stays counts lost = lost_then number left o a b c d new heard then sends stays counts lost
 
 -- ---- And then those who wait are served

@@ -16,7 +16,7 @@ use Rattle.tds_relay.specs.Core.{holder, is_in}
 use Rattle.tds_relay.specs.Lent.{IsOnItsOwn, KeepsAnswers, KeepsToItsOwn, KeepsWaits, LendsInLine, MayBeLent, OthersKeep, OthersKeepAt, PutsOnly}
 use Rattle.tds_relay.specs.Reads.{StaysAt, answer_at, carried_there, queue_on}
 use Rattle.tds_relay.specs.Sparing.{held_at}
-use Rattle.tds_relay.specs.Ties.{Application as ByApplication, Goes, IsReached, pool_in}
+use Rattle.tds_relay.specs.Ties.{Application as ByApplication, LedTo, IsReached, pool_in}
 use Rattle.tds_relay.proofs.held.Fewer.{same_left}
 use Rattle.tds_relay.proofs.held.Numbers.{apart_at, its_holder}
 use Rattle.tds_relay.proofs.promises.Renewing.{renewed_number}
@@ -133,7 +133,7 @@ module _ (d : Pool) (key n : ℕ) (reached : IsReached d) (differs : key_of (fin
 
 -- ---- And those who wait are served
 
-module _ (key number : ℕ) (old mid new : code.Relay) (goes : Goes (ByApplication key) (pool_in old.pool) (pool_in mid.pool)) where
+module _ (key number : ℕ) (old mid new : code.Relay) (goes : LedTo (ByApplication key) (pool_in old.pool) (pool_in mid.pool)) where
   said_before : (other : ℕ) → other ≢ key → (j : ℕ) → j ≡ other → is_in j mid.pool.line.items ≡ true → (j ≡ key) ⊎ (is_in j old.pool.line.items ≡ true) → is_in j old.pool.line.items ≡ true
   said_before other differs j same there (inl its) = absurd (differs (sym same ∙ its))
   said_before other differs j same there (inr waits) = waits
@@ -155,7 +155,7 @@ module _ (key number : ℕ) (old mid new : code.Relay) (goes : Goes (ByApplicati
       let k = keeps number (λ e. let u : None ≡ Some key = sym none ∙ e in let v : ⊥ = cc in v) in
       free_line number old mid new (λ j is there. absurd (let u : None ≡ Some j = sym none ∙ is in let v : ⊥ = cc in v)) k.0 k.1 none lends
 
-pub said_puts : {A E : Type 0} (r : Result A E) (key : ℕ) (old mid new : code.Relay) → IsReached (pool_in old.pool) → Goes (ByApplication key) (pool_in old.pool) (pool_in mid.pool) → OthersKeepAt key old mid
+pub said_puts : {A E : Type 0} (r : Result A E) (key : ℕ) (old mid new : code.Relay) → IsReached (pool_in old.pool) → LedTo (ByApplication key) (pool_in old.pool) (pool_in mid.pool) → OthersKeepAt key old mid
     → OnOk r (LendsInLine mid new) → OnOk r (PutsOnly (λ (n : ℕ). holder (pool_in old.pool) n ≡ Some key) old new)
 said_puts (Ok v) key old mid new reached goes keeps lends = record {
   held = λ other at waits e. said_held key at.0 old mid new goes other (holder_is old.pool other at reached e) waits (keeps at.0) (lends at.0) (cases_eq other key);

@@ -11,12 +11,12 @@ use Rattle.tds_relay.specs.declared.order.Order.{Order}
 use Rattle.tds_relay.specs.declared.order.Order.TheVariants as orders
 use Rattle.tds_relay.specs.declared.relay.Relay as code
 use Rattle.tds_relay.specs.Closings.{AConnection, AnApplication, ClosesOnce, ClosesOnly, IsDue, IsToWriteAll, Itself, OfApplication, OfConnection, Register, IsOneCalled, Named, is_shut, name_in_register, name_with, open_name, register_in, times_closed}
-use Rattle.tds_relay.specs.Fronts.{end_of, ends_in}
-use Rattle.tds_relay.specs.Core.{End, Ends, Open, Over, change_end, end_at, told}
+use Rattle.tds_relay.specs.Fronts.{own_end, ends_in}
+use Rattle.tds_relay.specs.Core.{End, EndList, Open, Over, change_end, end_at, end_told}
 use Rattle.tds_relay.specs.Ordering.{IsOrdered, StayOrdered}
 use Rattle.tds_relay.specs.Queues.{HasAll, Queue, Queues, names_in, names_of, queue_at, queue_of, queues_in}
-use Rattle.tds_relay.specs.Reads.{Sees, seen_at, without_link}
-use Rattle.tds_relay.specs.Sending.{IsWritten, Sending, called_at, name_in, sending_at, sending_of}
+use Rattle.tds_relay.specs.Reads.{HoldsOnLinks, seen_at, without_link}
+use Rattle.tds_relay.specs.Sending.{IsWritten, NamedWaiting, called_at, name_in, sending_at, sending_of}
 use Rattle.tds_relay.specs.Taking.{IsDeaf}
 use Rattle.tds_relay.specs.Waking.{IsWoken}
 use Rattle.tds_relay.proofs.spared.Once.{once_as, ordered_once, same_named, were_named}
@@ -61,7 +61,7 @@ pub closes_given : (May : ℕ → Type 0) (key : ℕ) (a b c : Register) → b.e
     → b.orders ≡ a.orders → ClosesOnly May b c → IsToWriteAll (open_name key c) (queue_at c.queues key) c.orders → ClosesOnly May a c
 closes_given May key a b c ends names others told links are h w =
     let same : (k : ℕ) → open_name k b ≡ open_name k a =
-    λ k. ap (λ (es : Ends). name_with (end_at es k) (slice_index_or (names_of b.queues) k None)) ends
+    λ k. ap (λ (es : EndList). name_with (end_at es k) (slice_index_or (names_of b.queues) k None)) ends
     ∙ ap (λ (ns : List (Option (Option ℕ))). name_with (end_at a.ends k) (slice_index_or ns k None)) names in
     record {
       ordered = subst (λ (xs : List Order). StayOrdered xs c.orders) are h.ordered;
@@ -92,13 +92,13 @@ left_sends : (number other : ℕ) (ls : List Link) → (other ≡ number) ⊎ (o
 left_sends number other ls (inl same) = inr (subst (λ (n : ℕ). sending_at n (without_link number ls) ≡ None) (sym same) (ap (option_map sending_of) (taken_link number ls)))
 left_sends number other ls (inr differs) = inl (ap (option_map sending_of) (left_link number other ls differs))
 
-cut_called : (o p : Option Sending) (tag : ℕ) → (p ≡ o) ⊎ (p ≡ None) → name_in p ≡ Some tag → name_in o ≡ Some tag
+cut_called : (o p : Option NamedWaiting) (tag : ℕ) → (p ≡ o) ⊎ (p ≡ None) → name_in p ≡ Some tag → name_in o ≡ Some tag
 cut_called o p tag (inl same) e = ap name_in (sym same) ∙ e
 cut_called o p tag (inr none) e = absurd (let u : None ≡ Some tag = ap name_in (sym none) ∙ e in let v : ⊥ = cc in v)
 
-cut_sends : (o p : Option Sending) (all : List Order) → (p ≡ o) ⊎ (p ≡ None) → (p ≡ o) ⊎ IsWritten p all
+cut_sends : (o p : Option NamedWaiting) (all : List Order) → (p ≡ o) ⊎ (p ≡ None) → (p ≡ o) ⊎ IsWritten p all
 cut_sends o p all (inl same) = inl same
-cut_sends o p all (inr none) = inr (subst (λ (s : Option Sending). IsWritten s all) (sym none) tt)
+cut_sends o p all (inr none) = inr (subst (λ (s : Option NamedWaiting). IsWritten s all) (sym none) tt)
 
 cut_ordered : (o : Option ℕ) (tag : ℕ) (a b : List Order) → b ≡ cutting o a → o ≡ Some tag → IsOrdered (orders.Close tag) b
 cut_ordered None tag a b are e = absurd (let v : ⊥ = cc in v)
@@ -133,7 +133,7 @@ cut_once : (o : Option ℕ) (number tag : ℕ) (a b : Register) → called_at nu
 cut_once None number tag a b is are gone were one = inl (ap (times_closed tag) are)
 cut_once (Some t) number tag a b is are gone were one = ordered_once tag t (AConnection number) a b are is gone were one
 
-pub closes_removed : (May : ℕ → Type 0) (number : ℕ) (a b : Register) → b.ends ≡ a.ends → b.queues ≡ a.queues → b.kept ≡ a.kept → b.links ≡ without_link number a.links → Sees a.links b.links
+pub closes_removed : (May : ℕ → Type 0) (number : ℕ) (a b : Register) → b.ends ≡ a.ends → b.queues ≡ a.queues → b.kept ≡ a.kept → b.links ≡ without_link number a.links → HoldsOnLinks a.links b.links
     → b.orders ≡ cutting (called_at number a.links) a.orders → ClosesOnly May a b
 closes_removed May number a b ends queues told links sees are =
     let by : (other : ℕ) → (sending_at other b.links ≡ sending_at other a.links) ⊎ (sending_at other b.links ≡ None) =
@@ -156,7 +156,7 @@ closes_removed May number a b ends queues told links sees are =
 
 -- ---- An application is closed
 
-over_in : (by : End → End) → ((e : End) (n : Option (Option ℕ)) → name_with (Some (by e)) n ≡ None) → (key : ℕ) (es : Ends) (n : Option (Option ℕ)) → (end_at es key ≡ None → ⊥) → name_with (end_at (change_end key by es) key) n ≡ None
+over_in : (by : End → End) → ((e : End) (n : Option (Option ℕ)) → name_with (Some (by e)) n ≡ None) → (key : ℕ) (es : EndList) (n : Option (Option ℕ)) → (end_at es key ≡ None → ⊥) → name_with (end_at (change_end key by es) key) n ≡ None
 over_in by over key [] n there = absurd (there refl)
 over_in by over zero (None ∷ es) n there = absurd (there refl)
 over_in by over zero (Some e ∷ es) n there = over e n
@@ -164,7 +164,7 @@ over_in by over (suc key) (e ∷ es) n there = over_in by over key es n there
 
 ended_name : (key other : ℕ) (by : End → End) (old b : Register) → b.ends ≡ change_end key by old.ends → b.queues ≡ old.queues → other ≢ key → open_name other b ≡ open_name other old
 ended_name key other by old b ends queues differs =
-    ap (λ (es : Ends). name_with (end_at es other) (slice_index_or (names_of b.queues) other None)) ends
+    ap (λ (es : EndList). name_with (end_at es other) (slice_index_or (names_of b.queues) other None)) ends
     ∙ ap (λ (o : Option End). name_with o (slice_index_or (names_of b.queues) other None)) (get_or-set_other old.ends key other (option_map by (end_at old.ends key)) None differs)
     ∙ ap (λ (ps : Queues). name_with (end_at old.ends other) (slice_index_or (names_of ps) other None)) queues
 
@@ -191,7 +191,7 @@ ended_open key other tag old b gone others (inr differs) e = sym (others other d
 pub closes_ended : (key named : ℕ) (by : End → End) (old b : Register) → ((e : End) (n : Option (Option ℕ)) → name_with (Some (by e)) n ≡ None) → b.ends ≡ change_end key by old.ends → b.queues ≡ old.queues
     → open_name key old ≡ Some named → (end_at old.ends key ≡ None → ⊥) → b.orders ≡ old.orders ++ orders.Close named ∷ [] → b.kept ≡ old.kept → b.links ≡ old.links → ClosesOnly (Itself key) old b
 closes_ended key named by old b over ends queues its there are told links =
-    let gone : open_name key b ≡ None = ap (λ (es : Ends). name_with (end_at es key) (slice_index_or (names_of b.queues) key None)) ends ∙ over_in by over key old.ends (slice_index_or (names_of b.queues) key None) there in
+    let gone : open_name key b ≡ None = ap (λ (es : EndList). name_with (end_at es key) (slice_index_or (names_of b.queues) key None)) ends ∙ over_in by over key old.ends (slice_index_or (names_of b.queues) key None) there in
     let others : (k : ℕ) → k ≢ key → open_name k b ≡ open_name k old = λ k differs. ended_name key k by old b ends queues differs in
     record {
       ordered = (orders.Close named ∷ [], are);
@@ -223,10 +223,10 @@ open_tag false a e = refl
 pub its_name : (r : code.Relay) (key : ℕ) (a : Application) → Some a ≡ get r.applications key → a.is_over ≡ false → open_name key (register_in r) ≡ Some a.tag
 its_name r key a is here =
     let s = r.applications in
-    ap (λ (o : Option End). name_with o (slice_index_or (names_in s) key None)) (end_is s key ∙ ap (option_map end_of) (sym is))
-    ∙ ap (λ (n : Option (Option ℕ)). name_with (Some (end_of a)) n) (name_is s key ∙ ap name_of (sym is)) ∙ open_tag a.is_over a here
+    ap (λ (o : Option End). name_with o (slice_index_or (names_in s) key None)) (end_is s key ∙ ap (option_map own_end) (sym is))
+    ∙ ap (λ (n : Option (Option ℕ)). name_with (Some (own_end a)) n) (name_is s key ∙ ap name_of (sym is)) ∙ open_tag a.is_over a here
 
 pub its_end : (r : code.Relay) (key : ℕ) (a : Application) → Some a ≡ get r.applications key → end_at (ends_in r.applications) key ≡ None → ⊥
 its_end r key a is none =
-    let u : Some (end_of a) ≡ None = sym (end_is r.applications key ∙ ap (option_map end_of) (sym is)) ∙ none in
+    let u : Some (own_end a) ≡ None = sym (end_is r.applications key ∙ ap (option_map own_end) (sym is)) ∙ none in
     let v : ⊥ = cc in v

@@ -9,7 +9,7 @@ use Rattle.tds_relay.specs.declared.link.Link.{Link}
 use Rattle.tds_relay.specs.Closings.{KeptBeside}
 use Rattle.tds_relay.specs.Pool.{Pool}
 use Rattle.tds_relay.specs.Few.{Few, FewBy, MayServe, NobodyWaits, NoneNew}
-use Rattle.tds_relay.specs.Reads.{FillsAt, Stays, bytes_on, link_at, waits_on}
+use Rattle.tds_relay.specs.Reads.{FillsAt, LinksStay, bytes_on, link_at, waits_on}
 use Rattle.tds_relay.specs.Sending.{sending_at, sending_of}
 use Rattle.tds_relay.specs.Ties.{IsServed, Serving}
 use Rattle.tds_service.specs.Table.{service_in}
@@ -22,7 +22,7 @@ by_fills o None h e = refl
 by_fills None (Some x) h e = absurd h
 by_fills (Some y) (Some x) h e = absurd (let u : None ≡ Some y = sym e in let v : ⊥ = cc in v)
 
-pub none_stays : (a b : List Link) → Stays a b → NoneNew a b
+pub none_stays : (a b : List Link) → LinksStay a b → NoneNew a b
 none_stays a b s = λ number e. by_fills (waits_on number a) (waits_on number b) (s.fills number) e
 
 pub none_refl : (a : List Link) → NoneNew a a
@@ -46,7 +46,7 @@ none_sending (Some l) e = absurd (let u : None ≡ Some (sending_of l) = sym e i
 pub none_heard : (a b : List Link) → ((number : ℕ) → sending_at number b ≡ sending_at number a) → NoneNew a b
 none_heard a b same = λ number e. none_sending (link_at number b) (same number ∙ none_link (link_at number a) e)
 
-pub none_on : {A E : Type 0} (r : Result A E) (a b c : List Link) → NoneNew a b → OnOk r (Stays b c) → OnOk r (NoneNew a c)
+pub none_on : {A E : Type 0} (r : Result A E) (a b c : List Link) → NoneNew a b → OnOk r (LinksStay b c) → OnOk r (NoneNew a c)
 none_on (Ok x) a b c h s = none_both a b c h (none_stays b c s)
 none_on (Err e) a b c h s = tt
 
@@ -93,7 +93,7 @@ pub few_lent : (m n : ℕ) (a b c : List Link) (d : Pool) (o : Option Served) (s
 few_lent m n a b c d o served e may lent is by few = few_new n served.had a b c d served (subst (λ (k : ℕ). MayServe k b d) e may) (subst (Serving d) is lent) refl by few
 
 -- a connection that somebody had before, or a new one behind all others
-pub few_again : {A E : Type 0} (r : Result A E) (had : Bool) (a b c : List Link) → had ≡ true → NoneNew a b → OnOk r (Stays b c) → OnOk r (FewBy had a c)
+pub few_again : {A E : Type 0} (r : Result A E) (had : Bool) (a b c : List Link) → had ≡ true → NoneNew a b → OnOk r (LinksStay b c) → OnOk r (FewBy had a c)
 few_again (Ok x) had a b c e h s = subst (λ (t : Bool). FewBy t a c) (sym e) (none_both a b c h (none_stays b c s))
 few_again (Err x) had a b c e h s = tt
 

@@ -18,7 +18,7 @@ use Rattle.tds_relay.specs.Core.{holder, is_in}
 use Rattle.tds_relay.specs.Reads.{Carried, StaysAt, answer_at, answer_on, carried_by, carried_there, link_at, queue_on, reader_at, reader_of, waits_on}
 use Rattle.tds_relay.specs.Queues.{Queue, queue_in}
 use Rattle.tds_relay.specs.Ties.{IsReached, IsServed, Serving, Turns, pool_in}
-use Rattle.tds_relay.specs.Closings.{Nobody}
+use Rattle.tds_relay.specs.Closings.{NoKey}
 use Rattle.tds_relay.specs.Promises.{Each}
 use Rattle.tds_relay.proofs.held.Fewer.{none_left, same_left}
 use Rattle.tds_relay.proofs.held.Numbers.{Apart, apart_at}
@@ -335,7 +335,7 @@ pub first_lost : (number : ℕ) (old mid : code.Relay) → mid.pool.holds.items 
 first_lost number old mid e w = λ n. first_off number n old mid e w (cases_eq n number)
 
 -- nothing
-pub first_none : (old mid : code.Relay) → mid.pool.holds.items ≡ old.pool.holds.items → ((n : ℕ) → carried_there n mid.links.items ≡ carried_there n old.links.items) → FirstKeeps Nobody old mid
+pub first_none : (old mid : code.Relay) → mid.pool.holds.items ≡ old.pool.holds.items → ((n : ℕ) → carried_there n mid.links.items ≡ carried_there n old.links.items) → FirstKeeps NoKey old mid
 first_none old mid e w = λ n. inr (ap (find_number n) e, w n)
 
 -- ---- Between relays

@@ -10,7 +10,7 @@ use Rattle.tds_relay.specs.declared.pool.Pool as pools
 use Rattle.tds_relay.specs.declared.pool.Hold.{Hold}
 use Rattle.tds_relay.specs.Pool.{Pool, find_key, find_lease, find_number, key_of, without_number}
 use Rattle.tds_relay.specs.Promises.{Each}
-use Rattle.tds_relay.specs.Sparing.{AllHold, Held, HoldsOn, IsOff, OffHold, OthersHold, held_at, held_by}
+use Rattle.tds_relay.specs.Sparing.{AllHold, HeldConnection, HoldsOn, IsOff, OffHold, OthersHold, held_at, held_with_client}
 use Rattle.tds_relay.specs.Ties.{IsReached, pool_in}
 use Rattle.tds_relay.proofs.ends.Folding.{always_sits}
 use Rattle.tds_relay.proofs.held.Lists.{found_key}
@@ -88,38 +88,38 @@ same_lease d h g at sits number =
 
 -- ---- What is held
 
-held_of : (h : Hold) (o : Option ClientSession) (held : Held) → option_map (λ (c : ClientSession). let x : Held = (h.number, c) in x) o ≡ Some held → (o ≡ Some held.1) × (h.number ≡ held.0)
+held_of : (h : Hold) (o : Option ClientSession) (held : HeldConnection) → option_map (λ (c : ClientSession). let x : HeldConnection = (h.number, c) in x) o ≡ Some held → (o ≡ Some held.1) × (h.number ≡ held.0)
 held_of h None held e = absurd (let u : ⊥ = cc in u)
 held_of h (Some c) held e =
-    let x : Held = (h.number, c) in
+    let x : HeldConnection = (h.number, c) in
     let same : x ≡ held = (let u : Some x ≡ Some held = e in cc) in
-    (ap (λ (y : Held). Some y.1) same, ap (λ (y : Held). y.0) same)
+    (ap (λ (y : HeldConnection). Some y.1) same, ap (λ (y : HeldConnection). y.0) same)
 
-pub record Holds (d : pools.Pool) (key : ℕ) (held : Held) : Type 0 where
+pub record Holds (d : pools.Pool) (key : ℕ) (held : HeldConnection) : Type 0 where
   pub hold : Hold
   pub its : find_key key d.holds.items ≡ Some hold
   pub there : client_of hold.lease d.service ≡ Some held.1
   pub number : hold.number ≡ held.0
 
-holds_by : (d : pools.Pool) (key : ℕ) (held : Held) (o : Option Hold) → find_key key d.holds.items ≡ o → held_by d.service o ≡ Some held → Holds d key held
+holds_by : (d : pools.Pool) (key : ℕ) (held : HeldConnection) (o : Option Hold) → find_key key d.holds.items ≡ o → held_with_client d.service o ≡ Some held → Holds d key held
 holds_by d key held None e is = absurd (let u : ⊥ = cc in u)
 holds_by d key held (Some h) e is =
     let x = held_of h (client_of h.lease d.service) held is in
     record { hold = h; its = e; there = x.0; number = x.1 }
 
-pub holds : (d : pools.Pool) (key : ℕ) (held : Held) → held_at key d ≡ Some held → Holds d key held
+pub holds : (d : pools.Pool) (key : ℕ) (held : HeldConnection) → held_at key d ≡ Some held → Holds d key held
 holds d key held e = holds_by d key held (find_key key d.holds.items) refl e
 
 pub is_held : (d : pools.Pool) (key : ℕ) (h : Hold) (client : ClientSession) → find_key key d.holds.items ≡ Some h → client_of h.lease d.service ≡ Some client → held_at key d ≡ Some (h.number, client)
 is_held d key h client its there =
-    ap (held_by d.service) its ∙ ap (option_map (λ (c : ClientSession). let x : Held = (h.number, c) in x)) there
+    ap (held_with_client d.service) its ∙ ap (option_map (λ (c : ClientSession). let x : HeldConnection = (h.number, c) in x)) there
 
 -- Where a connection that is held stays so, with its client.
 abbrev pub Stays : pools.Pool → pools.Pool → ℕ → Type 0
 Stays d e key = (h : Hold) (client : ClientSession) → find_key key d.holds.items ≡ Some h → client_of h.lease d.service ≡ Some client
     → (find_key key e.holds.items ≡ Some h) × (client_of h.lease e.service ≡ client_of h.lease d.service)
 
-on_by : (d e : pools.Pool) (key : ℕ) (o : Option Held) → held_at key d ≡ o → Stays d e key → HoldsOn key d e
+on_by : (d e : pools.Pool) (key : ℕ) (o : Option HeldConnection) → held_at key d ≡ o → Stays d e key → HoldsOn key d e
 on_by d e key None is stays = inr is
 on_by d e key (Some held) is stays =
     let x = holds d key held is in
@@ -194,7 +194,7 @@ both P Q [] h k = tt
 both P Q (x ∷ xs) h k = ((h.0, k.0), both P Q xs h.1 k.1)
 
 -- who holds a connection, with its client, is who is found by its number
-pub holder_is : (d : pools.Pool) (key : ℕ) (held : Held) → IsReached (pool_in d) → held_at key d ≡ Some held → key_of (find_number held.0 d.holds.items) ≡ Some key
+pub holder_is : (d : pools.Pool) (key : ℕ) (held : HeldConnection) → IsReached (pool_in d) → held_at key d ≡ Some held → key_of (find_number held.0 d.holds.items) ≡ Some key
 holder_is d key held reached e =
     let sound : Sound (pool_in d) = sound_at (pool_in d) reached in
     let sit : AllSit (pool_in d) = sits_at (pool_in d) reached in
@@ -217,7 +217,7 @@ holder_is d key held reached e =
 pub off_others : (d : pools.Pool) (key other : ℕ) (g : Hold) → IsReached (pool_in d) → find_key key d.holds.items ≡ Some g → other ≢ key → IsOff g.number other d
 off_others d key other g reached its differs = λ client e.
     let sound : Sound (pool_in d) = sound_at (pool_in d) reached in
-    let held : Held = (g.number, client) in
+    let held : HeldConnection = (g.number, client) in
     let x = holds d other held e in
     let at : Seated (pool_in d) x.hold = seated d other x.hold client sound x.its x.there in
     let sits : Sits (pool_in d).service g = each_key (λ (y : Hold). Sits (pool_in d).service y) key g d.holds.items (sits_at (pool_in d) reached) its in
@@ -270,7 +270,7 @@ lost_off number d e left keeps = record {
       holds_on d e key (λ h client its there.
       let sound : Sound (pool_in d) = sound_at (pool_in d) reached in
       let at : Seated (pool_in d) h = seated d key h client sound its there in
-      let differs : h.number ≢ number = λ same. off client (is_held d key h client its there ∙ ap (λ (n : ℕ). let held : Held = (n, client) in Some held) same) in (
+      let differs : h.number ≢ number = λ same. off client (is_held d key h client its there ∙ ap (λ (n : ℕ). let held : HeldConnection = (n, client) in Some held) same) in (
         ap (find_key key) left ∙ kept_key (λ (x : Hold). not (x.number == number)) key h d.holds.items its (not_equal (h.number == number) h.number number refl differs),
         keeps h.lease at.seat at.found (λ same. differs (at.number ∙ same)),
       ));

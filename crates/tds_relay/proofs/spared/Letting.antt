@@ -12,7 +12,7 @@ use Rattle.tds_relay.specs.declared.relay.Relay as code
 use Rattle.tds_relay.specs.Bodies.{AskAsBefore, AskOn, Body, Closed, Spared, Starts, body_in, body_of, going_of}
 use Rattle.tds_relay.specs.Pool as pool
 use Rattle.tds_relay.specs.Pool.{Pool, find_key, find_number, key_of}
-use Rattle.tds_relay.specs.Sparing.{AllGo, AllRest, Held, HoldsOn, IsOff, OthersHold, OthersRest, Rests, SendsOn, held_at}
+use Rattle.tds_relay.specs.Sparing.{AllGo, AllRest, HeldConnection, HoldsOn, IsOff, OthersHold, OthersRest, Rests, SendsOn, held_at}
 use Rattle.tds_relay.specs.Ties.{Application as ByApplication, IsNumberOf, IsReached, Turns, pool_in}
 use Rattle.tds_relay.proofs.spared.Held.{holder_is}
 use Rattle.tds_relay.proofs.steps.Reaching.{reached_on, reaches_turn}
@@ -20,7 +20,7 @@ use Rattle.tds_relay.proofs.spared.Resting.{AsksAt, all_others, go_one, going_is
 
 -- ---- A connection that is let go
 
-sent_held : (key number : ℕ) (old mid new : code.Relay) (held : Held) → (held.0 ≡ number) ⊎ (held.0 ≢ number) → held_at key old.pool ≡ Some held → IsReached (pool_in old.pool) → mid.pool ≡ old.pool → AsksAt key old mid
+sent_held : (key number : ℕ) (old mid new : code.Relay) (held : HeldConnection) → (held.0 ≡ number) ⊎ (held.0 ≢ number) → held_at key old.pool ≡ Some held → IsReached (pool_in old.pool) → mid.pool ≡ old.pool → AsksAt key old mid
     → ((other : ℕ) → other ≢ number → waits_on other mid.links.items ≡ waits_on other old.links.items) → AllRest mid new
     → ((k : ℕ) → key_of (find_number number (pool_in mid.pool).holds) ≡ Some k → (goes : Body) → body_in (get new.applications k) goes ≡ Closed) → Rests (body_of key old) (body_of key new)
 sent_held key number old mid new held (inl same) e reached at asks waits all shuts =
@@ -29,12 +29,12 @@ sent_held key number old mid new held (inl same) e reached at asks waits all shu
     inl (inr (shuts key whose (going_of key new)))
 sent_held key number old mid new held (inr differs) e reached at asks waits all shuts =
     let off : IsOff number key old.pool = λ client is.
-    let x : Held = (number, client) in
+    let x : HeldConnection = (number, client) in
     let same : held ≡ x = (let u : Some held ≡ Some x = sym e ∙ is in cc) in
-    differs (ap (λ (y : Held). y.0) same) in
+    differs (ap (λ (y : HeldConnection). y.0) same) in
     rests_both (body_of key old) (body_of key mid) (body_of key new) (off_rests number key old mid off (inl (ap (held_at key) at)) waits asks) (all.rest key)
 
-sent_at : (key number : ℕ) (old mid new : code.Relay) (p : Option Held) → held_at key old.pool ≡ p → IsReached (pool_in old.pool) → mid.pool ≡ old.pool → AsksAt key old mid
+sent_at : (key number : ℕ) (old mid new : code.Relay) (p : Option HeldConnection) → held_at key old.pool ≡ p → IsReached (pool_in old.pool) → mid.pool ≡ old.pool → AsksAt key old mid
     → ((other : ℕ) → other ≢ number → waits_on other mid.links.items ≡ waits_on other old.links.items) → AllRest mid new
     → ((k : ℕ) → key_of (find_number number (pool_in mid.pool).holds) ≡ Some k → (goes : Body) → body_in (get new.applications k) goes ≡ Closed) → Rests (body_of key old) (body_of key new)
 sent_at key number old mid new None e reached at asks waits all shuts =

@@ -17,8 +17,8 @@ use Rattle.tds_relay.specs.declared.pool.coming.What.TheVariants as whats
 use Rattle.tds_relay.specs.declared.relay.Relay as code
 use Rattle.tds_relay.specs.Pool as pool
 use Rattle.tds_relay.specs.Pool.{Pool, turn}
-use Rattle.tds_relay.specs.Fronts.{end_of}
-use Rattle.tds_relay.specs.Core.{End, Ends, IfOpen, IsBegun, Open, Over, change_whose, closes, end_at, is_in}
+use Rattle.tds_relay.specs.Fronts.{own_end}
+use Rattle.tds_relay.specs.Core.{End, EndList, IfOpen, IsBegun, Open, Over, change_whose, closes, end_at, is_in}
 use Rattle.tds_relay.specs.Reasons.{IsUnbegun}
 use Rattle.tds_relay.specs.Taking.{IsDeaf}
 use Rattle.tds_relay.specs.Ties.{pool_in}
@@ -46,9 +46,9 @@ closed_by None = tt
 closed_by (Some (Open front withdrawn asks)) = tt
 closed_by (Some (Over why)) = tt
 
-pub lost_deaf : (key : ℕ) (o : Option ℕ) (es fs : Ends) → fs ≡ change_whose o closes es → o ≡ Some key → IsDeaf (end_at fs key)
+pub lost_deaf : (key : ℕ) (o : Option ℕ) (es fs : EndList) → fs ≡ change_whose o closes es → o ≡ Some key → IsDeaf (end_at fs key)
 lost_deaf key o es fs is whose =
-    subst IsDeaf (sym (ap (λ (x : Ends). end_at x key) (is ∙ ap (λ (p : Option ℕ). change_whose p closes es) whose) ∙ changed_at es key closes)) (closed_by (end_at es key))
+    subst IsDeaf (sym (ap (λ (x : EndList). end_at x key) (is ∙ ap (λ (p : Option ℕ). change_whose p closes es) whose) ∙ changed_at es key closes)) (closed_by (end_at es key))
 
 pub same_key : (a b : ℕ) (o : Option ℕ) → Some a ≡ o → o ≡ Some b → a ≡ b
 same_key a b o e f = let u : Some a ≡ Some b = e ∙ f in cc
@@ -91,5 +91,5 @@ open_begun : (over : Bool) (why : Option FrontFault) (front : Front) (withdrawn 
 open_begun true why front withdrawn asks here b u = let v : ⊥ = cc in v
 open_begun false why front withdrawn asks here b u = not_begun front.stage b u
 
-pub begun_not : (a : Application) → a.is_over ≡ false → IfOpen IsBegun (Some (end_of a)) → IfOpen (IsUnbegun false) (Some (end_of a)) → ⊥
+pub begun_not : (a : Application) → a.is_over ≡ false → IfOpen IsBegun (Some (own_end a)) → IfOpen (IsUnbegun false) (Some (own_end a)) → ⊥
 begun_not a here b u = open_begun a.is_over a.fault a.front a.is_withdrawn a.reset here b u

@@ -8,10 +8,10 @@ use Rattle.tds_relay.specs.declared.pool.Hold.{Hold}
 use Rattle.tds_relay.specs.declared.pool.Served.{Served}
 use Rattle.tds_relay.specs.Closings.{IsWaiting, Itself}
 use Rattle.tds_relay.specs.Pool as pool
-use Rattle.tds_relay.specs.Pool.{Action, Pool, Event, Hearing, Loan, Way, brings_by, comes, comes_by, pool_after, does, find_key, hearing, keeps_by, leaves, lent_in, renews, renews_by, serves, serves_by, ticket_in, turn}
+use Rattle.tds_relay.specs.Pool.{Action, Pool, Event, Hearing, Loan, Way, brings_by, packet_comes, comes_by, pool_after, holder_does, find_key, hearing, keeps_by, leaves, lent_in, renews, renews_by, serves, serves_by, ticket_in, turn}
 use Rattle.tds_relay.specs.Core.{Core, is_in}
 use Rattle.tds_relay.specs.Promises.{Each}
-use Rattle.tds_relay.specs.Ties.{Application, Cause, Causes, CausesRequest, Goes, GoesOn, Leaving, Neither, Reaches, Serving}
+use Rattle.tds_relay.specs.Ties.{Application, Cause, Causes, CausesRequest, LedTo, LedOn, Leaving, Neither, Reaches, Serving}
 use Rattle.tds_relay.proofs.spared.Apart.{Unserved}
 
 or_first : (a b : Bool) → (a || b) ≡ false → a ≡ false
@@ -59,7 +59,7 @@ brought_line d e gives way is =
     let lent = step {T = Token} d.service calls.Lease in
     ap (λ (x : Pool). x.line) is ∙ brings_line d lent.service gives way (lent_in lent.reply)
 
-does_line : (d : Pool) (action : Action) (o : Option Hold) → (does d action o).pool.line ≡ d.line
+does_line : (d : Pool) (action : Action) (o : Option Hold) → (holder_does d action o).pool.line ≡ d.line
 does_line d action None = refl
 does_line d action (Some h) = refl
 
@@ -114,7 +114,7 @@ events_out : (by : Cause) (key : ℕ) (d : Pool) (events : List Event) → (Caus
 events_out by key d [] none caused e = e
 events_out by key d (event ∷ events) none caused e = events_out by key (turn d event).pool events none caused.1 (turn_out by key d event none caused.0 e)
 
-goes_out : (by : Cause) (key : ℕ) (old new : Pool) → (CausesRequest by key → ⊥) → Goes by old new → is_in key old.line ≡ false → is_in key new.line ≡ false
+goes_out : (by : Cause) (key : ℕ) (old new : Pool) → (CausesRequest by key → ⊥) → LedTo by old new → is_in key old.line ≡ false → is_in key new.line ≡ false
 goes_out by key old new none goes e =
     let r : Reaches by old new = goes old (record { events = []; are = refl; caused = tt }) in
     ap (λ (d : Pool). is_in key d.line) (sym r.are) ∙ events_out by key old r.events none r.caused e
@@ -124,10 +124,10 @@ was_in true key ks qs e out there = e
 was_in false key ks qs e out there = absurd (let u : false ≡ true = sym (out e) ∙ there in let v : ⊥ = cc in v)
 
 -- whoever waits did before
-pub waited : (by : Cause) (old new : Pool) (key : ℕ) → (CausesRequest by key → ⊥) → Goes by old new → IsWaiting new.line key → IsWaiting old.line key
+pub waited : (by : Cause) (old new : Pool) (key : ℕ) → (CausesRequest by key → ⊥) → LedTo by old new → IsWaiting new.line key → IsWaiting old.line key
 waited by old new key none goes there = was_in (is_in key old.line) key old.line new.line refl (goes_out by key old new none goes) there
 
-pub waited_on : (old new : Pool) → GoesOn old new → (key : ℕ) → IsWaiting new.line key → IsWaiting old.line key
+pub waited_on : (old new : Pool) → LedOn old new → (key : ℕ) → IsWaiting new.line key → IsWaiting old.line key
 waited_on old new goes key there = waited Neither old new key (λ none. none) (goes Neither) there
 
 pub waited_left : (left : ℕ) (old new : Pool) → Leaving left old new → (key : ℕ) → IsWaiting new.line key → IsWaiting old.line key
@@ -139,12 +139,12 @@ waited_left left old new l key there =
 abbrev pub ItselfOrWaiting : ℕ → List ℕ → ℕ → Type 0
 ItselfOrWaiting key line other = Itself key other ⊎ IsWaiting line other
 
-itself_or : (asking : ℕ) (old new : Pool) (key : ℕ) → (key ≡ asking) ⊎ (key ≢ asking) → Goes (Application asking) old new → IsWaiting new.line key → ItselfOrWaiting asking old.line key
+itself_or : (asking : ℕ) (old new : Pool) (key : ℕ) → (key ≡ asking) ⊎ (key ≢ asking) → LedTo (Application asking) old new → IsWaiting new.line key → ItselfOrWaiting asking old.line key
 itself_or asking old new key (inl same) goes there = inl same
 itself_or asking old new key (inr differs) goes there = inr (waited (Application asking) old new key (λ same. differs (sym same)) goes there)
 
 -- or it is the one that asks
-pub waited_or : (asking : ℕ) (old new : Pool) → Goes (Application asking) old new → (key : ℕ) → IsWaiting new.line key → ItselfOrWaiting asking old.line key
+pub waited_or : (asking : ℕ) (old new : Pool) → LedTo (Application asking) old new → (key : ℕ) → IsWaiting new.line key → ItselfOrWaiting asking old.line key
 waited_or asking old new goes key there = itself_or asking old new key (cases_eq key asking) goes there
 
 is_first : (key : ℕ) (others : List ℕ) → is_in key (key ∷ others) ≡ true

@@ -29,7 +29,7 @@ use Rattle.tds_relay.specs.declared.pool.Pool as pools
 use Rattle.tds_relay.specs.Cleaning.{MayClean}
 use Rattle.tds_relay.specs.Closings.{ClosesOnly, IsWho, register_in}
 use Rattle.tds_relay.specs.Fronts.{ends_in, machine_in, machine_with, told_by}
-use Rattle.tds_relay.specs.Core.{End, Ends, Open, Over, end_at, holder}
+use Rattle.tds_relay.specs.Core.{End, EndList, Open, Over, end_at, holder}
 use Rattle.tds_relay.specs.Handing.{HearsBy, IsNothing}
 use Rattle.tds_relay.specs.Machine.{Machine}
 use Rattle.tds_relay.specs.Queues.{Queues, queue_at, queues_in}
@@ -65,13 +65,13 @@ heard_as (Ok x) Idle number piece place l m old new is value opened h =
     inr (record { link = l; there = at.found l ∙ ap Some (sym value); is_open = opened; next = m; count = x.0; hears = h })
 heard_as (Err e) Idle number piece place l m old new is value opened h = tt
 
-full_by : (what : What) (key : Option ℕ) (ends : Ends) (queues : Queues) (other : ℕ) → key ≡ Some other → IsOverfull (queue_at queues other) → LosesBy what key ends queues other
+full_by : (what : What) (key : Option ℕ) (ends : EndList) (queues : Queues) (other : ℕ) → key ≡ Some other → IsOverfull (queue_at queues other) → LosesBy what key ends queues other
 full_by whats.Goes key ends queues other its full = (its, full)
 full_by whats.Finished key ends queues other its full = (its, full)
 full_by whats.Acknowledged key ends queues other its full = (its, full)
 full_by whats.Closed key ends queues other its full = its
 
-as_heard : (number : ℕ) (d : Pool) (o : Option Heard) (h : Heard) (ends : Ends) (queues : Queues) (other : ℕ) → o ≡ Some h → LosesBy h.what h.key ends queues other → LosesFor number o d ends queues other
+as_heard : (number : ℕ) (d : Pool) (o : Option Heard) (h : Heard) (ends : EndList) (queues : Queues) (other : ℕ) → o ≡ Some h → LosesBy h.what h.key ends queues other → LosesFor number o d ends queues other
 as_heard number d o h ends queues other is loses = subst (λ (x : Option Heard). LosesFor number x d ends queues other) (sym is) loses
 
 -- who is written to is full
@@ -164,18 +164,18 @@ holder_whose d ls number other s there is =
 
 -- ---- In a call
 
-nothing_key : (key : Option ℕ) (what : What) (ends : Ends) (queues : Queues) (other : ℕ) → key ≡ None → what ≡ whats.Goes → LosesBy what key ends queues other → ⊥
+nothing_key : (key : Option ℕ) (what : What) (ends : EndList) (queues : Queues) (other : ℕ) → key ≡ None → what ≡ whats.Goes → LosesBy what key ends queues other → ⊥
 nothing_key key what ends queues other none goes loses =
     let x = subst (λ (w : What). LosesBy w key ends queues other) goes loses in
     (let u : None ≡ Some other = sym none ∙ x.0 in cc)
 
 -- of what nothing came nobody is
-of_nothing : (number : ℕ) (left : List ℕ) (o : Option Heard) (mid : code.Relay) (d : Pool) (ends : Ends) (queues : Queues) (other : ℕ) → HearsNothing o → LosesFor number o d ends queues other → LosesOn number left mid other
+of_nothing : (number : ℕ) (left : List ℕ) (o : Option Heard) (mid : code.Relay) (d : Pool) (ends : EndList) (queues : Queues) (other : ℕ) → HearsNothing o → LosesFor number o d ends queues other → LosesOn number left mid other
 of_nothing number left None mid d ends queues other none loses = absurd none
 of_nothing number left (Some h) mid d ends queues other none loses = absurd (nothing_key h.key h.what ends queues other none.0 none.1 loses)
 
 -- who holds it where a header isn't one held it before
-for_before : (number : ℕ) (left : List ℕ) (o : Option Heard) (mid next : code.Relay) (new : Machine) (ends : Ends) (queues : Queues) (other : ℕ) → IsHeardAs number left o mid new → pool_in next.pool ≡ new.core.pool
+for_before : (number : ℕ) (left : List ℕ) (o : Option Heard) (mid next : code.Relay) (new : Machine) (ends : EndList) (queues : Queues) (other : ℕ) → IsHeardAs number left o mid new → pool_in next.pool ≡ new.core.pool
     → LosesFor number o (pool_in next.pool) ends queues other → LosesFor number o (pool_in mid.pool) ends queues other
 for_before number left None mid next new ends queues other heard is loses = ap (λ (d : Pool). holder d number) (sym (is ∙ ap (λ (h : Machine). h.core.pool) heard.hears.1)) ∙ loses
 for_before number left (Some h) mid next new ends queues other heard is loses = loses
@@ -230,7 +230,7 @@ sending_or number left o mid next new other s (inl idle) is who cleans sends = a
 sending_or number left o mid next new other s (inr heard) is who cleans sends = by_sending number left next.outbox.items o mid next new other s heard is who cleans sends
 
 -- nothing goes out to who took something back
-held_idle : (number : ℕ) (left out : List ℕ) (h : Heard) (mid : code.Relay) (new : Machine) (ends : Ends) → IsHeardAs number left (Some h) mid new → HasTakenBack h.key ends → MayClean (whose (pool_in mid.pool) number) [] out → out ≡ []
+held_idle : (number : ℕ) (left out : List ℕ) (h : Heard) (mid : code.Relay) (new : Machine) (ends : EndList) → IsHeardAs number left (Some h) mid new → HasTakenBack h.key ends → MayClean (whose (pool_in mid.pool) number) [] out → out ≡ []
 held_idle number left out h mid new ends heard taken (inl same) = same
 held_idle number left out h mid new ends heard taken (inr cleans) =
     absurd (elim heard.hears.brings [
@@ -243,7 +243,7 @@ resumes_by : (number : ℕ) (left : List ℕ) (h : Heard) (mid next : code.Relay
     → ResumesAt number (Some h) next other → LosesOn number left mid other
 resumes_by number left h mid next new other heard pool told ends cleans same asks at =
     let lasts : h.what ≢ whats.Closed = λ e. (let u : whats.Acknowledged ≡ whats.Closed = sym at.0 ∙ e in cc) in
-    OfResuming h new heard at.0 (subst (λ (es : Ends). HasTakenBack h.key es) ends at.1) next.pool pool
+    OfResuming h new heard at.0 (subst (λ (es : EndList). HasTakenBack h.key es) ends at.1) next.pool pool
     (not_as number h.key (told_by (Some h) (ends_in next.applications)) new.core.ends next.pool mid.links.items next.links.items (body_of other next) (body_of other mid) other told same (kept_asks other next mid asks)
     (at.2 (held_idle number left next.outbox.items h mid new (ends_in next.applications) heard at.1 (cleans lasts))))
 
@@ -262,11 +262,11 @@ loses_or : (number : ℕ) (left : List ℕ) (o : Option Heard) (mid next : code.
     → KeepsQueues mid.links.items next.links.items → AskAsBefore mid.applications next.applications → IsSeated mid → LosesAt number o next other → LosesOn number left mid other
 loses_or number left o mid next new other heard pool told ends queues cleans same asks s (inl loses) =
     by_packet number left o mid next new other (IsIdle mid next) heard pool
-    (subst (λ (ps : Queues). LosesFor number o (pool_in next.pool) (ends_in mid.applications) ps other) queues (subst (λ (es : Ends). LosesFor number o (pool_in next.pool) es (queues_in next.applications) other) ends loses))
+    (subst (λ (ps : Queues). LosesFor number o (pool_in next.pool) (ends_in mid.applications) ps other) queues (subst (λ (es : EndList). LosesFor number o (pool_in next.pool) es (queues_in next.applications) other) ends loses))
 loses_or number left o mid next new other heard pool told ends queues cleans same asks s (inr (inl x)) = sending_or number left o mid next new other s heard pool x.0 cleans x.1
 loses_or number left o mid next new other heard pool told ends queues cleans same asks s (inr (inr at)) = resumes_or number left o mid next new other heard pool told ends cleans same asks at
 
-pub loses_by : (number : ℕ) (left : List ℕ) (o : Option Heard) (mid next : code.Relay) (es : Ends) (other : ℕ) → (HearsNothing o × IsIdle mid next) ⊎ IsHeardAs number left o mid (machine_with (pool_in next.pool) (told_by o es) (queues_in next.applications))
+pub loses_by : (number : ℕ) (left : List ℕ) (o : Option Heard) (mid next : code.Relay) (es : EndList) (other : ℕ) → (HearsNothing o × IsIdle mid next) ⊎ IsHeardAs number left o mid (machine_with (pool_in next.pool) (told_by o es) (queues_in next.applications))
     → es ≡ ends_in mid.applications → ends_in next.applications ≡ ends_in mid.applications → Cleans (whose (pool_in mid.pool) number) o [] next.outbox.items → KeepsQueues mid.links.items next.links.items
     → AskAsBefore mid.applications next.applications → IsSeated mid → LosesAt number o next other → LosesOn number left mid other
 loses_by number left o mid next es other heard was ends cleans same asks s why =

@@ -9,7 +9,7 @@ use Rattle.tds_service.specs.declared.seat.Seat as seats
 use Rattle.tds_service.specs.declared.service.Service as services
 use Rattle.tds_service.specs.History.{line_after}
 use Rattle.tds_service.specs.Line as line
-use Rattle.tds_service.specs.Line.{Line, Stage, marks}
+use Rattle.tds_service.specs.Line.{Line, LineStage, marks}
 use Rattle.tds_service.specs.Service as calls
 use Rattle.tds_service.specs.Service.{Cleaning, Draining, Free, Place, Seat, Service, find_by, has_lease, has_number, is_idle, is_lendable, does, nothing, rests, step}
 use Rattle.tds_service.specs.Table.{client_by, client_of, seat_in, seats_in, service_in}
@@ -96,7 +96,7 @@ module _ (lease : ℕ) (s : services.Service) (client : ClientSession) (there : 
       → rests (line.cancels {T = Token} (line_at lease s client there).seat.line (stage_of client.stage)).line.stage ≡ place
   back_stage place reply =
       let x = line_at lease s client there in
-      ap (λ (t : Stage). rests (line.cancels {T = Token} x.seat.line t).line.stage) (sym x.stage) ∙ back_is (service_in s) (has_lease lease) x.seat place x.found reply
+      ap (λ (t : LineStage). rests (line.cancels {T = Token} x.seat.line t).line.stage) (sym x.stage) ∙ back_is (service_in s) (has_lease lease) x.seat place x.found reply
 
   pub free_once : (step {T = Token} (service_in s) (calls.GiveBack lease)).reply ≡ calls.Back (Some Free) → rests_once client.stage ≡ true
   free_once reply = at_rest (line_at lease s client there).seat.line client.stage (line_at lease s client there).stage (back_stage (Some Free) reply)
@@ -109,7 +109,7 @@ module _ (lease : ℕ) (s : services.Service) (client : ClientSession) (there : 
 abbrev IsMarked : ℕ → Seat → Type 0
 IsMarked lease c = has_lease lease c ≡ true → c.line.heard.mark ≡ Some Full
 
-marked_by : (l : Line) (stage : Stage) → is_idle stage ≡ true → (marks {T = Token} l Full stage).line.heard.mark ≡ Some Full
+marked_by : (l : Line) (stage : LineStage) → is_idle stage ≡ true → (marks {T = Token} l Full stage).line.heard.mark ≡ Some Full
 marked_by l line.Idle e = refl
 marked_by l (line.Sending begun) e = absurd (let u : ⊥ = cc in u)
 marked_by l line.Reading e = absurd (let u : ⊥ = cc in u)

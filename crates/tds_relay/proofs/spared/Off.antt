@@ -9,14 +9,14 @@ use Rattle.tds_relay.specs.declared.relay.Relay as code
 use Rattle.tds_relay.specs.Bodies.{AskAsBefore, AskOn, Body, Starts, Stays, body_of}
 use Rattle.tds_relay.specs.Pool as pool
 use Rattle.tds_relay.specs.Fronts.{ends_in, core_in, machine_with, told_by}
-use Rattle.tds_relay.specs.Core.{Ends, change_whose, holder, told}
+use Rattle.tds_relay.specs.Core.{EndList, change_whose, holder, end_told}
 use Rattle.tds_relay.specs.Handing.{heard_key}
 use Rattle.tds_relay.specs.Queues.{queues_in}
 use Rattle.tds_relay.specs.Reads.{bytes_on, link_at, waits_on}
 use Rattle.tds_relay.specs.Reasons.{HearsNothing, IsHeardAs, IsIdle}
-use Rattle.tds_relay.specs.Sending.{Sending, sending_at, sending_of}
-use Rattle.tds_relay.specs.Sparing.{AllGo, AllRest, Held, IsOff, OffGo, OffHold, OthersRest, Rests, SendsOn, held_at}
-use Rattle.tds_relay.specs.Ties.{Connection, Goes, GoesOn, IsReached, Turns, pool_in}
+use Rattle.tds_relay.specs.Sending.{NamedWaiting, sending_at, sending_of}
+use Rattle.tds_relay.specs.Sparing.{AllGo, AllRest, HeldConnection, IsOff, OffGo, OffHold, OthersRest, Rests, SendsOn, held_at}
+use Rattle.tds_relay.specs.Ties.{Connection, LedTo, LedOn, IsReached, Turns, pool_in}
 use Rattle.tds_relay.proofs.spared.Held.{holder_is}
 use Rattle.tds_relay.proofs.spared.Only.{HeardApart, apart_or, spares_changed, spares_renewed, spares_sent}
 use Rattle.tds_relay.proofs.spared.Resting.{AsksAt, asks_on, off_rests, put_reached, rests_start, starts_both}
@@ -71,7 +71,7 @@ renewed_off (Err e) number key resumes a b c rests t ends k = tt
 -- whoever doesn't hold it doesn't by his client either
 pub off_held : (number key : ℕ) (d : pools.Pool) → IsReached (pool_in d) → holder (pool_in d) number ≢ Some key → IsOff number key d
 off_held number key d reached o client e =
-    let held : Held = (number, client) in
+    let held : HeldConnection = (number, client) in
     o (holder_is d key held reached e)
 
 -- something is done on that connection alone
@@ -132,27 +132,27 @@ waits_off number who a b c h same = record { go = λ reached key w o. subst (λ 
 
 -- ---- A packet
 
-sent_by : (l : Option Link) → option_map (λ (s : Sending). s.1) (option_map sending_of l) ≡ option_map bytes_on l
+sent_by : (l : Option Link) → option_map (λ (s : NamedWaiting). s.1) (option_map sending_of l) ≡ option_map bytes_on l
 sent_by None = refl
 sent_by (Some l) = refl
 
 pub waits_sent : (other : ℕ) (old new : List Link) → sending_at other new ≡ sending_at other old → waits_on other new ≡ waits_on other old
 waits_sent other old new same =
-    sym (sent_by (link_at other new)) ∙ ap (option_map (λ (s : Sending). s.1)) same ∙ sent_by (link_at other old)
+    sym (sent_by (link_at other new)) ∙ ap (option_map (λ (s : NamedWaiting). s.1)) same ∙ sent_by (link_at other old)
 
 -- it is told to whom it comes, and what goes out is sent
-pub sent_off : (number : ℕ) (o : Option Heard) (h : Heard) (a t b : code.Relay) → o ≡ Some h → t.pool ≡ a.pool → t.links.items ≡ a.links.items → ends_in t.applications ≡ change_whose h.key (told h.what) (ends_in a.applications)
+pub sent_off : (number : ℕ) (o : Option Heard) (h : Heard) (a t b : code.Relay) → o ≡ Some h → t.pool ≡ a.pool → t.links.items ≡ a.links.items → ends_in t.applications ≡ change_whose h.key (end_told h.what) (ends_in a.applications)
     → ((key : ℕ) → h.key ≢ Some key → AsksAt key a t) → (IsReached (pool_in t.pool) → SendsOn number t b) → AskOn t.applications b.applications → OffGo number (heard_key o) a b
 sent_off number o h a t b is at links ends tells sends asks =
     let led : IsReached (pool_in a.pool) → IsReached (pool_in t.pool) = λ reached. subst (λ (d : pools.Pool). IsReached (pool_in d)) (sym at) reached in
-    let spares : SparesOthers number h.key (core_in a) (core_in t) = spares_changed number h.key (told h.what) (core_in a) (core_in t) (ap pool_in at) ends in
+    let spares : SparesOthers number h.key (core_in a) (core_in t) = spares_changed number h.key (end_told h.what) (core_in a) (core_in t) (ap pool_in at) ends in
     subst (λ (x : Option Heard). OffGo number (heard_key x) a b) (sym is)
     (off_then number h.key a t b (told_off number h.key a t at links tells) spares led (sends_off number h.key t b sends asks))
 
 -- and something behind that
 pub behind_sent : {A E : Type 0} (r : Result A E) (number : ℕ) (o : Option Heard) (h : Heard) (a t b c : code.Relay) → o ≡ Some h → t.pool ≡ a.pool → t.links.items ≡ a.links.items
-    → ends_in t.applications ≡ change_whose h.key (told h.what) (ends_in a.applications) → ((key : ℕ) → h.key ≢ Some key → AsksAt key a t) → (IsReached (pool_in t.pool) → SendsOn number t b) → AskOn t.applications b.applications
-    → GoesOn (pool_in t.pool) (pool_in b.pool) → SparesOthers number None (core_in t) (core_in b) → OnOk r (OffGo number (heard_key o) b c) → OnOk r (OffGo number (heard_key o) a c)
+    → ends_in t.applications ≡ change_whose h.key (end_told h.what) (ends_in a.applications) → ((key : ℕ) → h.key ≢ Some key → AsksAt key a t) → (IsReached (pool_in t.pool) → SendsOn number t b) → AskOn t.applications b.applications
+    → LedOn (pool_in t.pool) (pool_in b.pool) → SparesOthers number None (core_in t) (core_in b) → OnOk r (OffGo number (heard_key o) b c) → OnOk r (OffGo number (heard_key o) a c)
 behind_sent r number o h a t b c is at links ends tells sends asks goes spares done =
     off_then_on r number (heard_key o) a b c (sent_off number o h a t b is at links ends tells sends asks) (spares_sent number o h a t b is at ends spares)
     (λ reached. put_reached t.pool b.pool b.pool goes refl (subst (λ (d : pools.Pool). IsReached (pool_in d)) (sym at) reached)) done
@@ -163,9 +163,9 @@ whose_off (Ok x) number o h key a b is its k = subst (λ (w : Option ℕ). OffGo
 whose_off (Err e) number o h key a b is its k = tt
 
 -- one behind the others
-pub one_off : (number : ℕ) (left : List ℕ) (o : Option Heard) (first a b c : code.Relay) (es : Ends) → Goes (Connection number) (pool_in first.pool) (pool_in a.pool) → OffGo number None first a
+pub one_off : (number : ℕ) (left : List ℕ) (o : Option Heard) (first a b c : code.Relay) (es : EndList) → LedTo (Connection number) (pool_in first.pool) (pool_in a.pool) → OffGo number None first a
     → (IsReached (pool_in first.pool) → SparesOthers number None (core_in first) (core_in a))
-    → (HearsNothing o × IsIdle a b) ⊎ IsHeardAs number left o a (machine_with (pool_in b.pool) (told_by o es) (queues_in b.applications)) → Goes (Connection number) (pool_in a.pool) (pool_in b.pool)
+    → (HearsNothing o × IsIdle a b) ⊎ IsHeardAs number left o a (machine_with (pool_in b.pool) (told_by o es) (queues_in b.applications)) → LedTo (Connection number) (pool_in a.pool) (pool_in b.pool)
     → OffHold number a.pool b.pool → ((other : ℕ) → sending_at other b.links.items ≡ sending_at other a.links.items) → AskAsBefore a.applications b.applications
     → OffGo number (heard_key o) b c → OffGo number None first c
 one_off number left o first a b c es before had spares hears goes holds sends asks done = record {
@@ -180,7 +180,7 @@ one_off number left o first a b c es before had spares hears goes holds sends as
 }
 
 -- and those who wait are served
-pub served_off : {A E : Type 0} (r : Result A E) (number : ℕ) (a b c : code.Relay) → Goes (Connection number) (pool_in a.pool) (pool_in b.pool) → OffGo number None a b → OnOk r (AllGo b c) → OnOk r (OffGo number None a c)
+pub served_off : {A E : Type 0} (r : Result A E) (number : ℕ) (a b c : code.Relay) → LedTo (Connection number) (pool_in a.pool) (pool_in b.pool) → OffGo number None a b → OnOk r (AllGo b c) → OnOk r (OffGo number None a c)
 served_off (Ok x) number a b c goes h k = record {
   go = λ reached key w o. starts_both (h.go reached key w o) (k.go (reached_on (Connection number) (pool_in a.pool) (pool_in b.pool) goes reached) key);
 }

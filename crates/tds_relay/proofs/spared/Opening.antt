@@ -9,13 +9,13 @@ use Rattle.tds_relay.specs.declared.link.Link.{Link}
 use Rattle.tds_relay.specs.declared.order.Order.{Order}
 use Rattle.tds_relay.specs.declared.order.Order.TheVariants as orders
 use Rattle.tds_relay.specs.declared.relay.Relay as code
-use Rattle.tds_relay.specs.Reads.{Stays}
+use Rattle.tds_relay.specs.Reads.{LinksStay}
 use Rattle.tds_relay.specs.Pool as pool
 use Rattle.tds_relay.specs.Pool.{Pool, Event, lent_in, pool_after, releasing}
 use Rattle.tds_relay.specs.Fronting.{calls_along}
 use Rattle.tds_relay.specs.Ordering.{GrowsByOrders, OpensAbove, OpensNew, Rise, opens_if, opens_in}
 use Rattle.tds_relay.specs.Cleaning.{IsLentBy}
-use Rattle.tds_relay.specs.Ties.{Cause, Goes, GoesOn, IsReached, Leaving, Neither, Reaches, Serving, Turns, pool_in}
+use Rattle.tds_relay.specs.Ties.{Cause, LedTo, LedOn, IsReached, Leaving, Neither, Reaches, Serving, Turns, pool_in}
 use Rattle.tds_relay.proofs.bytes.Walking.{Leaves, step_leaves}
 use Rattle.tds_relay.proofs.promises.Seats.{each_found}
 use Rattle.tds_relay.proofs.promises.Tidy.{Tidy, UpTo}
@@ -69,10 +69,10 @@ along_last d events = subst (λ (s : Service). d.service.last ≤ s.last) (sym (
 reaches_last : (by : Cause) (d e : Pool) → Reaches by d e → d.service.last ≤ e.service.last
 reaches_last by d e r = subst (λ (x : Pool). d.service.last ≤ x.service.last) r.are (along_last d r.events)
 
-pub goes_last : (by : Cause) (d e : Pool) → Goes by d e → d.service.last ≤ e.service.last
+pub goes_last : (by : Cause) (d e : Pool) → LedTo by d e → d.service.last ≤ e.service.last
 goes_last by d e g = reaches_last by d e (g d (record { events = []; are = refl; caused = tt }))
 
-pub on_last : (d e : Pool) → GoesOn d e → d.service.last ≤ e.service.last
+pub on_last : (d e : Pool) → LedOn d e → d.service.last ≤ e.service.last
 on_last d e g = goes_last Neither d e (g Neither)
 
 pub left_last : (key : ℕ) (d e : Pool) → Leaving key d e → d.service.last ≤ e.service.last
@@ -143,7 +143,7 @@ more_there a b x y same few = omega (arith, same, few)
 pub grows_few : (a b : code.Relay) → opens_in b.orders.items ≡ opens_in a.orders.items → length b.links.items ≤ length a.links.items → GrowsByOrders a b
 grows_few a b same few = more_there (length a.links.items) (length b.links.items) (length (opens_in a.orders.items)) (length (opens_in b.orders.items)) (ap (length {A = ℕ}) same) few
 
-pub grows_stays : (a b : code.Relay) → opens_in b.orders.items ≡ opens_in a.orders.items → Stays a.links.items b.links.items → GrowsByOrders a b
+pub grows_stays : (a b : code.Relay) → opens_in b.orders.items ≡ opens_in a.orders.items → LinksStay a.links.items b.links.items → GrowsByOrders a b
 grows_stays a b same stays = grows_few a b same stays.few
 
 both_there : (a b c x y z : ℕ) → b + x ≤ a + y → c + y ≤ b + z → c + x ≤ a + z
@@ -160,7 +160,7 @@ pub grows_on : {A E : Type 0} (r : Result A E) (a b c : code.Relay) → GrowsByO
 grows_on (Ok x) a b c h k = grows_both a b c h k
 grows_on (Err e) a b c h k = tt
 
-pub grows_behind : {A E : Type 0} (r : Result A E) (a b c : code.Relay) → GrowsByOrders a b → opens_in c.orders.items ≡ opens_in b.orders.items → OnOk r (Stays b.links.items c.links.items) → OnOk r (GrowsByOrders a c)
+pub grows_behind : {A E : Type 0} (r : Result A E) (a b c : code.Relay) → GrowsByOrders a b → opens_in c.orders.items ≡ opens_in b.orders.items → OnOk r (LinksStay b.links.items c.links.items) → OnOk r (GrowsByOrders a c)
 grows_behind (Ok x) a b c h same stays = grows_both a b c h (grows_stays b c same stays)
 grows_behind (Err e) a b c h same stays = tt
 

@@ -12,7 +12,7 @@ use Rattle.tds_relay.specs.Apart.{UnlessServed}
 use Rattle.tds_relay.specs.Bodies.{AskOn, Body, Closed, Spared, body_by, body_in, body_of, going_of}
 use Rattle.tds_relay.specs.Few.{Few, NoneNew}
 use Rattle.tds_relay.specs.Fronts.{core_in}
-use Rattle.tds_relay.specs.Core.{End, Ends, Core, change_end, end_at, is_in, lets_go, may_park}
+use Rattle.tds_relay.specs.Core.{End, EndList, Core, change_end, end_at, is_in, lets_go, may_park}
 use Rattle.tds_relay.specs.Parking.{has_no_request, is_asking_nothing, may_park_in}
 use Rattle.tds_relay.specs.Sparing.{AllGo, OthersRest, Rests}
 use Rattle.tds_relay.specs.Ties.{IsReached, Leaving, pool_in}
@@ -35,14 +35,14 @@ at_rest o h key e is =
     let r = rested h key e in
     is ∙ ap (option_map lets_go) r.end ∙ sym r.end
 
-kept_by : (h : Core) (key other : ℕ) (es : Ends) → (other ≡ key) ⊎ (other ≢ key) → may_park h key ≡ true → es ≡ change_end key lets_go h.ends → end_at es other ≡ end_at h.ends other
+kept_by : (h : Core) (key other : ℕ) (es : EndList) → (other ≡ key) ⊎ (other ≢ key) → may_park h key ≡ true → es ≡ change_end key lets_go h.ends → end_at es other ≡ end_at h.ends other
 kept_by h key other es (inl same) e is =
     subst (λ (k : ℕ). end_at es k ≡ end_at h.ends k) (sym same)
-    (at_rest (end_at es key) h key e (ap (λ (xs : Ends). end_at xs key) is ∙ changed_at h.ends key lets_go))
-kept_by h key other es (inr differs) e is = ap (λ (xs : Ends). end_at xs other) is ∙ set_apart h.ends key other (option_map lets_go (end_at h.ends key)) differs
+    (at_rest (end_at es key) h key e (ap (λ (xs : EndList). end_at xs key) is ∙ changed_at h.ends key lets_go))
+kept_by h key other es (inr differs) e is = ap (λ (xs : EndList). end_at xs other) is ∙ set_apart h.ends key other (option_map lets_go (end_at h.ends key)) differs
 
 -- Who is at rest has nothing there that is let go with its connection.
-pub ends_stay : (h : Core) (key : ℕ) (es : Ends) → may_park h key ≡ true → es ≡ change_end key lets_go h.ends → (other : ℕ) → end_at es other ≡ end_at h.ends other
+pub ends_stay : (h : Core) (key : ℕ) (es : EndList) → may_park h key ≡ true → es ≡ change_end key lets_go h.ends → (other : ℕ) → end_at es other ≡ end_at h.ends other
 ends_stay h key es e is other = kept_by h key other es (cases_eq other key) e is
 
 out_by : (b c : Bool) → (b ≡ true → c ≡ true) → c ≡ false → b ≡ false

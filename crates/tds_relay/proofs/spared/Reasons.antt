@@ -15,7 +15,7 @@ use Rattle.tds_wire.specs.declared.told.Token.{Token}
 use Rattle.tds_service.specs.declared.refusal.Refusal.{Refusal}
 use Rattle.tds_service.specs.declared.service.Service as services
 use Rattle.tds_service.specs.Service.{Call}
-use Rattle.tds_service.specs.Table.{Refuses, client_of, service_in}
+use Rattle.tds_service.specs.Table.{Denies, client_of, service_in}
 use Rattle.tds_relay.specs.declared.application.Application.{Application}
 use Rattle.tds_relay.specs.declared.application.Asking.{Asking}
 use Rattle.tds_relay.specs.declared.application.Asking.TheVariants as asking
@@ -32,7 +32,7 @@ use Rattle.tds_relay.specs.Reads.{waits_on}
 use Rattle.tds_relay.specs.Holding.{Held}
 use Rattle.tds_relay.specs.Waiting.{ByLoan, ForReasonOrWaiting, IsLentBehind, IsLentInVain, IsTakenTo}
 use Rattle.tds_relay.specs.Reasons.{CannotAsk, CannotBegin, CannotForget, CannotGoOn, CannotPut, CannotStart, CannotUnask, HasNoRoom, IsAstray, IsOverfull, IsReadyThere, IsReason, IsTurnedAway, IsUnbegun, IsUncancelled, IsUnheld, IsUnstopped, ItselfFor, MayClose, RefusesThere, StopsUnfit, room_left}
-use Rattle.tds_relay.specs.Ties.{Application as ByApplication, Goes, pool_in}
+use Rattle.tds_relay.specs.Ties.{Application as ByApplication, LedTo, pool_in}
 use Rattle.tds_relay.specs.Told.{room_to_keep}
 use Rattle.tds_relay.proofs.spared.Closings.{closes_more_on}
 use Rattle.tds_relay.proofs.spared.Lines.{ItselfOrWaiting, waited_or}
@@ -137,13 +137,13 @@ begun_asks key end d links o g b message is asked held why =
 -- ---- It can't be taken back
 
 refused_by : (call : ℕ → ℕ → Call Token) (key : ℕ) (d : pools.Pool) (refusal : Refusal) (o : Option Hold) → find_key key d.holds.items ≡ o → IsReason refusal
-    → ((hold : Hold) → find_key key d.holds.items ≡ Some hold → (count : ℕ) → Refuses (call hold.lease count) (service_in d.service) refusal) → IsUnheld key d ⊎ RefusesThere call key d
+    → ((hold : Hold) → find_key key d.holds.items ≡ Some hold → (count : ℕ) → Denies (call hold.lease count) (service_in d.service) refusal) → IsUnheld key d ⊎ RefusesThere call key d
 refused_by call key d refusal None its reason refuses = inl its
 refused_by call key d refusal (Some hold) its reason refuses = inr (record { hold = hold; its = its; refusal = refusal; reason = reason; refuses = refuses hold its })
 
 -- where it holds one
 pub refused_there : (call : ℕ → ℕ → Call Token) (key : ℕ) (d : pools.Pool) (refusal : Refusal) → IsReason refusal
-    → ((hold : Hold) → find_key key d.holds.items ≡ Some hold → (count : ℕ) → Refuses (call hold.lease count) (service_in d.service) refusal) → IsUnheld key d ⊎ RefusesThere call key d
+    → ((hold : Hold) → find_key key d.holds.items ≡ Some hold → (count : ℕ) → Denies (call hold.lease count) (service_in d.service) refusal) → IsUnheld key d ⊎ RefusesThere call key d
 refused_there call key d refusal reason refuses = refused_by call key d refusal (find_key key d.holds.items) refl reason refuses
 
 pub uncancelled : (key : ℕ) (end : Option End) (d : pools.Pool) (links : List Link) → IsUnheld key d ⊎ IsUncancelled key d → IsUnheld key d ⊎ CannotUnask key end d links
@@ -218,6 +218,6 @@ lent_or key bytes a other (inr differs) lent (inl same) = absurd (differs same)
 lent_or key bytes a other (inr differs) lent (inr was) = inr (differs, was, lent)
 
 -- those who wait behind them are served
-pub lent_behind : (key : ℕ) (bytes : List ℕ) (a b : code.Relay) → IsTakenTo key bytes [] a b → Goes (ByApplication key) (pool_in a.pool) (pool_in b.pool) → (other : ℕ) → IsLentInVain b other → ForReasonOrWaiting key bytes a other
+pub lent_behind : (key : ℕ) (bytes : List ℕ) (a b : code.Relay) → IsTakenTo key bytes [] a b → LedTo (ByApplication key) (pool_in a.pool) (pool_in b.pool) → (other : ℕ) → IsLentInVain b other → ForReasonOrWaiting key bytes a other
 lent_behind key bytes a b taken goes other lent =
     lent_or key bytes a other (cases_eq other key) (record { mid = b; taken = taken; lent = lent }) (waited_or key (pool_in a.pool) (pool_in b.pool) goes other lent.waits)

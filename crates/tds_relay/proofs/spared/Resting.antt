@@ -18,8 +18,8 @@ use Rattle.tds_relay.specs.Bodies.{AskAsBefore, AskOn, Astray, Body, Closed, Clo
 use Rattle.tds_relay.specs.Pool as pool
 use Rattle.tds_relay.specs.Pool.{Pool, find_key, find_number, key_of}
 use Rattle.tds_relay.specs.Reads.{link_at, bytes_on, waits_on}
-use Rattle.tds_relay.specs.Sparing.{AllGo, AllHold, AllRest, Held, HoldsOn, IsOff, OffHold, OthersHold, OthersRest, Rests, held_at, held_by}
-use Rattle.tds_relay.specs.Ties.{CausesAction, GoesOn, IsReached, Neither, Turns, pool_in}
+use Rattle.tds_relay.specs.Sparing.{AllGo, AllHold, AllRest, HeldConnection, HoldsOn, IsOff, OffHold, OthersHold, OthersRest, Rests, held_at, held_with_client}
+use Rattle.tds_relay.specs.Ties.{CausesAction, LedOn, IsReached, Neither, Turns, pool_in}
 use Rattle.tds_relay.proofs.spared.Held.{holder_is, off_others}
 use Rattle.tds_relay.proofs.steps.Reaching.{reached_on, reaches_turn}
 
@@ -80,19 +80,19 @@ go_one key a b own others = record { go = λ reached other. start_by key other a
 
 -- ---- What goes on
 
-abbrev going_held : List Link → Option Held → Body
+abbrev going_held : List Link → Option HeldConnection → Body
 going_held ls None = Astray
 going_held ls (Some held) = going_by held.0 (Some held.1) (waits_on held.0 ls)
 
-going_client : (h : Hold) (ls : List Link) (o : Option ClientSession) → going_by h.number o (waits_on h.number ls) ≡ going_held ls (option_map (λ (c : ClientSession). let x : Held = (h.number, c) in x) o)
+going_client : (h : Hold) (ls : List Link) (o : Option ClientSession) → going_by h.number o (waits_on h.number ls) ≡ going_held ls (option_map (λ (c : ClientSession). let x : HeldConnection = (h.number, c) in x) o)
 going_client h ls None = refl
 going_client h ls (Some c) = refl
 
-going_by_held : (s : services.Service) (ls : List Link) (o : Option Hold) → going s ls o ≡ going_held ls (held_by s o)
+going_by_held : (s : services.Service) (ls : List Link) (o : Option Hold) → going s ls o ≡ going_held ls (held_with_client s o)
 going_by_held s ls None = refl
 going_by_held s ls (Some h) = going_client h ls (client_of h.lease s)
 
-pub going_is : (key : ℕ) (r : code.Relay) (o : Option Held) → held_at key r.pool ≡ o → going_of key r ≡ going_held r.links.items o
+pub going_is : (key : ℕ) (r : code.Relay) (o : Option HeldConnection) → held_at key r.pool ≡ o → going_of key r ≡ going_held r.links.items o
 going_is key r o e = going_by_held r.pool.service r.links.items (find_key key r.pool.holds.items) ∙ ap (going_held r.links.items) e
 
 -- It goes on so; or it is astray.
@@ -101,16 +101,16 @@ GoesAs old new = (new ≡ old) ⊎ (old ≡ Astray)
 
 -- What waits on a connection that is held waits there; or there is none.
 abbrev pub WaitsAs : ℕ → code.Relay → code.Relay → Type 0
-WaitsAs key old new = (held : Held) → held_at key old.pool ≡ Some held
+WaitsAs key old new = (held : HeldConnection) → held_at key old.pool ≡ Some held
     → (waits_on held.0 new.links.items ≡ waits_on held.0 old.links.items) ⊎ (waits_on held.0 old.links.items ≡ None)
 
-waits_goes : (key : ℕ) (old new : code.Relay) (held : Held) → held_at key old.pool ≡ Some held → held_at key new.pool ≡ held_at key old.pool
+waits_goes : (key : ℕ) (old new : code.Relay) (held : HeldConnection) → held_at key old.pool ≡ Some held → held_at key new.pool ≡ held_at key old.pool
     → (waits_on held.0 new.links.items ≡ waits_on held.0 old.links.items) ⊎ (waits_on held.0 old.links.items ≡ None) → GoesAs (going_of key old) (going_of key new)
 waits_goes key old new held e same (inl w) =
     inl (going_is key new (Some held) (same ∙ e) ∙ ap (going_by held.0 (Some held.1)) w ∙ sym (going_is key old (Some held) e))
 waits_goes key old new held e same (inr w) = inr (going_is key old (Some held) e ∙ ap (going_by held.0 (Some held.1)) w)
 
-goes_by : (key : ℕ) (old new : code.Relay) (o : Option Held) → held_at key old.pool ≡ o → HoldsOn key old.pool new.pool → WaitsAs key old new → GoesAs (going_of key old) (going_of key new)
+goes_by : (key : ℕ) (old new : code.Relay) (o : Option HeldConnection) → held_at key old.pool ≡ o → HoldsOn key old.pool new.pool → WaitsAs key old new → GoesAs (going_of key old) (going_of key new)
 goes_by key old new None e on waits = inr (going_is key old None e)
 goes_by key old new (Some held) e (inl same) waits = waits_goes key old new held e same (waits held e)
 goes_by key old new (Some held) e (inr none) waits = absurd (let u : Some held ≡ None = sym e ∙ none in let v : ⊥ = cc in v)
@@ -169,7 +169,7 @@ held_rest old new holds waits asks = record { rest = λ key. rests_by key old ne
 -- It holds another connection than that on which something waits, or nothing does any more.
 off_waits : (number key : ℕ) (old new : code.Relay) → IsOff number key old.pool → ((other : ℕ) → other ≢ number → waits_on other new.links.items ≡ waits_on other old.links.items) → WaitsAs key old new
 off_waits number key old new off waits held e =
-    inl (waits held.0 (λ same. off held.1 (e ∙ ap (λ (n : ℕ). let x : Held = (n, held.1) in Some x) same)))
+    inl (waits held.0 (λ same. off held.1 (e ∙ ap (λ (n : ℕ). let x : HeldConnection = (n, held.1) in Some x) same)))
 
 pub off_rests : (number key : ℕ) (old new : code.Relay) → IsOff number key old.pool → HoldsOn key old.pool new.pool
     → ((other : ℕ) → other ≢ number → waits_on other new.links.items ≡ waits_on other old.links.items) → AsksAt key old new → Rests (body_of key old) (body_of key new)
@@ -195,25 +195,25 @@ written_rest key a old new at links apps = record {
 
 -- ---- A connection that is lost
 
-shut : (key number : ℕ) (old new : code.Relay) (held : Held) (o : Option ℕ) → IsReached (pool_in old.pool) → held_at key old.pool ≡ Some held → held.0 ≡ number → o ≡ key_of (find_number number old.pool.holds.items)
+shut : (key number : ℕ) (old new : code.Relay) (held : HeldConnection) (o : Option ℕ) → IsReached (pool_in old.pool) → held_at key old.pool ≡ Some held → held.0 ≡ number → o ≡ key_of (find_number number old.pool.holds.items)
     → ((k : ℕ) → o ≡ Some k → (goes : Body) → body_in (get new.applications k) goes ≡ Closed) → Rests (body_of key old) (body_of key new)
 shut key number old new held o reached e same whose shuts =
     let is : o ≡ Some key = whose ∙ ap (λ (n : ℕ). key_of (find_number n old.pool.holds.items)) (sym same) ∙ holder_is old.pool key held reached e in
     inl (inr (shuts key is (going_of key new)))
 
-lost_by : (key number : ℕ) (old new : code.Relay) (held : Held) (o : Option ℕ) → (held.0 ≡ number) ⊎ (held.0 ≢ number) → IsReached (pool_in old.pool) → held_at key old.pool ≡ Some held
+lost_by : (key number : ℕ) (old new : code.Relay) (held : HeldConnection) (o : Option ℕ) → (held.0 ≡ number) ⊎ (held.0 ≢ number) → IsReached (pool_in old.pool) → held_at key old.pool ≡ Some held
     → o ≡ key_of (find_number number old.pool.holds.items) → ((k : ℕ) → o ≡ Some k → (goes : Body) → body_in (get new.applications k) goes ≡ Closed)
     → OffHold number old.pool new.pool → ((other : ℕ) → other ≢ number → waits_on other new.links.items ≡ waits_on other old.links.items) → AsksAt key old new
     → Rests (body_of key old) (body_of key new)
 lost_by key number old new held o (inl same) reached e whose shuts holds waits asks = shut key number old new held o reached e same whose shuts
 lost_by key number old new held o (inr differs) reached e whose shuts holds waits asks =
     let off : IsOff number key old.pool = λ client is.
-    let x : Held = (number, client) in
+    let x : HeldConnection = (number, client) in
     let same : held ≡ x = (let u : Some held ≡ Some x = sym e ∙ is in cc) in
-    differs (ap (λ (y : Held). y.0) same) in
+    differs (ap (λ (y : HeldConnection). y.0) same) in
     off_rests number key old new off (holds.hold reached key off) waits asks
 
-lost_at : (key number : ℕ) (old new : code.Relay) (p : Option Held) (o : Option ℕ) → held_at key old.pool ≡ p → IsReached (pool_in old.pool)
+lost_at : (key number : ℕ) (old new : code.Relay) (p : Option HeldConnection) (o : Option ℕ) → held_at key old.pool ≡ p → IsReached (pool_in old.pool)
     → o ≡ key_of (find_number number old.pool.holds.items) → ((k : ℕ) → o ≡ Some k → (goes : Body) → body_in (get new.applications k) goes ≡ Closed)
     → OffHold number old.pool new.pool → ((other : ℕ) → other ≢ number → waits_on other new.links.items ≡ waits_on other old.links.items) → AsksAt key old new
     → Rests (body_of key old) (body_of key new)
@@ -260,7 +260,7 @@ reached_does d e key action before after t cause r = reached_on Neither d e (λ 
 pub reached_serves : (d e : Pool) (before after : List ℕ) → Turns pool.Serves d e before after → IsReached d → IsReached e
 reached_serves d e before after t r = reached_on Neither d e (λ from h. reaches_turn Neither from d e pool.Serves before after t tt h) r
 
-pub reached_on_does : (d e : Pool) → GoesOn d e → IsReached d → IsReached e
+pub reached_on_does : (d e : Pool) → LedOn d e → IsReached d → IsReached e
 reached_on_does d e goes r = reached_on Neither d e (goes Neither) r
 
 -- ---- Where a call answers
@@ -311,18 +311,18 @@ sent_rest key g old mid new d reached its holds at links asks later waits asked 
     others_rest key g old new reached its (subst (λ (e : pools.Pool). OthersHold key old.pool e) (sym (later ∙ at)) holds) (λ n differs. waits n differs ∙ ap (waits_on n) links)
     (λ k goes. inl (asked k goes ∙ asks k goes))
 
-pub put_reached : (d e f : pools.Pool) → GoesOn (pool_in d) (pool_in e) → f ≡ e → IsReached (pool_in d) → IsReached (pool_in f)
+pub put_reached : (d e f : pools.Pool) → LedOn (pool_in d) (pool_in e) → f ≡ e → IsReached (pool_in d) → IsReached (pool_in f)
 put_reached d e f goes same r = subst (λ (x : pools.Pool). IsReached (pool_in x)) (sym same) (reached_on_does (pool_in d) (pool_in e) goes r)
 
 -- whoever waits is lent another
-pub served_go : (a b m : code.Relay) → GoesOn (pool_in a.pool) (pool_in b.pool) → AllGo a b → AllHold b.pool m.pool → m.links.items ≡ b.links.items → m.applications ≡ b.applications → AllGo a m
+pub served_go : (a b m : code.Relay) → LedOn (pool_in a.pool) (pool_in b.pool) → AllGo a b → AllHold b.pool m.pool → m.links.items ≡ b.links.items → m.applications ≡ b.applications → AllGo a m
 served_go a b m goes h holds links apps =
     go_both a b m (reached_on_does (pool_in a.pool) (pool_in b.pool) goes) h
     (rest_go b m (λ reached. held_rest b m (holds.hold reached) (λ n. ap (waits_on n) links) (λ k asked. inl (ap (λ (s : Slab Application). body_in (get s k) asked) apps))))
 
 -- ---- Where there is no connection yet
 
-none_waits : (key : ℕ) (old : code.Relay) (o : Option Held) → held_at key old.pool ≡ o → old.links.items ≡ [] → going_of key old ≡ Astray
+none_waits : (key : ℕ) (old : code.Relay) (o : Option HeldConnection) → held_at key old.pool ≡ o → old.links.items ≡ [] → going_of key old ≡ Astray
 none_waits key old None e none = going_is key old None e
 none_waits key old (Some held) e none = going_is key old (Some held) e ∙ ap (λ (ls : List Link). going_by held.0 (Some held.1) (waits_on held.0 ls)) none
 

@@ -10,7 +10,7 @@ use Rattle.tds_relay.specs.Bodies.{Astray, Body, Closed, Closes, Goes, Going, Ke
 use Rattle.tds_relay.specs.Core.{end_at}
 use Rattle.tds_relay.specs.Fronts.{ends_in}
 use Rattle.tds_relay.specs.Pool.{find_key}
-use Rattle.tds_relay.specs.Reads.{Stays, open_at, seen_at}
+use Rattle.tds_relay.specs.Reads.{LinksStay, open_at, seen_at}
 use Rattle.tds_relay.specs.Sparing.{Drains, IsKept, IsUnkept, Opens}
 use Rattle.tds_relay.specs.Taking.{IsDeaf}
 use Rattle.tds_relay.specs.Waiting.{GoesOrWaits, IsRightlyKept}
@@ -86,5 +86,5 @@ right_by key a b holds back kept opens right = λ k ready.
       drained = λ taken. ready.drained (back taken);
     })
 
-pub opens_before : (a b : List Link) → Stays a b → (n : ℕ) → IsSome (open_at n b) → IsSome (open_at n a)
+pub opens_before : (a b : List Link) → LinksStay a b → (n : ℕ) → IsSome (open_at n b) → IsSome (open_at n a)
 opens_before a b stays n some = some_seen (seen_at n b) (seen_at n a) (stays.seen n (seen_at n a) (at_refl (seen_at n a))) some

@@ -6,8 +6,8 @@ use Rattle.tds_relay.specs.declared.outgoing.Outgoing.{Outgoing}
 use Rattle.tds_relay.specs.Closings.{is_shut}
 use Rattle.tds_relay.specs.Queues.{queue_in}
 use Rattle.tds_relay.specs.Ordering.{IsOrdered, StayOrdered}
-use Rattle.tds_relay.specs.Reads.{Seen, Sees, StaysAt, bytes_on, link_at, opened_seen, seen_at, seen_of, waits_on, with_open, without_link}
-use Rattle.tds_relay.specs.Sending.{IsToWrite, IsWritten, Sending, called_at, name_in, sending_at, sending_of}
+use Rattle.tds_relay.specs.Reads.{Seen, HoldsOnLinks, StaysAt, bytes_on, link_at, opened_seen, seen_at, seen_of, waits_on, with_open, without_link}
+use Rattle.tds_relay.specs.Sending.{IsToWrite, IsWritten, NamedWaiting, called_at, name_in, sending_at, sending_of}
 use Rattle.tds_relay.proofs.steps.Staying.{at_refl}
 
 -- ---- What is ordered
@@ -63,7 +63,7 @@ some_bytes (Some bytes) = bytes
 
 sending_both : (l m : Link) → m.tag ≡ l.tag → bytes_on m ≡ bytes_on l → option_map sending_of (Some m) ≡ option_map sending_of (Some l)
 sending_both l m name bytes =
-    ap (λ (t : Option ℕ). let s : Sending = (t, bytes_on m) in Some s) name ∙ ap (λ (xs : List ℕ). let s : Sending = (l.tag, xs) in Some s) bytes
+    ap (λ (t : Option ℕ). let s : NamedWaiting = (t, bytes_on m) in Some s) name ∙ ap (λ (xs : List ℕ). let s : NamedWaiting = (l.tag, xs) in Some s) bytes
 
 sending_by : (o p : Option Link) → StaysAt (option_map seen_of o) (option_map seen_of p) → option_map bytes_on p ≡ option_map bytes_on o → option_map sending_of p ≡ option_map sending_of o
 sending_by None None h e = refl
@@ -73,7 +73,7 @@ sending_by (Some l) (Some m) h e = sending_both l m (sym (ap seen_name h)) (ap s
 
 -- Each is called as it was, and what waited there waits.
 pub record AreKept (ls ms : List Link) : Type 0 where
-  pub sees : Sees ls ms
+  pub sees : HoldsOnLinks ls ms
   pub waits : (number : ℕ) → waits_on number ms ≡ waits_on number ls
 
 pub kept_refl : (ls : List Link) → AreKept ls ls
@@ -104,14 +104,14 @@ name_by out None (Some m) h e = absurd (let u : ⊥ = cc in u)
 name_by out (Some l) (Some m) h e = sym (ap seen_name h)
 
 -- it is called as it was
-pub called_filled : (number : ℕ) (out : List ℕ) (ls ms : List Link) → Sees ls ms → waits_on number ms ≡ option_map (λ (waits : List ℕ). waits ++ out) (waits_on number ls) → called_at number ms ≡ called_at number ls
+pub called_filled : (number : ℕ) (out : List ℕ) (ls ms : List Link) → HoldsOnLinks ls ms → waits_on number ms ≡ option_map (λ (waits : List ℕ). waits ++ out) (waits_on number ls) → called_at number ms ≡ called_at number ls
 called_filled number out ls ms sees waits = name_by out (link_at number ls) (link_at number ms) (sees number (seen_at number ls) (at_refl (seen_at number ls))) waits
 
 -- and the others have what they had
-pub sending_other : (number other : ℕ) (ls ms : List Link) → Sees ls ms → waits_on other ms ≡ waits_on other ls → sending_at other ms ≡ sending_at other ls
+pub sending_other : (number other : ℕ) (ls ms : List Link) → HoldsOnLinks ls ms → waits_on other ms ≡ waits_on other ls → sending_at other ms ≡ sending_at other ls
 sending_other number other ls ms sees waits = sending_by (link_at other ls) (link_at other ms) (sees other (seen_at other ls) (at_refl (seen_at other ls))) waits
 
-pub written_by : (s : Option Sending) (all : List Order) → IsToWrite (name_in s) all → IsWritten s all
+pub written_by : (s : Option NamedWaiting) (all : List Order) → IsToWrite (name_in s) all → IsWritten s all
 written_by None all w = tt
 written_by (Some s) all w = inr w
 
@@ -171,4 +171,4 @@ same_written ls i d m number sends opens n = (written_as sending_of ls i d m num
 
 pub sending_same : (l m : Link) → m.tag ≡ l.tag → m.out ≡ l.out → sending_of m ≡ sending_of l
 sending_same l m tag out =
-    ap (λ (t : Option ℕ). let s : Sending = (t, bytes_on m) in s) tag ∙ ap (λ (o : Outgoing). let s : Sending = (l.tag, (queue_in o).bytes) in s) out
+    ap (λ (t : Option ℕ). let s : NamedWaiting = (t, bytes_on m) in s) tag ∙ ap (λ (o : Outgoing). let s : NamedWaiting = (l.tag, (queue_in o).bytes) in s) out

@@ -9,14 +9,14 @@ use Rattle.tds_relay.specs.declared.application.Application.{Application}
 use Rattle.tds_relay.specs.declared.link.Link.{Link}
 use Rattle.tds_relay.specs.declared.order.Order.{Order}
 use Rattle.tds_relay.specs.declared.order.Order.TheVariants as orders
-use Rattle.tds_relay.specs.Closings.{ClosesOnly, IsDue, IsToWriteAll, Nobody, OfApplication, OfConnection, Register, is_shut, is_shut_at, name_with, open_name, times_closed}
-use Rattle.tds_relay.specs.Fronts.{end_of, ends_in, goes_by, withdraws}
+use Rattle.tds_relay.specs.Closings.{ClosesOnly, IsDue, IsToWriteAll, NoKey, OfApplication, OfConnection, Register, is_shut, is_shut_at, name_with, open_name, times_closed}
+use Rattle.tds_relay.specs.Fronts.{own_end, ends_in, goes_by, withdraws}
 use Rattle.tds_front.specs.declared.fault.FrontFault.{FrontFault}
 use Rattle.tds_relay.specs.declared.pool.coming.What.TheVariants as whats
-use Rattle.tds_relay.specs.Core.{End, Ends, Open, Over, change_end, closes_for, end_at, lets_go, move_stage, told}
+use Rattle.tds_relay.specs.Core.{End, EndList, Open, Over, change_end, closes_for, end_at, lets_go, move_stage, end_told}
 use Rattle.tds_relay.specs.Ordering.{IsOrdered, StayOrdered}
 use Rattle.tds_relay.specs.Queues.{Queues, names_of, queue_at}
-use Rattle.tds_relay.specs.Reads.{Seen, Sees, StaysAt, bytes_on, link_at, opened_seen, seen_at, seen_of, waits_on, with_open}
+use Rattle.tds_relay.specs.Reads.{Seen, HoldsOnLinks, StaysAt, bytes_on, link_at, opened_seen, seen_at, seen_of, waits_on, with_open}
 use Rattle.tds_relay.specs.Sending.{IsToWrite, IsWritten, called_at, name_in, sending_at, sending_of}
 use Rattle.tds_relay.proofs.spared.Once.{times_other}
 use Rattle.tds_relay.proofs.spared.Ordered.{ordered_same}
@@ -32,7 +32,7 @@ shut_seen o (Some s) stays e =
     let same : o ≡ Some s = stays o (at_refl o) in
     ap is_shut same ∙ e
 
-pub shut_stays : (ls ms : List Link) → Sees ls ms → (number : ℕ) → is_shut (seen_at number ms) ≡ true → is_shut (seen_at number ls) ≡ true
+pub shut_stays : (ls ms : List Link) → HoldsOnLinks ls ms → (number : ℕ) → is_shut (seen_at number ms) ≡ true → is_shut (seen_at number ls) ≡ true
 shut_stays ls ms sees number e = shut_seen (seen_at number ls) (seen_at number ms) (sees number) e
 
 -- ---- What nobody is closed by
@@ -90,7 +90,7 @@ closes_same May a b names told shut queues called calls sends n = record {
 
 pub same_names : (a b : Register) → b.ends ≡ a.ends → b.queues ≡ a.queues → (key : ℕ) → open_name key b ≡ open_name key a
 same_names a b ends queues key =
-    ap (λ (es : Ends). name_with (end_at es key) (slice_index_or (names_of b.queues) key None)) ends
+    ap (λ (es : EndList). name_with (end_at es key) (slice_index_or (names_of b.queues) key None)) ends
     ∙ ap (λ (ps : Queues). name_with (end_at a.ends key) (slice_index_or (names_of ps) key None)) queues
 
 closes_as : (May : ℕ → Type 0) (a b : Register) → ((key : ℕ) → open_name key b ≡ open_name key a) → b.queues ≡ a.queues → b.kept ≡ a.kept → AreKept a.links b.links → NoneClosed a.orders b.orders → ClosesOnly May a b
@@ -104,7 +104,7 @@ closes_kept May a b ends queues told links n = closes_as May a b (same_names a b
 
 -- ---- Ends that move
 
-moved_name : (by : End → End) → ((e : End) (n : Option (Option ℕ)) → name_with (Some (by e)) n ≡ name_with (Some e) n) → (key other : ℕ) (es : Ends) (n : Option (Option ℕ))
+moved_name : (by : End → End) → ((e : End) (n : Option (Option ℕ)) → name_with (Some (by e)) n ≡ name_with (Some e) n) → (key other : ℕ) (es : EndList) (n : Option (Option ℕ))
     → name_with (end_at (change_end key by es) other) n ≡ name_with (end_at es other) n
 moved_name by keeps key other [] n = refl
 moved_name by keeps zero zero (None ∷ es) n = refl
@@ -118,14 +118,14 @@ pub closes_moved : (May : ℕ → Type 0) (key : ℕ) (by : End → End) (a b : 
     → b.queues ≡ a.queues → b.kept ≡ a.kept → AreKept a.links b.links → NoneClosed a.orders b.orders → ClosesOnly May a b
 closes_moved May key by a b keeps ends queues told links n =
     closes_as May a b (λ k.
-    ap (λ (es : Ends). name_with (end_at es k) (slice_index_or (names_of b.queues) k None)) ends ∙ moved_name by keeps key k a.ends (slice_index_or (names_of b.queues) k None)
+    ap (λ (es : EndList). name_with (end_at es k) (slice_index_or (names_of b.queues) k None)) ends ∙ moved_name by keeps key k a.ends (slice_index_or (names_of b.queues) k None)
     ∙ ap (λ (ps : Queues). name_with (end_at a.ends k) (slice_index_or (names_of ps) k None)) queues) queues told links n
 
-pub end_is : (s : Slab Application) (key : ℕ) → end_at (ends_in s) key ≡ option_map end_of (get s key)
-end_is s key = get_or-map (option_map end_of) s.slots key None
+pub end_is : (s : Slab Application) (key : ℕ) → end_at (ends_in s) key ≡ option_map own_end (get s key)
+end_is s key = get_or-map (option_map own_end) s.slots key None
 
 -- one is written back that is open as it was
-set_name : (end : End) (key other : ℕ) (es : Ends) (n : Option (Option ℕ)) → ((m : Option (Option ℕ)) → name_with (Some end) m ≡ name_with (end_at es key) m)
+set_name : (end : End) (key other : ℕ) (es : EndList) (n : Option (Option ℕ)) → ((m : Option (Option ℕ)) → name_with (Some end) m ≡ name_with (end_at es key) m)
     → name_with (end_at (slice_set es key (Some end)) other) n ≡ name_with (end_at es other) n
 set_name end key other [] n same = refl
 set_name end zero zero (e ∷ es) n same = same n
@@ -138,18 +138,18 @@ over_by true a c m = refl
 over_by false a c None = refl
 over_by false a c (Some name) = refl
 
-open_as : (a c : Application) (m : Option (Option ℕ)) → c.is_over ≡ a.is_over → name_with (Some (end_of c)) m ≡ name_with (Some (end_of a)) m
+open_as : (a c : Application) (m : Option (Option ℕ)) → c.is_over ≡ a.is_over → name_with (Some (own_end c)) m ≡ name_with (Some (own_end a)) m
 open_as a c m same =
-    subst (λ (b : Bool). name_with (Some (if b then Over c.fault else Open c.front c.is_withdrawn c.reset)) m ≡ name_with (Some (end_of a)) m) (sym same) (over_by a.is_over a c m)
+    subst (λ (b : Bool). name_with (Some (if b then Over c.fault else Open c.front c.is_withdrawn c.reset)) m ≡ name_with (Some (own_end a)) m) (sym same) (over_by a.is_over a c m)
 
 pub closes_written : (May : ℕ → Type 0) (s : Slab Application) (key : ℕ) (a c : Application) (r q : Register) → Some a ≡ get s key → c.is_over ≡ a.is_over → r.ends ≡ ends_in s → q.ends ≡ ends_in (with_value s key c)
     → q.queues ≡ r.queues → q.kept ≡ r.kept → AreKept r.links q.links → NoneClosed r.orders q.orders → ClosesOnly May r q
 closes_written May s key a c r q is same before behind queues told links n =
     closes_as May r q (λ k.
-    ap (λ (es : Ends). name_with (end_at es k) (slice_index_or (names_of q.queues) k None)) (behind ∙ ends_written s key c)
-    ∙ set_name (end_of c) key k (ends_in s) (slice_index_or (names_of q.queues) k None) (λ m. open_as a c m same ∙ sym (ap (λ (o : Option End). name_with o m) (end_is s key ∙ ap (option_map end_of) (sym is))))
+    ap (λ (es : EndList). name_with (end_at es k) (slice_index_or (names_of q.queues) k None)) (behind ∙ ends_written s key c)
+    ∙ set_name (own_end c) key k (ends_in s) (slice_index_or (names_of q.queues) k None) (λ m. open_as a c m same ∙ sym (ap (λ (o : Option End). name_with o m) (end_is s key ∙ ap (option_map own_end) (sym is))))
     ∙ ap (λ (ps : Queues). name_with (end_at (ends_in s) k) (slice_index_or (names_of ps) k None)) queues
-    ∙ ap (λ (es : Ends). name_with (end_at es k) (slice_index_or (names_of r.queues) k None)) (sym before)) queues told links n
+    ∙ ap (λ (es : EndList). name_with (end_at es k) (slice_index_or (names_of r.queues) k None)) (sym before)) queues told links n
 
 -- ends that move
 pub keeps_lets_go : (e : End) (n : Option (Option ℕ)) → name_with (Some (lets_go e)) n ≡ name_with (Some e) n
@@ -169,23 +169,23 @@ keeps_stage by (Over why) n = refl
 
 pub keeps_goes_by : (out : List ℕ) (e : End) (n : Option (Option ℕ)) → name_with (Some (goes_by out e)) n ≡ name_with (Some e) n
 keeps_goes_by [] e n = refl
-keeps_goes_by (byte ∷ bytes) e n = keeps_stage rules.went_on e n
+keeps_goes_by (byte ∷ bytes) e n = keeps_stage rules.request_went_on e n
 
 pub over_closes : (why : Option FrontFault) (e : End) (n : Option (Option ℕ)) → name_with (Some (closes_for why e)) n ≡ None
 over_closes why (Open front withdrawn asks) n = refl
 over_closes why (Over first) n = refl
 
-pub keeps_goes : (e : End) (n : Option (Option ℕ)) → name_with (Some (told whats.Goes e)) n ≡ name_with (Some e) n
+pub keeps_goes : (e : End) (n : Option (Option ℕ)) → name_with (Some (end_told whats.Goes e)) n ≡ name_with (Some e) n
 keeps_goes (Open front withdrawn asks) None = refl
 keeps_goes (Open front withdrawn asks) (Some name) = refl
 keeps_goes (Over why) n = refl
 
-pub keeps_finished : (e : End) (n : Option (Option ℕ)) → name_with (Some (told whats.Finished e)) n ≡ name_with (Some e) n
+pub keeps_finished : (e : End) (n : Option (Option ℕ)) → name_with (Some (end_told whats.Finished e)) n ≡ name_with (Some e) n
 keeps_finished (Open front withdrawn asks) None = refl
 keeps_finished (Open front withdrawn asks) (Some name) = refl
 keeps_finished (Over why) n = refl
 
-pub keeps_acknowledged : (e : End) (n : Option (Option ℕ)) → name_with (Some (told whats.Acknowledged e)) n ≡ name_with (Some e) n
+pub keeps_acknowledged : (e : End) (n : Option (Option ℕ)) → name_with (Some (end_told whats.Acknowledged e)) n ≡ name_with (Some e) n
 keeps_acknowledged (Open front true asks) None = refl
 keeps_acknowledged (Open front true asks) (Some name) = refl
 keeps_acknowledged (Open front false asks) None = refl
@@ -248,18 +248,18 @@ closes_pushed May a b l named ends queues told links is none empty are =
 
 -- ---- What is put on a connection
 
-filled_sends : (number other : ℕ) (ls ms : List Link) (all : List Order) → Sees ls ms → ((n : ℕ) → n ≢ number → waits_on n ms ≡ waits_on n ls) → IsToWrite (called_at number ms) all → (other ≡ number) ⊎ (other ≢ number)
+filled_sends : (number other : ℕ) (ls ms : List Link) (all : List Order) → HoldsOnLinks ls ms → ((n : ℕ) → n ≢ number → waits_on n ms ≡ waits_on n ls) → IsToWrite (called_at number ms) all → (other ≡ number) ⊎ (other ≢ number)
     → (sending_at other ms ≡ sending_at other ls) ⊎ IsWritten (sending_at other ms) all
 filled_sends number other ls ms all sees waits w (inl same) = inr (subst (λ (n : ℕ). IsWritten (sending_at n ms) all) (sym same) (written_by (sending_at number ms) all w))
 filled_sends number other ls ms all sees waits w (inr differs) = inl (sending_other number other ls ms sees (waits other differs))
 
-filled_called : (number other : ℕ) (out : List ℕ) (ls ms : List Link) → Sees ls ms → ((n : ℕ) → n ≢ number → waits_on n ms ≡ waits_on n ls)
+filled_called : (number other : ℕ) (out : List ℕ) (ls ms : List Link) → HoldsOnLinks ls ms → ((n : ℕ) → n ≢ number → waits_on n ms ≡ waits_on n ls)
     → waits_on number ms ≡ option_map (λ (waits : List ℕ). waits ++ out) (waits_on number ls) → (other ≡ number) ⊎ (other ≢ number) → called_at other ms ≡ called_at other ls
 filled_called number other out ls ms sees others waits (inl same) = subst (λ (n : ℕ). called_at n ms ≡ called_at n ls) (sym same) (called_filled number out ls ms sees waits)
 filled_called number other out ls ms sees others waits (inr differs) = ap name_in (sending_other number other ls ms sees (others other differs))
 
 -- and it is ordered written to
-pub closes_filled : (May : ℕ → Type 0) (number : ℕ) (out : List ℕ) (a b : Register) → b.ends ≡ a.ends → b.queues ≡ a.queues → b.kept ≡ a.kept → Sees a.links b.links
+pub closes_filled : (May : ℕ → Type 0) (number : ℕ) (out : List ℕ) (a b : Register) → b.ends ≡ a.ends → b.queues ≡ a.queues → b.kept ≡ a.kept → HoldsOnLinks a.links b.links
     → ((n : ℕ) → n ≢ number → waits_on n b.links ≡ waits_on n a.links) → waits_on number b.links ≡ option_map (λ (waits : List ℕ). waits ++ out) (waits_on number a.links) → NoneClosed a.orders b.orders
     → IsToWrite (called_at number b.links) b.orders → ClosesOnly May a b
 closes_filled May number out a b ends queues told sees others waits n w =
@@ -267,16 +267,16 @@ closes_filled May number out a b ends queues told sees others waits n w =
     closes_same May a b (same_names a b ends queues) told (λ other e. inl (shut_stays a.links b.links sees other e)) (λ key. inl (ap (λ (ps : Queues). queue_at ps key) queues)) (λ other tag e. sym (called other) ∙ e)
     (λ other tag e. called other ∙ e) (λ other. filled_sends number other a.links b.links b.orders sees others w (cases_eq other number)) n
 
-none_due : (tag : ℕ) (b c : Register) → c.links ≡ b.links → IsOrdered (orders.Close tag) b.orders ⊎ IsDue Nobody tag b c → IsOrdered (orders.Close tag) b.orders
+none_due : (tag : ℕ) (b c : Register) → c.links ≡ b.links → IsOrdered (orders.Close tag) b.orders ⊎ IsDue NoKey tag b c → IsOrdered (orders.Close tag) b.orders
 none_due tag b c links (inl o) = o
 none_due tag b c links (inr (OfApplication key may was gone)) = absurd may
 none_due tag b c links (inr (OfConnection number was gone)) = absurd (let u : None ≡ Some tag = sym gone ∙ ap (called_at number) links ∙ was in let v : ⊥ = cc in v)
 
-pub closes_filled_on : (May : ℕ → Type 0) (number : ℕ) (out : List ℕ) (a b c : Register) → c.ends ≡ a.ends → c.queues ≡ a.queues → b.kept ≡ a.kept → Sees a.links b.links
+pub closes_filled_on : (May : ℕ → Type 0) (number : ℕ) (out : List ℕ) (a b c : Register) → c.ends ≡ a.ends → c.queues ≡ a.queues → b.kept ≡ a.kept → HoldsOnLinks a.links b.links
     → ((n : ℕ) → n ≢ number → waits_on n b.links ≡ waits_on n a.links) → waits_on number b.links ≡ option_map (λ (waits : List ℕ). waits ++ out) (waits_on number a.links) → b.orders ≡ a.orders
-    → c.links ≡ b.links → IsToWrite (called_at number c.links) c.orders → ((tag : ℕ) → times_closed tag c.orders ≡ times_closed tag b.orders) → ClosesOnly Nobody b c → ClosesOnly May a c
+    → c.links ≡ b.links → IsToWrite (called_at number c.links) c.orders → ((tag : ℕ) → times_closed tag c.orders ≡ times_closed tag b.orders) → ClosesOnly NoKey b c → ClosesOnly May a c
 closes_filled_on May number out a b c ends queues told sees others waits are links w times h =
-    closes_filled May number out a c ends queues (h.told ∙ told) (subst (λ (ls : List Link). Sees a.links ls) (sym links) sees) (λ n differs. ap (waits_on n) links ∙ others n differs) (ap (waits_on number) links ∙ waits)
+    closes_filled May number out a c ends queues (h.told ∙ told) (subst (λ (ls : List Link). HoldsOnLinks a.links ls) (sym links) sees) (λ n differs. ap (waits_on n) links ∙ others n differs) (ap (waits_on number) links ∙ waits)
     (record { more = subst (λ (xs : List Order). StayOrdered xs c.orders) are h.ordered; were = λ tag o. subst (IsOrdered (orders.Close tag)) are (none_due tag b c links (h.due tag o)); times = λ tag. times tag ∙ ap (times_closed tag) are }) w
 
 unfit_waits : (number other : ℕ) (ls ms : List Link) → ((n : ℕ) → n ≢ number → waits_on n ms ≡ waits_on n ls) → waits_on number ms ≡ waits_on number ls → (other ≡ number) ⊎ (other ≢ number) → waits_on other ms ≡ waits_on other ls
@@ -284,5 +284,5 @@ unfit_waits number other ls ms others same (inl is) = subst (λ (n : ℕ). waits
 unfit_waits number other ls ms others same (inr differs) = others other differs
 
 -- nothing is put there
-pub unfit_kept : (number : ℕ) (ls ms : List Link) → Sees ls ms → ((n : ℕ) → n ≢ number → waits_on n ms ≡ waits_on n ls) → waits_on number ms ≡ waits_on number ls → AreKept ls ms
+pub unfit_kept : (number : ℕ) (ls ms : List Link) → HoldsOnLinks ls ms → ((n : ℕ) → n ≢ number → waits_on n ms ≡ waits_on n ls) → waits_on number ms ≡ waits_on number ls → AreKept ls ms
 unfit_kept number ls ms sees others same = record { sees = sees; waits = λ other. unfit_waits number other ls ms others same (cases_eq other number) }

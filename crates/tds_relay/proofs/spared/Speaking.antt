@@ -11,8 +11,8 @@ use Rattle.tds_relay.specs.declared.relay.Relay as code
 use Rattle.tds_relay.specs.Bodies.{AskAsBefore, AskOn, ClientStops, IsHalting, Starts, body_in, body_of, going_of}
 use Rattle.tds_relay.specs.Pool.{find_key}
 use Rattle.tds_relay.specs.Reads.{waits_on}
-use Rattle.tds_relay.specs.Sparing.{AllGo, HoldsOn, OthersGo, OthersHold, OthersRest, held_by}
-use Rattle.tds_relay.specs.Ties.{Application as ByApplication, Goes, IsReached, Leaving, pool_in}
+use Rattle.tds_relay.specs.Sparing.{AllGo, HoldsOn, OthersGo, OthersHold, OthersRest, held_with_client}
+use Rattle.tds_relay.specs.Ties.{Application as ByApplication, LedTo, IsReached, Leaving, pool_in}
 use Rattle.tds_relay.proofs.spared.Held.{action_same}
 use Rattle.tds_relay.proofs.spared.Resting.{asks_on, goes_as, others_rest, rests_by, rests_start, starts_both}
 use Rattle.tds_relay.proofs.steps.Reaching.{reached_on, reaches_left}
@@ -31,7 +31,7 @@ done_as key old new reached holds links asks = done_rest key old new reached hol
 -- One waits no more: all hold what they held, and its application alone is written back.
 held_as : (key : ℕ) (old new : pools.Pool) → new.holds.items ≡ old.holds.items → new.service ≡ old.service → HoldsOn key old new
 held_as key old new holds service =
-    inl (ap (λ (s : services.Service). held_by s (find_key key new.holds.items)) service ∙ ap (λ (hs : List Hold). held_by old.service (find_key key hs)) holds)
+    inl (ap (λ (s : services.Service). held_with_client s (find_key key new.holds.items)) service ∙ ap (λ (hs : List Hold). held_with_client old.service (find_key key hs)) holds)
 
 pub unwaited_rest : (key : ℕ) (old new : code.Relay) → new.pool.holds.items ≡ old.pool.holds.items → new.pool.service ≡ old.pool.service → new.links.items ≡ old.links.items → new.applications ≡ old.applications → OthersRest key old new
 unwaited_rest key old new holds service links apps = record {
@@ -82,7 +82,7 @@ stopped_held key d e hold before after s its = ap (find_key key) s.same ∙ its
 
 -- ---- Where a pool was reached
 
-pub reached_by : (key : ℕ) (old new : pools.Pool) → Goes (ByApplication key) (pool_in old) (pool_in new) → IsReached (pool_in old) → IsReached (pool_in new)
+pub reached_by : (key : ℕ) (old new : pools.Pool) → LedTo (ByApplication key) (pool_in old) (pool_in new) → IsReached (pool_in old) → IsReached (pool_in new)
 reached_by key old new goes reached = reached_on (ByApplication key) (pool_in old) (pool_in new) goes reached
 
 pub reached_left : (key : ℕ) (old new : pools.Pool) → Leaving key (pool_in old) (pool_in new) → IsReached (pool_in old) → IsReached (pool_in new)
@@ -93,7 +93,7 @@ reached_left key old new leaving reached = reached_on (ByApplication key) (pool_
 served_others : (key : ℕ) (a b c : code.Relay) → OthersRest key a b → AllGo b c → IsReached (pool_in b.pool) → (other : ℕ) → other ≢ key → Starts (body_of other a) (body_of other c)
 served_others key a b c h k reached other differs = starts_both (rests_start (body_of other a) (body_of other b) (h.rest other differs)) (k.go reached other)
 
-pub others_served : {A E : Type 0} (r : Result A E) (key : ℕ) (a b c : code.Relay) → Goes (ByApplication key) (pool_in a.pool) (pool_in b.pool) → (IsReached (pool_in a.pool) → OthersRest key a b) → OnOk r (AllGo b c) → OnOk r (OthersGo key a c)
+pub others_served : {A E : Type 0} (r : Result A E) (key : ℕ) (a b c : code.Relay) → LedTo (ByApplication key) (pool_in a.pool) (pool_in b.pool) → (IsReached (pool_in a.pool) → OthersRest key a b) → OnOk r (AllGo b c) → OnOk r (OthersGo key a c)
 others_served (Ok x) key a b c goes h k = record { go = λ reached other differs. served_others key a b c (h reached) k (reached_by key a.pool b.pool goes reached) other differs }
 others_served (Err e) key a b c goes h k = tt
 

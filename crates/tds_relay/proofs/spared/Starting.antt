@@ -17,10 +17,10 @@ use Rattle.tds_relay.specs.Asking.{IsTakenBack, waits_in}
 use Rattle.tds_relay.specs.Bodies.{Astray, Body, Closed, Closes, Goes, Going, Kept, Nowhere, Starts, Stays, Strays, body_by, body_in, body_of, going, going_by, going_of}
 use Rattle.tds_relay.specs.Pool.{find_key, find_number, key_of}
 use Rattle.tds_relay.specs.Fronts.{ends_in}
-use Rattle.tds_relay.specs.Core.{Ends, end_at}
+use Rattle.tds_relay.specs.Core.{EndList, end_at}
 use Rattle.tds_relay.specs.Reads.{open_at, opened_at, reader_at, waits_on}
 use Rattle.tds_relay.specs.Sparing as sparing
-use Rattle.tds_relay.specs.Sparing.{AllGo, AllRest, AreCalls, Drains, HasGone, Held, IsHeldBack, IsKept, IsLeft, IsUnkept, Opens, Rests, StartsBehind, StartsOn, StartsThere, behind_all, held_at}
+use Rattle.tds_relay.specs.Sparing.{AllGo, AllRest, AreCalls, Drains, HasGone, HeldConnection, IsHeldBack, IsKept, IsLeft, IsUnkept, Opens, Rests, StartsBehind, StartsOn, StartsThere, behind_all, held_at}
 use Rattle.tds_relay.specs.Ties.{IsReached, pool_in}
 use Rattle.tds_relay.proofs.spared.Held.{holder_is, holds}
 use Rattle.tds_relay.proofs.spared.Resting.{starts_both}
@@ -147,10 +147,10 @@ rest_behind waited x a b c (inr astray) behind kept un first later = absurd (sub
 -- ---- Where its connection opens
 
 -- what it is held back by, before that
-before_open : (number key : ℕ) (old mid : code.Relay) (held : Held) → held_at key old.pool ≡ Some held → held.0 ≡ number → mid.pool ≡ old.pool → ends_in mid.applications ≡ ends_in old.applications
+before_open : (number key : ℕ) (old mid : code.Relay) (held : HeldConnection) → held_at key old.pool ≡ Some held → held.0 ≡ number → mid.pool ≡ old.pool → ends_in mid.applications ≡ ends_in old.applications
     → ((other : ℕ) → open_at other mid.links.items ≡ opened_at number other old.links.items) → IsHeldBack key mid
     → IsTakenBack (end_at (ends_in old.applications) key) ⊎ (reader_at number old.links.items ≡ None)
-before_open number key old mid held e same at ends opens (Drains back) = inl (subst (λ (es : Ends). IsTakenBack (end_at es key)) ends back)
+before_open number key old mid held e same at ends opens (Drains back) = inl (subst (λ (es : EndList). IsTakenBack (end_at es key)) ends back)
 before_open number key old mid held e same at ends opens (Opens hold its closed) =
     let x = holds old.pool key held e in
     let own : find_key key old.pool.holds.items ≡ Some hold = subst (λ (d : pools.Pool). find_key key d.holds.items ≡ Some hold) at its in
@@ -161,7 +161,7 @@ before_open number key old mid held e same at ends opens (Opens hold its closed)
     inr (sym (ap (λ (b : Bool). if b then reader_at number old.links.items else open_at number old.links.items) here) ∙ shut)
 
 -- what waited on the connection that it holds, before that
-there_before : (number key : ℕ) (old mid next : code.Relay) (held : Held) → held_at key old.pool ≡ Some held → held.0 ≡ number → mid.pool ≡ old.pool → ((other : ℕ) → waits_on other mid.links.items ≡ waits_on other old.links.items)
+there_before : (number key : ℕ) (old mid next : code.Relay) (held : HeldConnection) → held_at key old.pool ≡ Some held → held.0 ≡ number → mid.pool ≡ old.pool → ((other : ℕ) → waits_on other mid.links.items ≡ waits_on other old.links.items)
     → StartsThere key mid next → StartsBehind (waits_on number old.links.items) (body_of key mid) (body_of key next)
 there_before number key old mid next held e same at waits behind =
     let x = holds old.pool key held e in
@@ -175,7 +175,7 @@ pub started : (number : ℕ) (old mid next new : code.Relay) → IsReached (pool
     → ((key : ℕ) → key_of (find_number number (pool_in mid.pool).holds) ≡ Some key → StartsThere key mid next) → StartsOn number old new
 started number old mid next new reached at ends opens waits zero first later led unkept behind = record {
   start = λ key client e kept.
-      let held : Held = (number, client) in
+      let held : HeldConnection = (number, client) in
       let here : IsReached (pool_in mid.pool) = subst (λ (d : pools.Pool). IsReached (pool_in d)) (sym at) reached in
       let whose : key_of (find_number number (pool_in mid.pool).holds) ≡ Some key = ap (λ (d : pools.Pool). key_of (find_number number d.holds.items)) at ∙ holder_is old.pool key held reached e in
       elim (unkept key whose) [

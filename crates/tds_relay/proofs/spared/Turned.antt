@@ -18,17 +18,17 @@ use Rattle.tds_relay.specs.declared.relay.Relay as code
 use Rattle.tds_relay.specs.Anew.{ResetsFor}
 use Rattle.tds_relay.specs.Asking.{IsTakenBack, waits_in}
 use Rattle.tds_relay.specs.Bodies.{AskAsBefore, Astray, Body, Closed, Going, Kept, Nowhere, body_by, body_in, body_of, going_of}
-use Rattle.tds_relay.specs.Closings.{ClosesOnly, IsWho, Nobody, Register, register_in}
+use Rattle.tds_relay.specs.Closings.{ClosesOnly, IsWho, NoKey, Register, register_in}
 use Rattle.tds_relay.specs.Pool.{Pool, Renews, Serves, find_key, turn, without_lease}
 use Rattle.tds_relay.specs.declared.pool.leaving.Renewed.TheVariants as renewals
 use Rattle.tds_relay.proofs.held.Fewer.{last_held, who_held}
 use Rattle.tds_relay.proofs.spared.Filling.{lent_holds}
 use Rattle.tds_relay.specs.declared.pool.Served.{Served}
 use Rattle.tds_relay.specs.Fronts.{MovedOn, ends_in, core_in}
-use Rattle.tds_relay.specs.Core.{AsksFor, End, Ends, IfOpen, IfOpenAsks, Open, Over, end_at, holder}
+use Rattle.tds_relay.specs.Core.{AsksFor, End, EndList, IfOpen, IfOpenAsks, Open, Over, end_at, holder}
 use Rattle.tds_relay.specs.Waiting.{IsOpened, IsUnheldOrTurnedAway, KeepsQueues, OpensFor, IsLentInVain}
 use Rattle.tds_relay.specs.Queues.{Queue, fits, queue_in, queues_in}
-use Rattle.tds_relay.specs.Reads.{Opens, Seen, Sees, StaysAt, link_at, open_at, open_of, seen_at, seen_of, queue_on}
+use Rattle.tds_relay.specs.Reads.{Opens, Seen, HoldsOnLinks, StaysAt, link_at, open_at, open_of, seen_at, seen_of, queue_on}
 use Rattle.tds_relay.specs.Reasons as reasons
 use Rattle.tds_relay.specs.Reasons.{CannotAsk, CannotGoOn, CannotMove, CannotPart, CannotPut, CannotResume, CannotStart, CannotStartAt, HasNoRoom, IsReadyThere, IsTurnedAway, IsTurnedAwayAt, IsUnbegun, IsUnheld, IsUnrenewed, ItselfFor, NoneBegun, ResumesNot, ResumesNotAt, Unreset}
 use Rattle.tds_relay.specs.Sparing.{AllGo, IsKept, IsRenewed, IsUnkept}
@@ -219,7 +219,7 @@ some_seen None p stays some = absurd (let u : false ≡ true = some in let v : �
 some_seen (Some s) p stays some = subst (λ (q : Option Seen). IsSome (open_of q)) (sym stays) some
 
 -- where those that are there are seen as they were
-pub as_seen : (a b : List Link) → ((n : ℕ) → queue_on n b ≡ queue_on n a) → Sees a b → KeepsQueues a b
+pub as_seen : (a b : List Link) → ((n : ℕ) → queue_on n b ≡ queue_on n a) → HoldsOnLinks a b → KeepsQueues a b
 as_seen a b queues sees = record { queues = queues; opens = λ n some. some_seen (seen_at n b) (seen_at n a) (sees n (seen_at n a) (at_refl (seen_at n a))) some }
 
 -- what is kept is as it was kept
@@ -232,7 +232,7 @@ pub turned_with : (key : ℕ) (r r0 : code.Relay) (d : pools.Pool) (a : List Lin
     → IsTurnedAway key (end_at (ends_in r0.applications) key) d a (body_of key r0)
 turned_with key r r0 d a pool ends asks alike why =
     subst (λ (e : pools.Pool). IsTurnedAway key (end_at (ends_in r0.applications) key) e a (body_of key r0)) pool
-    (subst (λ (es : Ends). IsTurnedAway key (end_at es key) r.pool a (body_of key r0)) ends (turned_as key (end_at (ends_in r.applications) key) r.pool a r.links.items (body_of key r) (body_of key r0) alike (kept_asks key r r0 asks) why))
+    (subst (λ (es : EndList). IsTurnedAway key (end_at es key) r.pool a (body_of key r0)) ends (turned_as key (end_at (ends_in r.applications) key) r.pool a r.links.items (body_of key r) (body_of key r0) alike (kept_asks key r r0 asks) why))
 
 pub turned_on : (key : ℕ) (r r0 : code.Relay) (a : List Link) → r.pool ≡ r0.pool → ends_in r.applications ≡ ends_in r0.applications → AskAsBefore r0.applications r.applications → KeepsQueues a r.links.items → IsTurnedAwayAt key r
     → IsTurnedAway key (end_at (ends_in r0.applications) key) r0.pool a (body_of key r0)
@@ -253,14 +253,14 @@ resume_as : (key : ℕ) (end : Option End) (d : pools.Pool) (a b : List Link) (b
 resume_as key end d a b body was alike same (inl x) = inl (x.0, turned_as key end d a b body was alike same x.1)
 resume_as key end d a b body was alike same (inr x) = inr (x.0, renewed_as (CannotMove key end (pool_in d)) key end d a b body was alike same x.1)
 
-pub not_as : (number : ℕ) (key : Option ℕ) (ends ends1 : Ends) (d : pools.Pool) (a b : List Link) (body was : Body) (other : ℕ) → ends ≡ ends1 → KeepsQueues a b → (IsKept body → was ≡ body) → ResumesNot number key ends d b body other
+pub not_as : (number : ℕ) (key : Option ℕ) (ends ends1 : EndList) (d : pools.Pool) (a b : List Link) (body was : Body) (other : ℕ) → ends ≡ ends1 → KeepsQueues a b → (IsKept body → was ≡ body) → ResumesNot number key ends d b body other
     → ResumesNot number key ends1 d a was other
 not_as number key ends ends1 d a b body was other e alike same (inl x) =
     inl (
       x.0,
       elim x.1 [
         | inl none ↦ inl none
-        | inr why ↦ inr (subst (λ (es : Ends). CannotResume other (end_at es other) d a was) e (resume_as other (end_at ends other) d a b body was alike same why))
+        | inr why ↦ inr (subst (λ (es : EndList). CannotResume other (end_at es other) d a was) e (resume_as other (end_at ends other) d a b body was alike same why))
       ],
     )
 not_as number key ends ends1 d a b body was other e alike same (inr x) = inr x
@@ -362,7 +362,7 @@ opens_for number other old r pool ends asks opened why =
 -- ---- One that is lent one
 
 pub lent_for : {A E : Type 0} (r : Result A E) (key : ℕ) (old mid new : code.Relay) → mid.pool ≡ old.pool → mid.applications ≡ old.applications → ((n : ℕ) → queue_on n mid.links.items ≡ queue_on n old.links.items)
-    → Sees old.links.items mid.links.items → ClosesOnly Nobody (register_in old) (register_in mid) → OnOk r (ClosesOnly (ItselfFor key (IsUnheldOrTurnedAway key mid)) (register_in mid) (register_in new))
+    → HoldsOnLinks old.links.items mid.links.items → ClosesOnly NoKey (register_in old) (register_in mid) → OnOk r (ClosesOnly (ItselfFor key (IsUnheldOrTurnedAway key mid)) (register_in mid) (register_in new))
     → OnOk r (ClosesOnly (ItselfFor key (IsUnheldOrTurnedAway key old)) (register_in old) (register_in new))
 lent_for r key old mid new pool same queues sees first next =
     closes_first r (ItselfFor key (IsUnheldOrTurnedAway key old)) (register_in old) (register_in mid) (register_in new)

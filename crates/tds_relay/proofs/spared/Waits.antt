@@ -3,7 +3,7 @@ use Rattle.std.proofs.Common.{◌≡◌, ◌≢◌, ◌∙◌, ◌==◌, ◌++�
 use Rattle.std.proofs.lemmas.Bool.{eqb-true}
 use Rattle.std.specs.Prelude.{nat_le}
 use Rattle.tds_relay.specs.declared.link.Link.{Link}
-use Rattle.tds_relay.specs.Queues.{Queue, fits, queue_in, put}
+use Rattle.tds_relay.specs.Queues.{Queue, fits, queue_in, put_behind}
 use Rattle.tds_relay.specs.Reasons.{HasNoRoom}
 use Rattle.tds_relay.specs.Reads.{FillsAt, Fullness, link_at, place_of, queue_on, waits_on, without_link}
 use Rattle.tds_relay.proofs.steps.Fullness.{full_by}
@@ -89,7 +89,7 @@ none_queue by number ls is =
 -- ---- What is put there, or sent
 
 -- where it fits, all of it waits
-pub put_waits : (bytes : List ℕ) (p q : Queue) → q ≡ put bytes p → fits p bytes ≡ true → q.bytes ≡ p.bytes ++ bytes
+pub put_waits : (bytes : List ℕ) (p q : Queue) → q ≡ put_behind bytes p → fits p bytes ≡ true → q.bytes ≡ p.bytes ++ bytes
 put_waits bytes p q is fit = ap (λ (r : Queue). r.bytes) (is ∙ put_fits bytes p fit)
 
 not_full : (b c : Bool) → (not b && c) ≡ true → b ≡ false
@@ -97,7 +97,7 @@ not_full true c e = absurd (let u : false ≡ true = e in let v : ⊥ = cc in v)
 not_full false c e = refl
 
 -- and it is as full as it was
-pub put_full : (bytes : List ℕ) (p q : Queue) → q ≡ put bytes p → fits p bytes ≡ true → full_by q ≡ full_by p
+pub put_full : (bytes : List ℕ) (p q : Queue) → q ≡ put_behind bytes p → fits p bytes ≡ true → full_by q ≡ full_by p
 put_full bytes p q is fit =
     ap full_by (is ∙ put_fits bytes p fit) ∙ ap (λ (b : Bool). let f : Fullness = (p.size, b) in f) (sym (not_full p.is_full (nat_le (length p.bytes + length bytes) (p.size + 32768)) fit))
 
@@ -107,12 +107,12 @@ no_room bytes number ls place l is there unfit =
     let at : IsAt number ls place = is_at number ls place is in
     ap (option_map (λ (x : Link). fits (queue_in x.out) bytes)) (at.found l) ∙ ap (λ (x : Link). Some (fits (queue_in x.out) bytes)) (sym there) ∙ ap Some unfit
 
-either_put : (b : Bool) (bytes : List ℕ) (p : Queue) → fits p bytes ≡ b → FillsAt (Some p.bytes) (Some (put bytes p).bytes)
+either_put : (b : Bool) (bytes : List ℕ) (p : Queue) → fits p bytes ≡ b → FillsAt (Some p.bytes) (Some (put_behind bytes p).bytes)
 either_put true bytes p e = subst (λ (q : Queue). FillsAt (Some p.bytes) (Some q.bytes)) (sym (put_fits bytes p e)) (bytes, refl)
 either_put false bytes p e = subst (λ (q : Queue). FillsAt (Some p.bytes) (Some q.bytes)) (sym (put_fills bytes p e)) (fills_refl (Some p.bytes))
 
 -- what is put stands behind what waited, or isn't there
-pub fills_put : (bytes waits : List ℕ) (p q : Queue) → q ≡ put bytes p → p.bytes ≡ waits → FillsAt (Some waits) (Some q.bytes)
+pub fills_put : (bytes waits : List ℕ) (p q : Queue) → q ≡ put_behind bytes p → p.bytes ≡ waits → FillsAt (Some waits) (Some q.bytes)
 fills_put bytes waits p q is same =
     subst (λ (xs : List ℕ). FillsAt (Some xs) (Some q.bytes)) same
     (subst (λ (r : Queue). FillsAt (Some p.bytes) (Some r.bytes)) (sym is) (either_put (fits p bytes) bytes p refl))

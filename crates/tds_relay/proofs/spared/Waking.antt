@@ -5,7 +5,7 @@ use Rattle.std.proofs.lemmas.Bool.{cases_eq}
 use Rattle.std.proofs.lemmas.List.{get_or-set_other}
 use Rattle.std.proofs.Math.ListN.{get_or-map}
 use Rattle.slab.specs.Slab.{Slab, get}
-use Rattle.tds_wire.specs.Reading.{Reading}
+use Rattle.tds_wire.specs.Reading.{Parser}
 use Rattle.tds_packet.specs.declared.header.Header.{Header}
 use Rattle.tds_packet.specs.Reading as packets
 use Rattle.tds_relay.specs.declared.application.Application.{Application}
@@ -19,9 +19,9 @@ use Rattle.tds_relay.specs.declared.relay.Relay as relays
 use Rattle.tds_relay.specs.declared.order.Order.TheVariants as orders
 use Rattle.tds_relay.specs.Pool.{whose}
 use Rattle.tds_relay.specs.Fronts.{Moved, ends_in, core_in, core_of_ends, told_by}
-use Rattle.tds_relay.specs.Core.{End, Ends, Open, Over, end_at}
-use Rattle.tds_relay.specs.Handing.{Brings, IsFor}
-use Rattle.tds_relay.specs.Machine.{Machine, Manner, Withheld, change_whose, end_whose, handed, is_said, put_some}
+use Rattle.tds_relay.specs.Core.{End, EndList, Open, Over, end_at}
+use Rattle.tds_relay.specs.Handing.{BringsPacket, IsFor}
+use Rattle.tds_relay.specs.Machine.{Machine, Manner, Withheld, change_whose_queue, end_whose, handed, is_said, put_some}
 use Rattle.tds_relay.specs.Ordering.{StayOrdered}
 use Rattle.tds_relay.specs.Queues.{HasAll, Queue, Queues, names_in, names_of, queue_at, queue_of, queues_in}
 use Rattle.tds_relay.specs.Taking.{IsDeaf}
@@ -78,22 +78,22 @@ said_or : (said : Bool) (goes : News) (a : Answer) (header : Header) (content : 
 said_or true goes a header content manner by = inl refl
 said_or false goes a header content manner by = inr by
 
-puts_one : (heard : Heard) (k key : ℕ) (ends : Ends) (queues : Queues) (header : Header) (content : List ℕ) (manner : Manner) → heard.key ≡ Some k → (is_said heard.what (end_whose heard.key ends) ≡ true) ⊎ (manner ≡ Withheld) → (key ≡ k) ⊎ (key ≢ k)
-    → (queue_at (change_whose (Some k) (put_some (handed manner header content)) queues) key ≡ queue_at queues key) ⊎ HandsTo (Some heard) key ends
+puts_one : (heard : Heard) (k key : ℕ) (ends : EndList) (queues : Queues) (header : Header) (content : List ℕ) (manner : Manner) → heard.key ≡ Some k → (is_said heard.what (end_whose heard.key ends) ≡ true) ⊎ (manner ≡ Withheld) → (key ≡ k) ⊎ (key ≢ k)
+    → (queue_at (change_whose_queue (Some k) (put_some (handed manner header content)) queues) key ≡ queue_at queues key) ⊎ HandsTo (Some heard) key ends
 puts_one heard k key ends queues header content manner its said (inr differs) =
     inl (get_or-set_other queues k key (option_map (put_some (handed manner header content)) (queue_at queues k)) None differs)
 puts_one heard k key ends queues header content manner its (inl said) (inl same) =
     let mine : heard.key ≡ Some key = its ∙ ap (λ (n : ℕ). Some n) (sym same) in
     inr (mine, subst (λ (o : Option ℕ). is_said heard.what (end_whose o ends) ≡ true) mine said)
 puts_one heard k key ends queues header content manner its (inr withheld) (inl same) =
-    inl (sym (ap (λ (ps : Queues). queue_at ps key) (withheld_is (Some k) header content queues ∙ ap (λ (m : Manner). change_whose (Some k) (put_some (handed m header content)) queues) (sym withheld))))
+    inl (sym (ap (λ (ps : Queues). queue_at ps key) (withheld_is (Some k) header content queues ∙ ap (λ (m : Manner). change_whose_queue (Some k) (put_some (handed m header content)) queues) (sym withheld))))
 
-puts_whose : (heard : Heard) (who : Option ℕ) (ends : Ends) (queues : Queues) (header : Header) (content : List ℕ) (manner : Manner) → heard.key ≡ who → (is_said heard.what (end_whose heard.key ends) ≡ true) ⊎ (manner ≡ Withheld)
-    → PutsFor (Some heard) ends queues (change_whose who (put_some (handed manner header content)) queues)
+puts_whose : (heard : Heard) (who : Option ℕ) (ends : EndList) (queues : Queues) (header : Header) (content : List ℕ) (manner : Manner) → heard.key ≡ who → (is_said heard.what (end_whose heard.key ends) ≡ true) ⊎ (manner ≡ Withheld)
+    → PutsFor (Some heard) ends queues (change_whose_queue who (put_some (handed manner header content)) queues)
 puts_whose heard None ends queues header content manner its said = λ key. inl refl
 puts_whose heard (Some k) ends queues header content manner its said = λ key. puts_one heard k key ends queues header content manner its said (cases_eq key k)
 
-pub puts_brings : (number : ℕ) (parser : Option Reading) (a b : Answer) (r : packets.Reading) (heard : Heard) (old new : Machine) → Brings number parser a b r heard old new → PutsFor (Some heard) old.core.ends old.queues new.queues
+pub puts_brings : (number : ℕ) (parser : Option Parser) (a b : Answer) (r : packets.Reading) (heard : Heard) (old new : Machine) → BringsPacket number parser a b r heard old new → PutsFor (Some heard) old.core.ends old.queues new.queues
 puts_brings number parser a b r heard old new (inl e) = λ key. inl (ap (λ (h : Machine). queue_at h.queues key) e.1)
 puts_brings number parser a b r heard old new (inr p) =
     subst (PutsFor (Some heard) old.core.ends old.queues) (sym (ap (λ (h : Machine). h.queues) p.is))
@@ -101,12 +101,12 @@ puts_brings number parser a b r heard old new (inr p) =
     (said_or (is_said heard.what (end_whose heard.key old.core.ends)) p.goes a p.header p.content p.manner p.by))
 
 -- and whoever it is put for is woken
-puts_wake : (heard : Option Heard) (ends : Ends) (old mid : Queues) (t : Slab Application) (b : List Order) (key : ℕ) → (queue_at mid key ≡ queue_at old key) ⊎ HandsTo heard key ends → queues_in t ≡ mid → (HandsTo heard key ends → IsWoken key t b)
+puts_wake : (heard : Option Heard) (ends : EndList) (old mid : Queues) (t : Slab Application) (b : List Order) (key : ℕ) → (queue_at mid key ≡ queue_at old key) ⊎ HandsTo heard key ends → queues_in t ≡ mid → (HandsTo heard key ends → IsWoken key t b)
     → (queue_at (queues_in t) key ≡ queue_at old key) ⊎ IsWoken key t b
 puts_wake heard ends old mid t b key (inl same) kept wakes = inl (ap (λ (ps : Queues). queue_at ps key) kept ∙ same)
 puts_wake heard ends old mid t b key (inr hands) kept wakes = inr (wakes hands)
 
-pub heard_wakes : (heard : Option Heard) (ends : Ends) (old mid : Queues) (t : Slab Application) (b : List Order) → PutsFor heard ends old mid → queues_in t ≡ mid → ((key : ℕ) → HandsTo heard key ends → IsWoken key t b) → Wakes old t b
+pub heard_wakes : (heard : Option Heard) (ends : EndList) (old mid : Queues) (t : Slab Application) (b : List Order) → PutsFor heard ends old mid → queues_in t ≡ mid → ((key : ℕ) → HandsTo heard key ends → IsWoken key t b) → Wakes old t b
 heard_wakes heard ends old mid t b puts kept wakes = λ key. puts_wake heard ends old mid t b key (puts key) kept (wakes key)
 
 -- ---- What isn't said
@@ -117,13 +117,13 @@ said_closed (Some (Open front true asks)) e = let u : ⊥ = cc in u
 said_closed (Some (Open front false asks)) e = let u : ⊥ = cc in u
 said_closed (Some (Over why)) e = let u : ⊥ = cc in u
 
-pub not_closed : (heard : Heard) (key : ℕ) (ends : Ends) → heard.what ≡ whats.Closed → HandsTo (Some heard) key ends → ⊥
+pub not_closed : (heard : Heard) (key : ℕ) (ends : EndList) → heard.what ≡ whats.Closed → HandsTo (Some heard) key ends → ⊥
 not_closed heard key ends is h = said_closed (end_at ends key) (ap (λ (w : What). is_said w (end_at ends key)) (sym is) ∙ h.1)
 
-pub not_nobody : (heard : Heard) (key : ℕ) (ends : Ends) → heard.key ≡ None → HandsTo (Some heard) key ends → ⊥
+pub not_nobody : (heard : Heard) (key : ℕ) (ends : EndList) → heard.key ≡ None → HandsTo (Some heard) key ends → ⊥
 not_nobody heard key ends none h = let e : None ≡ Some key = sym none ∙ h.0 in let u : ⊥ = cc in u
 
-pub not_silent : (heard : Heard) (k key : ℕ) (ends : Ends) → heard.key ≡ Some k → heard.what ≡ whats.Acknowledged → is_said whats.Acknowledged (end_at ends k) ≡ false → HandsTo (Some heard) key ends → ⊥
+pub not_silent : (heard : Heard) (k key : ℕ) (ends : EndList) → heard.key ≡ Some k → heard.what ≡ whats.Acknowledged → is_said whats.Acknowledged (end_at ends k) ≡ false → HandsTo (Some heard) key ends → ⊥
 not_silent heard k key ends its is unsaid h =
     let same : key ≡ k = (let e : Some key ≡ Some k = sym h.0 ∙ its in cc) in
     let said : is_said whats.Acknowledged (end_at ends key) ≡ true = ap (λ (w : What). is_said w (end_at ends key)) (sym is) ∙ h.1 in
@@ -131,15 +131,15 @@ not_silent heard k key ends its is unsaid h =
     let v : ⊥ = cc in v
 
 -- whose it is
-pub woken_mine : (heard : Heard) (k key : ℕ) (ends : Ends) (t : Slab Application) (b : List Order) → heard.key ≡ Some k → IsWoken k t b → HandsTo (Some heard) key ends → IsWoken key t b
+pub woken_mine : (heard : Heard) (k key : ℕ) (ends : EndList) (t : Slab Application) (b : List Order) → heard.key ≡ Some k → IsWoken k t b → HandsTo (Some heard) key ends → IsWoken key t b
 woken_mine heard k key ends t b its w h =
     let same : k ≡ key = (let e : Some k ≡ Some key = sym its ∙ h.0 in cc) in
     subst (λ (n : ℕ). IsWoken n t b) same w
 
-pub hands_as : (o : Option Heard) (heard : Heard) (key : ℕ) (ends : Ends) → o ≡ Some heard → HandsTo o key ends → HandsTo (Some heard) key ends
+pub hands_as : (o : Option Heard) (heard : Heard) (key : ℕ) (ends : EndList) → o ≡ Some heard → HandsTo o key ends → HandsTo (Some heard) key ends
 hands_as o heard key ends is h = subst (λ (x : Option Heard). HandsTo x key ends) is h
 
-pub hands_nobody : (o : Option Heard) (key : ℕ) (ends : Ends) → o ≡ None → HandsTo o key ends → ⊥
+pub hands_nobody : (o : Option Heard) (key : ℕ) (ends : EndList) → o ≡ None → HandsTo o key ends → ⊥
 hands_nobody o key ends none h = subst (λ (x : Option Heard). HandsTo x key ends) none h
 
 -- ---- One packet
@@ -149,10 +149,10 @@ pub one_wakes : (number : ℕ) (old : Queues) (b c d : relays.Relay) (heard : Op
     → Moved (Connection number) (core_of_ends (pool_in c.pool) (told_by heard (ends_in c.applications))) (core_in d) → ((key : ℕ) → HandsTo heard key (ends_in c.applications) → IsWoken key d.applications d.orders.items)
     → Wakes old d.applications d.orders.items
 one_wakes number old b c d heard h ends names puts orders kept more moves wakes =
-    let mine : (key : ℕ) → HandsTo heard key (ends_in b.applications) → IsWoken key d.applications d.orders.items = λ key hands. wakes key (subst (λ (es : Ends). HandsTo heard key es) (sym ends) hands) in
+    let mine : (key : ℕ) → HandsTo heard key (ends_in b.applications) → IsWoken key d.applications d.orders.items = λ key hands. wakes key (subst (λ (es : EndList). HandsTo heard key es) (sym ends) hands) in
     wakes_both old b.applications d.applications b.orders.items d.orders.items h
     (heard_wakes heard (ends_in b.applications) (queues_in b.applications) (queues_in c.applications) d.applications d.orders.items puts kept mine)
     (ap names_of kept ∙ names) (subst (λ (all : List Order). StayOrdered all d.orders.items) orders more)
     (λ key deaf.
     deaf_led (Connection number) key (core_of_ends (pool_in c.pool) (told_by heard (ends_in c.applications))) (core_in d) moves
-    (deaf_told heard key (ends_in c.applications) (subst (λ (es : Ends). IsDeaf (end_at es key)) (sym ends) deaf)))
+    (deaf_told heard key (ends_in c.applications) (subst (λ (es : EndList). IsDeaf (end_at es key)) (sym ends) deaf)))

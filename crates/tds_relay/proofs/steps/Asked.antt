@@ -10,15 +10,15 @@ use Rattle.tds_front.specs.declared.front.Said.{Said}
 use Rattle.tds_front.specs.declared.front.Said.TheVariants as said
 use Rattle.tds_front.specs.Bytes.{fed}
 use Rattle.tds_relay.specs.declared.link.Link.{Link}
-use Rattle.tds_relay.specs.Asking.{AreObeyed, Asks, Closes, Drains, IfAsks, IsUnderway, Opens, Sends, Soon, Waits, said_in, said_of}
+use Rattle.tds_relay.specs.Asking.{AreObeyed, AsksByBytes, Closes, Drains, IfAsks, IsUnderway, Opens, Sends, Soon, Waits, said_of_piece, said_of}
 use Rattle.tds_relay.specs.Pool.{Pool}
 use Rattle.tds_relay.specs.Fronts.{ClosesInstead, FedOn, IsFed, Moved, MovedOn, TakesBetween, given_by, core_of_ends, machine_with}
-use Rattle.tds_relay.specs.Core.{End, Ends, Feeds, Core, Move, Moves, Open, change_end, closes, closes_for, end_at, moved, moved_all}
+use Rattle.tds_relay.specs.Core.{End, EndList, Feeds, Core, Move, Moves, Open, change_end, closes, closes_for, end_at, moved, moved_all}
 use Rattle.tds_relay.specs.Machine.{Machine, Step, Admits, Hands, Makes, Removes, Takes, Writes, after, after_all, owed, put_some}
 use Rattle.tds_relay.specs.Queues.{Queues, change}
 use Rattle.tds_relay.specs.Reads as reads
 use Rattle.tds_relay.specs.Reads.{StaysAt, open_at}
-use Rattle.tds_relay.specs.Taking.{IsDeaf, left_by}
+use Rattle.tds_relay.specs.Taking.{IsDeaf, bytes_left_by}
 use Rattle.tds_relay.specs.Ties.{Application}
 use Rattle.tds_relay.proofs.steps.Fed.{left_fed, waits_fed}
 use Rattle.tds_relay.proofs.steps.Fronts.{moves_closes, no_moves}
@@ -118,29 +118,29 @@ underway_on whole links next key h opens (Closes deaf) = Closes deaf
 
 -- ---- Of a call
 
-pub asks_begin : (key : ℕ) (h : Machine) (bytes : List ℕ) (links : List Link) → Asks key h bytes bytes links h
+pub asks_begin : (key : ℕ) (h : Machine) (bytes : List ℕ) (links : List Link) → AsksByBytes key h bytes bytes links h
 asks_begin key h bytes links = record { tells = tells_begin key h bytes; obeyed = tt }
 
 pub empty_is : (bytes : List ℕ) → (length bytes == 0) ≡ true → [] ≡ bytes
 empty_is [] e = refl
 empty_is (byte ∷ bytes) e = absurd (let none : length (byte ∷ bytes) ≡ 0 = eqb-true (length (byte ∷ bytes)) 0 e in let u : ⊥ = cc in u)
 
-pub asks_left : (key : ℕ) (old new : Machine) (bytes left rest : List ℕ) (links : List Link) → rest ≡ left → Asks key old bytes left links new → Asks key old bytes rest links new
-asks_left key old new bytes left rest links is a = subst (λ (xs : List ℕ). Asks key old bytes xs links new) (sym is) a
+pub asks_left : (key : ℕ) (old new : Machine) (bytes left rest : List ℕ) (links : List Link) → rest ≡ left → AsksByBytes key old bytes left links new → AsksByBytes key old bytes rest links new
+asks_left key old new bytes left rest links is a = subst (λ (xs : List ℕ). AsksByBytes key old bytes xs links new) (sym is) a
 
-pub asks_links : (key : ℕ) (old new : Machine) (bytes left : List ℕ) (links next : List Link) → reads.Opens links next → Asks key old bytes left links new → Asks key old bytes left next new
+pub asks_links : (key : ℕ) (old new : Machine) (bytes left : List ℕ) (links next : List Link) → reads.Opens links next → AsksByBytes key old bytes left links new → AsksByBytes key old bytes left next new
 asks_links key old new bytes left links next opens a = record {
   tells = a.tells;
   obeyed = obeyed_weaker (λ whole. IsUnderway whole links key) (λ whole. IsUnderway whole next key) key old a.tells.steps (λ whole h. underway_on whole links next key h opens) a.obeyed;
 }
 
 -- it is to be closed, so the others aren't taken
-pub asks_deaf : (key : ℕ) (old new : Machine) (bytes left rest : List ℕ) (links : List Link) → IsDeaf (end_at new.core.ends key) → Asks key old bytes left links new → Asks key old bytes rest links new
+pub asks_deaf : (key : ℕ) (old new : Machine) (bytes left rest : List ℕ) (links : List Link) → IsDeaf (end_at new.core.ends key) → AsksByBytes key old bytes left links new → AsksByBytes key old bytes rest links new
 asks_deaf key old new bytes left rest links deaf a = record { tells = tells_deaf key old new bytes left rest deaf a.tells; obeyed = a.obeyed }
 
 -- the core moves on
 asks_moves : (key : ℕ) (old : Machine) (bytes left : List ℕ) (links : List Link) (h h1 : Core) (ps ps1 : Queues) → Moves (Application key) h h1 → ps1 ≡ ps
-    → Asks key old bytes left links (record { core = h; queues = ps }) → Asks key old bytes left links (record { core = h1; queues = ps1 })
+    → AsksByBytes key old bytes left links (record { core = h; queues = ps }) → AsksByBytes key old bytes left links (record { core = h1; queues = ps1 })
 asks_moves key old bytes left links h h1 ps ps1 m kept a =
     let P : Bool → Core → Type 0 = λ whole. IsUnderway whole links key in
     record {
@@ -149,13 +149,13 @@ asks_moves key old bytes left links h h1 ps ps1 m kept a =
     }
 
 pub asks_moved : (key : ℕ) (old : Machine) (bytes left : List ℕ) (links : List Link) (h h1 : Core) (ps ps1 : Queues) → Moved (Application key) h h1 → ps1 ≡ ps
-    → Asks key old bytes left links (record { core = h; queues = ps }) → Asks key old bytes left links (record { core = h1; queues = ps1 })
+    → AsksByBytes key old bytes left links (record { core = h; queues = ps }) → AsksByBytes key old bytes left links (record { core = h1; queues = ps1 })
 asks_moved key old bytes left links h h1 ps ps1 m kept a = asks_moves key old bytes left links h h1 ps ps1 (m h (no_moves (Application key) h)) kept a
 
 -- ---- Bytes are taken, and then it goes on
 
-pub said_is : (bytes : List ℕ) (o : Option End) (front : Front) (withdrawn : Bool) (asks : Option Reset) (brings : Result Fed FrontFault) → o ≡ Some (Open front withdrawn asks) → (fed front bytes).brings ≡ brings → said_of bytes o ≡ said_in brings
-said_is bytes o front withdrawn asks brings was says = ap (said_of bytes) was ∙ ap said_in says
+pub said_is : (bytes : List ℕ) (o : Option End) (front : Front) (withdrawn : Bool) (asks : Option Reset) (brings : Result Fed FrontFault) → o ≡ Some (Open front withdrawn asks) → (fed front bytes).brings ≡ brings → said_of bytes o ≡ said_of_piece brings
+said_is bytes o front withdrawn asks brings was says = ap (said_of bytes) was ∙ ap said_of_piece says
 
 module _ (P : Bool → Core → Type 0) (key : ℕ) (left : List ℕ) where
   one_obeyed : (h : Machine) (moves : List Move) (h1 : Core) → moved_all (moved h.core (Feeds key left)) moves ≡ h1 → IfAsks (λ whole. P whole h1) (said_of left (end_at h.core.ends key))
@@ -173,8 +173,8 @@ module _ (P : Bool → Core → Type 0) (key : ℕ) (left : List ℕ) where
       (obeyed_both P key old xs (Takes key left ∷ makes_all moves) o (subst (λ (x : Machine). AreObeyed P key x (Takes key left ∷ makes_all moves)) (sym e) (one_obeyed h moves h1 are p)))
 
 asks_taken : (key : ℕ) (old : Machine) (bytes left rest : List ℕ) (links : List Link) (h : Machine) (h1 : Core) (ps1 : Queues) (front : Front) (withdrawn : Bool) (asks : Option Reset) → end_at h.core.ends key ≡ Some (Open front withdrawn asks)
-    → left_by left (end_at h.core.ends key) ≡ rest → change key (put_some (owed left (end_at h.core.ends key))) h.queues ≡ ps1 → Moves (Application key) (moved h.core (Feeds key left)) h1
-    → IfAsks (λ whole. IsUnderway whole links key h1) (said_of left (end_at h.core.ends key)) → Asks key old bytes left links h → Asks key old bytes rest links (record { core = h1; queues = ps1 })
+    → bytes_left_by left (end_at h.core.ends key) ≡ rest → change key (put_some (owed left (end_at h.core.ends key))) h.queues ≡ ps1 → Moves (Application key) (moved h.core (Feeds key left)) h1
+    → IfAsks (λ whole. IsUnderway whole links key h1) (said_of left (end_at h.core.ends key)) → AsksByBytes key old bytes left links h → AsksByBytes key old bytes rest links (record { core = h1; queues = ps1 })
 asks_taken key old bytes left rest links h h1 ps1 front withdrawn asks opened left_is waits m p a = record {
   tells = tells_moves key old bytes rest (moved h.core (Feeds key left)) h1 ps1 ps1 m refl (tells_takes key old bytes left rest h ps1 front withdrawn asks opened left_is waits a.tells);
   obeyed = taken_obeyed (λ whole. IsUnderway whole links key) key left old h a.tells.steps m.moves h1 a.tells.are m.are p a.obeyed;
@@ -184,17 +184,17 @@ asks_taken key old bytes left rest links h h1 ps1 front withdrawn asks opened le
 
 pub asks_refused : (key : ℕ) (old : Machine) (bytes left rest : List ℕ) (links : List Link) (h : Machine) (h1 : Core) (ps1 : Queues) (front : Front) (withdrawn : Bool) (asks : Option Reset) (fault : FrontFault) → end_at h.core.ends key ≡ Some (Open front withdrawn asks)
     → change key (put_some (owed left (end_at h.core.ends key))) h.queues ≡ h.queues → moved h.core (Feeds key left) ≡ core_of_ends h.core.pool (change_end key (closes_for (Some fault)) h.core.ends) → (fed front left).brings ≡ Err fault
-    → Moved (Application key) (core_of_ends h.core.pool (change_end key (closes_for (Some fault)) h.core.ends)) h1 → ps1 ≡ h.queues → Asks key old bytes left links h → Asks key old bytes rest links (record { core = h1; queues = ps1 })
+    → Moved (Application key) (core_of_ends h.core.pool (change_end key (closes_for (Some fault)) h.core.ends)) h1 → ps1 ≡ h.queues → AsksByBytes key old bytes left links h → AsksByBytes key old bytes rest links (record { core = h1; queues = ps1 })
 asks_refused key old bytes left rest links h h1 ps1 front withdrawn asks fault opened waits is says m kept a =
     let closed : Core = core_of_ends h.core.pool (change_end key (closes_for (Some fault)) h.core.ends) in
     let moves : Moves (Application key) (moved h.core (Feeds key left)) closed = subst (Moves (Application key) (moved h.core (Feeds key left))) is (no_moves (Application key) (moved h.core (Feeds key left))) in
     asks_moved key old bytes rest links closed h1 h.queues ps1 m kept
-    (asks_deaf key old (record { core = closed; queues = h.queues }) bytes (left_by left (end_at h.core.ends key)) rest links (deaf_for (Some fault) key h.core.ends)
-    (asks_taken key old bytes left (left_by left (end_at h.core.ends key)) links h closed h.queues front withdrawn asks opened refl waits moves
+    (asks_deaf key old (record { core = closed; queues = h.queues }) bytes (bytes_left_by left (end_at h.core.ends key)) rest links (deaf_for (Some fault) key h.core.ends)
+    (asks_taken key old bytes left (bytes_left_by left (end_at h.core.ends key)) links h closed h.queues front withdrawn asks opened refl waits moves
     (subst (IfAsks (λ whole. IsUnderway whole links key closed)) (sym (said_is left (end_at h.core.ends key) front withdrawn asks (Err fault) opened says)) tt) a))
 
-pub asks_expelled : {A E : Type 0} (r : Result A E) (key : ℕ) (old : Machine) (bytes left rest : List ℕ) (links next : List Link) (d : Pool) (es : Ends) (ps ps1 : Queues) (h1 : Core) → Asks key old bytes left links (machine_with d es ps)
-    → OnOk r (Moved (Application key) (core_of_ends d (change_end key closes es)) h1) → OnOk r (ps1 ≡ ps) → OnOk r (reads.Stays links next) → OnOk r (Asks key old bytes rest next (record { core = h1; queues = ps1 }))
+pub asks_expelled : {A E : Type 0} (r : Result A E) (key : ℕ) (old : Machine) (bytes left rest : List ℕ) (links next : List Link) (d : Pool) (es : EndList) (ps ps1 : Queues) (h1 : Core) → AsksByBytes key old bytes left links (machine_with d es ps)
+    → OnOk r (Moved (Application key) (core_of_ends d (change_end key closes es)) h1) → OnOk r (ps1 ≡ ps) → OnOk r (reads.LinksStay links next) → OnOk r (AsksByBytes key old bytes rest next (record { core = h1; queues = ps1 }))
 asks_expelled (Ok x) key old bytes left rest links next d es ps ps1 h1 a m kept stays =
     asks_links key old (record { core = h1; queues = ps1 }) bytes rest links next (stays_opens links next stays)
     (asks_moved key old bytes rest links (core_of_ends d (change_end key closes es)) h1 ps ps1 m kept
@@ -202,13 +202,13 @@ asks_expelled (Ok x) key old bytes left rest links next d es ps ps1 h1 a m kept 
     (asks_moved key old bytes left links (core_of_ends d es) (core_of_ends d (change_end key closes es)) ps ps (λ from h. moves_closes (Application key) from d d es (change_end key closes es) key refl refl h) refl a)))
 asks_expelled (Err e) key old bytes left rest links next d es ps ps1 h1 a m kept stays = tt
 
-asks_between : (key : ℕ) (old : Machine) (bytes left rest : List ℕ) (links : List Link) (d : Pool) (before now : Ends) (ps ps1 : Queues) (h1 : Core) (answer : Said) → (f : IsFed key before now left answer)
+asks_between : (key : ℕ) (old : Machine) (bytes left rest : List ℕ) (links : List Link) (d : Pool) (before now : EndList) (ps ps1 : Queues) (h1 : Core) (answer : Said) → (f : IsFed key before now left answer)
     → TakesBetween key (core_of_ends d before) left h1 ⊎ ClosesInstead key answer (core_of_ends d before) h1 → IfAsks (λ whole. IsUnderway whole links key h1) answer → rest ≡ drop f.count left → ps1 ≡ given_by key answer ps
-    → Asks key old bytes left links (machine_with d before ps) → Asks key old bytes rest links (record { core = h1; queues = ps1 })
+    → AsksByBytes key old bytes left links (machine_with d before ps) → AsksByBytes key old bytes rest links (record { core = h1; queues = ps1 })
 asks_between key old bytes left rest links d before now ps ps1 h1 answer f (inl b) p is given a =
-    let same : end_at b.mid.ends key ≡ end_at before key = ap (λ (es : Ends). end_at es key) b.same in
+    let same : end_at b.mid.ends key ≡ end_at before key = ap (λ (es : EndList). end_at es key) b.same in
     asks_taken key old bytes left rest links (record { core = b.mid; queues = ps }) h1 ps1 f.front f.withdrawn f.asks (same ∙ f.was)
-    (ap (left_by left) same ∙ left_fed key before now left answer f ∙ sym is)
+    (ap (bytes_left_by left) same ∙ left_fed key before now left answer f ∙ sym is)
     (ap (λ (o : Option End). change key (put_some (owed left o)) ps) same ∙ waits_fed key before now left answer ps f ∙ sym given)
     b.next
     (subst (IfAsks (λ whole. IsUnderway whole links key h1)) (sym (said_is left (end_at b.mid.ends key) f.front f.withdrawn f.asks (Ok (record { count = f.count; said = answer })) (same ∙ f.was) f.says)) p)
@@ -217,15 +217,15 @@ asks_between key old bytes left rest links d before now ps ps1 h1 answer f (inr 
     asks_deaf key old (record { core = h1; queues = ps1 }) bytes left rest links k.deaf
     (asks_moves key old bytes left links (core_of_ends d before) h1 ps ps1 k.moves (given ∙ k.nothing ps) a)
 
-pub asks_fed : (key : ℕ) (old : Machine) (bytes left rest : List ℕ) (links next : List Link) (d : Pool) (before now : Ends) (ps ps1 : Queues) (h1 : Core) (answer : Said) → FedOn key answer d now h1 → (f : IsFed key before now left answer)
-    → IfAsks (λ whole. IsUnderway whole next key h1) answer → reads.Stays links next → rest ≡ drop f.count left → ps1 ≡ given_by key answer ps → Asks key old bytes left links (machine_with d before ps)
-    → Asks key old bytes rest next (record { core = h1; queues = ps1 })
+pub asks_fed : (key : ℕ) (old : Machine) (bytes left rest : List ℕ) (links next : List Link) (d : Pool) (before now : EndList) (ps ps1 : Queues) (h1 : Core) (answer : Said) → FedOn key answer d now h1 → (f : IsFed key before now left answer)
+    → IfAsks (λ whole. IsUnderway whole next key h1) answer → reads.LinksStay links next → rest ≡ drop f.count left → ps1 ≡ given_by key answer ps → AsksByBytes key old bytes left links (machine_with d before ps)
+    → AsksByBytes key old bytes rest next (record { core = h1; queues = ps1 })
 asks_fed key old bytes left rest links next d before now ps ps1 h1 answer on f p stays is given a =
     asks_between key old bytes left rest next d before now ps ps1 h1 answer f (on before left f) p is given (asks_links key old (machine_with d before ps) bytes left links next (stays_opens links next stays) a)
 
 -- where a call answers
-pub asks_ok : {A E : Type 0} (r : Result A E) (key : ℕ) (old : Machine) (bytes left : List ℕ) (links next : List Link) (h h1 : Core) (ps ps1 : Queues) → Asks key old bytes left links (record { core = h; queues = ps })
-    → OnOk r (MovedOn h h1) → OnOk r (ps1 ≡ ps) → OnOk r (reads.Opens links next) → OnOk r (Asks key old bytes left next (record { core = h1; queues = ps1 }))
+pub asks_ok : {A E : Type 0} (r : Result A E) (key : ℕ) (old : Machine) (bytes left : List ℕ) (links next : List Link) (h h1 : Core) (ps ps1 : Queues) → AsksByBytes key old bytes left links (record { core = h; queues = ps })
+    → OnOk r (MovedOn h h1) → OnOk r (ps1 ≡ ps) → OnOk r (reads.Opens links next) → OnOk r (AsksByBytes key old bytes left next (record { core = h1; queues = ps1 }))
 asks_ok (Ok x) key old bytes left links next h h1 ps ps1 a m kept opens =
     asks_links key old (record { core = h1; queues = ps1 }) bytes left links next opens (asks_moved key old bytes left links h h1 ps ps1 (m (Application key)) kept a)
 asks_ok (Err e) key old bytes left links next h h1 ps ps1 a m kept opens = tt

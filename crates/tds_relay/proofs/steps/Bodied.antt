@@ -9,8 +9,8 @@ use Rattle.tds_relay.specs.declared.application.Application.{Application}
 use Rattle.tds_relay.specs.declared.application.Asking.{Asking}
 use Rattle.tds_relay.specs.declared.application.Asking.TheVariants as asking
 use Rattle.tds_relay.specs.Bodies.{AskAsBefore, AskOn, Body, Closed, Closes, Grows, Nowhere, Shuts, Spared, Starts, Stays, body_by, body_in}
-use Rattle.tds_relay.specs.Fronts.{end_of, ends_in}
-use Rattle.tds_relay.specs.Core.{End, Ends, Open, Over, change_end, closes, end_at}
+use Rattle.tds_relay.specs.Fronts.{own_end, ends_in}
+use Rattle.tds_relay.specs.Core.{End, EndList, Open, Over, change_end, closes, end_at}
 use Rattle.tds_relay.specs.Taking.{IsDeaf}
 use Rattle.tds_relay.proofs.steps.Fronts.{end_is}
 use Rattle.tds_relay.proofs.steps.Told.{deaf_closed}
@@ -90,7 +90,7 @@ shut_by : (why : Option FrontFault) (b : Bool) (end : End) (x : Body) → IsDeaf
 shut_by why true end x deaf not = refl
 shut_by why false end x deaf not = absurd (not deaf)
 
-shut_in : (o : Option Application) (goes : Body) → IsDeaf (option_map end_of o) → body_in o goes ≡ Closed
+shut_in : (o : Option Application) (goes : Body) → IsDeaf (option_map own_end o) → body_in o goes ≡ Closed
 shut_in None goes deaf = refl
 shut_in (Some a) goes deaf = shut_by a.fault a.is_over (Open a.front a.is_withdrawn a.reset) (body_in (Some (record a { is_over = false })) goes) deaf (λ none. none)
 
@@ -100,8 +100,8 @@ shut s key goes deaf = shut_in (get s key) goes (subst IsDeaf (end_is s key) dea
 pub shut_starts : (s : Slab Application) (key : ℕ) (b goes : Body) → IsDeaf (end_at (ends_in s) key) → Starts b (body_in (get s key) goes)
 shut_starts s key b goes deaf = subst (Starts b) (sym (shut s key goes deaf)) Closes
 
-pub closed_body : (key : ℕ) (s : Slab Application) (es : Ends) (goes : Body) → ends_in s ≡ change_end key closes es → body_in (get s key) goes ≡ Closed
-closed_body key s es goes e = shut s key goes (subst (λ (x : Ends). IsDeaf (end_at x key)) (sym e) (deaf_closed key es))
+pub closed_body : (key : ℕ) (s : Slab Application) (es : EndList) (goes : Body) → ends_in s ≡ change_end key closes es → body_in (get s key) goes ≡ Closed
+closed_body key s es goes e = shut s key goes (subst (λ (x : EndList). IsDeaf (end_at x key)) (sym e) (deaf_closed key es))
 
 -- ---- Nothing is asked
 

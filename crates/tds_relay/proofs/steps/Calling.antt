@@ -6,10 +6,10 @@ use Rattle.tds_service.specs.Service as calls
 use Rattle.tds_service.specs.Service.{Service, Call, lease_at, seat_numbered, service_after, step}
 use Rattle.tds_relay.specs.declared.pool.Hold.{Hold}
 use Rattle.tds_relay.specs.Pool as pool
-use Rattle.tds_relay.specs.Pool.{Pool, Event, Hearing, Loan, Turn, Way, brings_by, comes_by, pool_after, does, find_key, hearing, keeps_by, leaves, lent_in, renews, renews_by, serves, serves_by, ticket_in, turn}
+use Rattle.tds_relay.specs.Pool.{Pool, Event, Hearing, Loan, PoolTurn, Way, brings_by, comes_by, pool_after, holder_does, find_key, hearing, keeps_by, leaves, lent_in, renews, renews_by, serves, serves_by, ticket_in, turn}
 use Rattle.tds_relay.specs.Fronting.{calls_along}
 
-abbrev Follows : Pool → Turn → Type 0
+abbrev Follows : Pool → PoolTurn → Type 0
 Follows d t = t.pool.service ≡ service_after d.service t.calls
 
 serves_lent : (d : Pool) (key : ℕ) (others : List ℕ) (lent : Option Loan) → Follows d (serves_by d key others lent)
@@ -24,7 +24,7 @@ brings_follow : (d : Pool) (s : Service) (gives : Bool) (way : Way) (lent : Opti
 brings_follow d s gives way None = refl
 brings_follow d s gives way (Some lent) = refl
 
-does_follow : (d : Pool) (action : pool.Action) (o : Option Hold) → Follows d (does d action o)
+does_follow : (d : Pool) (action : pool.Action) (o : Option Hold) → Follows d (holder_does d action o)
 does_follow d action None = refl
 does_follow d action (Some h) = refl
 

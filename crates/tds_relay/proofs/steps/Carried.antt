@@ -12,10 +12,10 @@ use Rattle.tds_relay.specs.Asking.{said_of}
 use Rattle.tds_relay.specs.Bodies.{AreFollowed, Body, Carries, IsClosedAsEnd, Obeys, Starts, Stays, taken_of}
 use Rattle.tds_relay.specs.Pool.{Pool}
 use Rattle.tds_relay.specs.Fronts.{ClosesInstead, FedOn, IsFed, Moved, MovedOn, TakesBetween, given_by, core_of_ends, machine_with}
-use Rattle.tds_relay.specs.Core.{End, Ends, Feeds, Core, Move, Moves, Open, change_end, closes_for, end_at, moved}
+use Rattle.tds_relay.specs.Core.{End, EndList, Feeds, Core, Move, Moves, Open, change_end, closes_for, end_at, moved}
 use Rattle.tds_relay.specs.Machine.{Machine, Step, Admits, Hands, Makes, Removes, Takes, Writes, after, after_all, owed, put_some}
 use Rattle.tds_relay.specs.Queues.{Queues, change}
-use Rattle.tds_relay.specs.Taking.{IsDeaf, count_by, left_by}
+use Rattle.tds_relay.specs.Taking.{IsDeaf, count_by, bytes_left_by}
 use Rattle.tds_relay.specs.Ties.{Application}
 use Rattle.tds_relay.proofs.spared.Resting.{starts_both}
 use Rattle.tds_relay.proofs.steps.Asked.{said_is}
@@ -89,7 +89,7 @@ taken_is : (bytes : List ℕ) (o : Option End) (front : Front) (withdrawn : Bool
 taken_is bytes o front withdrawn asks brings was says = ap (taken_of bytes) was ∙ ap (λ (r : Result Fed FrontFault). take (count_by r bytes) bytes) says
 
 carries_taken : (key : ℕ) (old : Machine) (bytes left rest : List ℕ) (a b c : Body) (h : Machine) (h1 : Core) (ps1 : Queues) (front : Front) (withdrawn : Bool) (asks : Option Reset) → end_at h.core.ends key ≡ Some (Open front withdrawn asks)
-    → left_by left (end_at h.core.ends key) ≡ rest → change key (put_some (owed left (end_at h.core.ends key))) h.queues ≡ ps1 → Moves (Application key) (moved h.core (Feeds key left)) h1
+    → bytes_left_by left (end_at h.core.ends key) ≡ rest → change key (put_some (owed left (end_at h.core.ends key))) h.queues ≡ ps1 → Moves (Application key) (moved h.core (Feeds key left)) h1
     → Obeys (said_of left (end_at h.core.ends key)) (taken_of left (end_at h.core.ends key)) b c → IsClosedAsEnd (end_at h1.ends key) c → Carries key old bytes left a b h
     → Carries key old bytes rest a c (record { core = h1; queues = ps1 })
 carries_taken key old bytes left rest a b c h h1 ps1 front withdrawn asks opened left_is waits m o closed t = record {
@@ -109,18 +109,18 @@ carries_refused key old bytes left rest a b c h h1 ps1 front withdrawn asks faul
     let moves : Moves (Application key) (moved h.core (Feeds key left)) closed = subst (Moves (Application key) (moved h.core (Feeds key left))) is (no_moves (Application key) (moved h.core (Feeds key left))) in
     let stays : Obeys said.Nothing (taken_of left (end_at h.core.ends key)) b b = record { mid = b; does = refl; starts = Stays } in
     carries_moved key old bytes rest a b c closed h1 h.queues ps1 m kept s shut
-    (carries_deaf key old (record { core = closed; queues = h.queues }) bytes (left_by left (end_at h.core.ends key)) rest a b (deaf_for (Some fault) key h.core.ends)
-    (carries_taken key old bytes left (left_by left (end_at h.core.ends key)) a b b h closed h.queues front withdrawn asks opened refl waits moves
+    (carries_deaf key old (record { core = closed; queues = h.queues }) bytes (bytes_left_by left (end_at h.core.ends key)) rest a b (deaf_for (Some fault) key h.core.ends)
+    (carries_taken key old bytes left (bytes_left_by left (end_at h.core.ends key)) a b b h closed h.queues front withdrawn asks opened refl waits moves
     (subst (λ (answer : Said). Obeys answer (taken_of left (end_at h.core.ends key)) b b) (sym (said_is left (end_at h.core.ends key) front withdrawn asks (Err fault) opened says)) stays) (closed_deaf (end_at closed.ends key) b (deaf_for (Some fault) key h.core.ends)) t))
 
-carries_between : (key : ℕ) (old : Machine) (bytes left rest : List ℕ) (a b c : Body) (d : Pool) (before now : Ends) (ps ps1 : Queues) (h1 : Core) (answer : Said) → (f : IsFed key before now left answer)
+carries_between : (key : ℕ) (old : Machine) (bytes left rest : List ℕ) (a b c : Body) (d : Pool) (before now : EndList) (ps ps1 : Queues) (h1 : Core) (answer : Said) → (f : IsFed key before now left answer)
     → TakesBetween key (core_of_ends d before) left h1 ⊎ ClosesInstead key answer (core_of_ends d before) h1 → Obeys answer (take f.count left) b c → rest ≡ drop f.count left → ps1 ≡ given_by key answer ps
     → (IsDeaf (end_at h1.ends key) → Starts b c) → IsClosedAsEnd (end_at h1.ends key) c → Carries key old bytes left a b (machine_with d before ps)
     → Carries key old bytes rest a c (record { core = h1; queues = ps1 })
 carries_between key old bytes left rest a b c d before now ps ps1 h1 answer f (inl m) o is given shut closed t =
-    let same : end_at m.mid.ends key ≡ end_at before key = ap (λ (es : Ends). end_at es key) m.same in
+    let same : end_at m.mid.ends key ≡ end_at before key = ap (λ (es : EndList). end_at es key) m.same in
     carries_taken key old bytes left rest a b c (record { core = m.mid; queues = ps }) h1 ps1 f.front f.withdrawn f.asks (same ∙ f.was)
-    (ap (left_by left) same ∙ left_fed key before now left answer f ∙ sym is)
+    (ap (bytes_left_by left) same ∙ left_fed key before now left answer f ∙ sym is)
     (ap (λ (o : Option End). change key (put_some (owed left o)) ps) same ∙ waits_fed key before now left answer ps f ∙ sym given)
     m.next
     (subst (λ (said : Said). Obeys said (taken_of left (end_at m.mid.ends key)) b c) (sym (said_is left (end_at m.mid.ends key) f.front f.withdrawn f.asks (Ok (record { count = f.count; said = answer })) (same ∙ f.was) f.says))
@@ -131,7 +131,7 @@ carries_between key old bytes left rest a b c d before now ps ps1 h1 answer f (i
     carries_deaf key old (record { core = h1; queues = ps1 }) bytes left rest a c k.deaf
     (carries_moves key old bytes left a b c (core_of_ends d before) h1 ps ps1 k.moves (given ∙ k.nothing ps) (shut k.deaf) closed t)
 
-pub carries_fed : (key : ℕ) (old : Machine) (bytes left rest : List ℕ) (a b c : Body) (d : Pool) (before now : Ends) (ps ps1 : Queues) (h1 : Core) (answer : Said) → FedOn key answer d now h1 → (f : IsFed key before now left answer)
+pub carries_fed : (key : ℕ) (old : Machine) (bytes left rest : List ℕ) (a b c : Body) (d : Pool) (before now : EndList) (ps ps1 : Queues) (h1 : Core) (answer : Said) → FedOn key answer d now h1 → (f : IsFed key before now left answer)
     → Obeys answer (take f.count left) b c → rest ≡ drop f.count left → ps1 ≡ given_by key answer ps → (IsDeaf (end_at h1.ends key) → Starts b c) → IsClosedAsEnd (end_at h1.ends key) c → Carries key old bytes left a b (machine_with d before ps)
     → Carries key old bytes rest a c (record { core = h1; queues = ps1 })
 carries_fed key old bytes left rest a b c d before now ps ps1 h1 answer on f o is given shut closed t =

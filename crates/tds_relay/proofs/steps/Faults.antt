@@ -8,16 +8,16 @@ use Rattle.tds_relay.specs.Closings.{ClosesOnly, KeptBeside, Register}
 use Rattle.tds_relay.specs.Faults.{IsHeaderOf, IsRefusedOn, why_of}
 use Rattle.tds_relay.specs.declared.pool.coming.Heard.{Heard}
 use Rattle.tds_relay.specs.declared.fault.Refused.{Refused}
-use Rattle.tds_relay.specs.Fronts.{end_of, ends_in}
+use Rattle.tds_relay.specs.Fronts.{own_end, ends_in}
 use Rattle.tds_relay.specs.Core.{end_at}
 use Rattle.tds_relay.proofs.steps.Fed.{end_there}
 use Rattle.tds_relay.proofs.steps.Fronts.{end_is}
 
-pub why_there : (s : Slab Application) (key : ℕ) (a : Application) → Some a ≡ get s key → why_of (end_at (ends_in s) key) ≡ why_of (Some (end_of a))
+pub why_there : (s : Slab Application) (key : ℕ) (a : Application) → Some a ≡ get s key → why_of (end_at (ends_in s) key) ≡ why_of (Some (own_end a))
 why_there s key a is = ap why_of (end_there s key a is)
 
 pub why_nobody : (s : Slab Application) (key : ℕ) → get s key ≡ None → why_of (end_at (ends_in s) key) ≡ None
-why_nobody s key none = ap why_of (end_is s key ∙ ap (option_map end_of) none)
+why_nobody s key none = ap why_of (end_is s key ∙ ap (option_map own_end) none)
 
 -- ---- For a packet's header
 

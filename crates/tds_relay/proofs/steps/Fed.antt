@@ -14,12 +14,12 @@ use Rattle.tds_front.specs.Rules as rules
 use Rattle.tds_relay.specs.declared.application.Application.{Application}
 use Rattle.tds_relay.specs.Pool as pool
 use Rattle.tds_relay.specs.Pool.{Pool, Event, pool_after, turn}
-use Rattle.tds_relay.specs.Fronts.{IsFed, end_of, ends_in, given_by, core_of_ends, withdraws}
-use Rattle.tds_relay.specs.Core.{End, Ends, Feeds, IsThere, Open, Over, acknowledged, asks_by, change_end, closes, closes_for, end_at, end_behind, event_if, feeds, hands_on, hears, moved, stops_by, stops_of, takes_back}
+use Rattle.tds_relay.specs.Fronts.{IsFed, own_end, ends_in, given_by, core_of_ends, withdraws}
+use Rattle.tds_relay.specs.Core.{End, EndList, Feeds, IsEndThere, Open, Over, end_acknowledged, asks_by, change_end, closes, closes_for, end_at, end_behind, event_if, feeds, hands_on, end_hears, moved, stops_by, stops_of, takes_back}
 use Rattle.tds_relay.specs.Machine.{owed, owed_by, put_some}
 use Rattle.tds_relay.specs.Queues.{Queues, change}
 use Rattle.tds_relay.specs.Ties.{Turns}
-use Rattle.tds_relay.specs.Taking.{count_by, left_by}
+use Rattle.tds_relay.specs.Taking.{count_by, bytes_left_by}
 use Rattle.tds_relay.proofs.steps.Fronts.{changed_both, end_is, same_core}
 use Rattle.tds_relay.proofs.steps.Handed.{nothing_put}
 
@@ -52,15 +52,15 @@ given_fed key bytes front withdrawn asks o count answer queues was says =
     ∙ ap (λ (r : Result Fed FrontFault). change key (put_some (owed_by r)) queues) says ∙ given_is key count answer queues
 
 -- what waits for it then
-pub waits_fed : (key : ℕ) (before now : Ends) (bytes : List ℕ) (answer : Said) (queues : Queues) → IsFed key before now bytes answer → change key (put_some (owed bytes (end_at before key))) queues ≡ given_by key answer queues
+pub waits_fed : (key : ℕ) (before now : EndList) (bytes : List ℕ) (answer : Said) (queues : Queues) → IsFed key before now bytes answer → change key (put_some (owed bytes (end_at before key))) queues ≡ given_by key answer queues
 waits_fed key before now bytes answer queues f = given_fed key bytes f.front f.withdrawn f.asks (end_at before key) f.count answer queues f.was f.says
 
 -- what is left of them
-pub left_fed : (key : ℕ) (before now : Ends) (bytes : List ℕ) (answer : Said) → (f : IsFed key before now bytes answer) → left_by bytes (end_at before key) ≡ drop f.count bytes
-left_fed key before now bytes answer f = ap (left_by bytes) f.was ∙ ap (λ (r : Result Fed FrontFault). drop (count_by r bytes) bytes) f.says
+pub left_fed : (key : ℕ) (before now : EndList) (bytes : List ℕ) (answer : Said) → (f : IsFed key before now bytes answer) → bytes_left_by bytes (end_at before key) ≡ drop f.count bytes
+left_fed key before now bytes answer f = ap (bytes_left_by bytes) f.was ∙ ap (λ (r : Result Fed FrontFault). drop (count_by r bytes) bytes) f.says
 
 -- bytes were taken: what is done at the pool by them, and the end that they lead to
-core_fed : (key : ℕ) (d : Pool) (before now : Ends) (bytes : List ℕ) (answer : Said) (stops : Bool) → (takes_back answer || hands_on answer) ≡ stops → (f : IsFed key before now bytes answer)
+core_fed : (key : ℕ) (d : Pool) (before now : EndList) (bytes : List ℕ) (answer : Said) (stops : Bool) → (takes_back answer || hands_on answer) ≡ stops → (f : IsFed key before now bytes answer)
     → moved (core_of_ends d before) (Feeds key bytes)
     ≡ core_of_ends (pool_after d (event_if stops (pool.Does key pool.Stops))) (slice_set before key (Some (Open (fed f.front bytes).front (takes_back answer || f.withdrawn) (asks_by answer f.asks))))
 core_fed key d before now bytes answer stops same f =
@@ -71,7 +71,7 @@ core_fed key d before now bytes answer stops same f =
 -- ---- As it is done
 
 -- nothing is done at the pool by them
-pub fed_is : (key : ℕ) (d : Pool) (before now : Ends) (bytes : List ℕ) (answer : Said) → takes_back answer ≡ false → hands_on answer ≡ false → IsFed key before now bytes answer
+pub fed_is : (key : ℕ) (d : Pool) (before now : EndList) (bytes : List ℕ) (answer : Said) → takes_back answer ≡ false → hands_on answer ≡ false → IsFed key before now bytes answer
     → moved (core_of_ends d before) (Feeds key bytes) ≡ core_of_ends d now
 fed_is key d before now bytes answer keeps here f =
     core_fed key d before now bytes answer false (ap (λ (b : Bool). b || hands_on answer) keeps ∙ here) f
@@ -79,21 +79,21 @@ fed_is key d before now bytes answer keeps here f =
     (f.is ∙ ap (λ (b : Bool). slice_set before key (Some (Open (fed f.front bytes).front (b || f.withdrawn) (asks_by answer f.asks)))) (sym keeps))
 
 -- its attention is the server's
-pub handed_on_is : (key : ℕ) (d d1 : Pool) (before now : Ends) (bytes out out1 : List ℕ) → IsFed key before now bytes said.HandOn → Turns (pool.Does key pool.Stops) d d1 out out1
+pub handed_on_is : (key : ℕ) (d d1 : Pool) (before now : EndList) (bytes out out1 : List ℕ) → IsFed key before now bytes said.HandOn → Turns (pool.Does key pool.Stops) d d1 out out1
     → moved (core_of_ends d before) (Feeds key bytes) ≡ core_of_ends d1 now
 handed_on_is key d d1 before now bytes out out1 f t =
     core_fed key d before now bytes said.HandOn true refl f
     ∙ same_core (turn d (pool.Does key pool.Stops)).pool d1 (slice_set before key (Some (Open (fed f.front bytes).front f.withdrawn f.asks))) now t.pool_is f.is
 
 -- it stays what it is written twice
-set_twice : (before now : Ends) (key : ℕ) (end was : End) (by : End → End) → end_at before key ≡ Some was → now ≡ slice_set before key (Some end) → change_end key by now ≡ slice_set before key (Some (by end))
+set_twice : (before now : EndList) (key : ℕ) (end was : End) (by : End → End) → end_at before key ≡ Some was → now ≡ slice_set before key (Some end) → change_end key by now ≡ slice_set before key (Some (by end))
 set_twice before now key end was by there is =
     let one : now ≡ change_end key (λ e. end) before = is ∙ ap (λ (o : Option End). slice_set before key o) (sym (ap (option_map (λ (e : End). end)) there)) in
-    ap (λ (es : Ends). change_end key by es) one ∙ changed_both before key by (λ e. end)
+    ap (λ (es : EndList). change_end key by es) one ∙ changed_both before key by (λ e. end)
     ∙ ap (λ (o : Option End). slice_set before key (option_map (λ (e : End). by end) o)) there
 
 -- what had gone on of its request is taken back
-pub taken_back_at : (key : ℕ) (d : Pool) (before now behind : Ends) (bytes : List ℕ) → IsFed key before now bytes (said.Forget true) → behind ≡ change_end key withdraws now
+pub taken_back_at : (key : ℕ) (d : Pool) (before now behind : EndList) (bytes : List ℕ) → IsFed key before now bytes (said.Forget true) → behind ≡ change_end key withdraws now
     → moved (core_of_ends d before) (Feeds key bytes) ≡ core_of_ends (turn d (pool.Does key pool.Stops)).pool behind
 taken_back_at key d before now behind bytes f is =
     core_fed key d before now bytes (said.Forget true) true refl f
@@ -101,7 +101,7 @@ taken_back_at key d before now behind bytes f is =
     (is ∙ set_twice before now key (Open (fed f.front bytes).front f.withdrawn None) (Open f.front f.withdrawn f.asks) withdraws f.was f.is)
 
 -- they are none of a client's, and it is closed by them
-pub refused_is : (key : ℕ) (d : Pool) (es : Ends) (bytes : List ℕ) (front : Front) (withdrawn : Bool) (asks : Option Reset) (fault : FrontFault) → end_at es key ≡ Some (Open front withdrawn asks) → (fed front bytes).brings ≡ Err fault
+pub refused_is : (key : ℕ) (d : Pool) (es : EndList) (bytes : List ℕ) (front : Front) (withdrawn : Bool) (asks : Option Reset) (fault : FrontFault) → end_at es key ≡ Some (Open front withdrawn asks) → (fed front bytes).brings ≡ Err fault
     → moved (core_of_ends d es) (Feeds key bytes) ≡ core_of_ends d (change_end key (closes_for (Some fault)) es)
 refused_is key d es bytes front withdrawn asks fault was says =
     same_core (pool_after d (event_if (stops_of bytes (end_at es key)) (pool.Does key pool.Stops))) d (change_end key (feeds bytes) es) (change_end key (closes_for (Some fault)) es)
@@ -110,29 +110,29 @@ refused_is key d es bytes front withdrawn asks fault was says =
     (ap (option_map (closes_for (Some fault))) was
     ∙ sym (ap (option_map (feeds bytes)) was ∙ ap (λ (r : Result Fed FrontFault). Some (end_behind (fed front bytes).front withdrawn asks r)) says)))
 
-pub waits_refused : (key : ℕ) (es : Ends) (bytes : List ℕ) (front : Front) (withdrawn : Bool) (asks : Option Reset) (fault : FrontFault) (queues : Queues) → end_at es key ≡ Some (Open front withdrawn asks) → (fed front bytes).brings ≡ Err fault
+pub waits_refused : (key : ℕ) (es : EndList) (bytes : List ℕ) (front : Front) (withdrawn : Bool) (asks : Option Reset) (fault : FrontFault) (queues : Queues) → end_at es key ≡ Some (Open front withdrawn asks) → (fed front bytes).brings ≡ Err fault
     → change key (put_some (owed bytes (end_at es key))) queues ≡ queues
 waits_refused key es bytes front withdrawn asks fault queues was says =
     ap (λ (x : Option End). change key (put_some (owed bytes x)) queues) was
     ∙ ap (λ (r : Result Fed FrontFault). change key (put_some (owed_by r)) queues) says ∙ nothing_put queues key
 
 -- whatever was said, it is closed
-pub closed_fed : (by : End → End) (before now : Ends) (key : ℕ) (end was : End) → by was ≡ by end → end_at before key ≡ Some was → now ≡ slice_set before key (Some end) → change_end key by before ≡ change_end key by now
+pub closed_fed : (by : End → End) (before now : EndList) (key : ℕ) (end was : End) → by was ≡ by end → end_at before key ≡ Some was → now ≡ slice_set before key (Some end) → change_end key by before ≡ change_end key by now
 closed_fed by before now key end was same there is =
     ap (λ (o : Option End). slice_set before key (option_map by o)) there ∙ ap (λ (e : End). slice_set before key (Some e)) same ∙ sym (set_twice before now key end was by there is)
 
-pub closed_as_fed : (key : ℕ) (before now : Ends) (bytes : List ℕ) (answer : Said) → IsFed key before now bytes answer → change_end key closes before ≡ change_end key closes now
+pub closed_as_fed : (key : ℕ) (before now : EndList) (bytes : List ℕ) (answer : Said) → IsFed key before now bytes answer → change_end key closes before ≡ change_end key closes now
 closed_as_fed key before now bytes answer f = closed_fed closes before now key (Open (fed f.front bytes).front f.withdrawn (asks_by answer f.asks)) (Open f.front f.withdrawn f.asks) refl f.was f.is
 
 -- ---- As the code has it
 
-pub end_there : (s : Slab Application) (key : ℕ) (a : Application) → Some a ≡ get s key → end_at (ends_in s) key ≡ Some (end_of a)
-end_there s key a is = end_is s key ∙ ap (option_map end_of) (sym is)
+pub end_there : (s : Slab Application) (key : ℕ) (a : Application) → Some a ≡ get s key → end_at (ends_in s) key ≡ Some (own_end a)
+end_there s key a is = end_is s key ∙ ap (option_map own_end) (sym is)
 
-pub ends_written : (s : Slab Application) (key : ℕ) (a : Application) → ends_in (with_value s key a) ≡ slice_set (ends_in s) key (Some (end_of a))
-ends_written s key a = map-set (option_map end_of) s.slots key (Some a)
+pub ends_written : (s : Slab Application) (key : ℕ) (a : Application) → ends_in (with_value s key a) ≡ slice_set (ends_in s) key (Some (own_end a))
+ends_written s key a = map-set (option_map own_end) s.slots key (Some a)
 
-pub end_open : (a : Application) → a.is_over ≡ false → end_of a ≡ Open a.front a.is_withdrawn a.reset
+pub end_open : (a : Application) → a.is_over ≡ false → own_end a ≡ Open a.front a.is_withdrawn a.reset
 end_open a over = ap (λ (b : Bool). if b then Over a.fault else Open a.front a.is_withdrawn a.reset) over
 
 abbrev pub is_fed : (key : ℕ) (s : Slab Application) (a b : Application) (bytes : List ℕ) (count : ℕ) (answer : Said) → Some a ≡ get s key → a.is_over ≡ false → b.is_over ≡ false
@@ -150,18 +150,18 @@ is_fed key s a b bytes count answer is begins still withdrawn asks front says = 
       ∙ ap (λ (w : Bool). Open (fed a.front bytes).front w b.reset) withdrawn ∙ ap (λ (x : Option Reset). Open (fed a.front bytes).front a.is_withdrawn x) asks);
 }
 
-pub is_there : (s : Slab Application) (key : ℕ) (a : Application) → Some a ≡ get s key → IsThere (end_at (ends_in s) key)
-is_there s key a is = subst IsThere (sym (end_there s key a is)) tt
+pub is_there : (s : Slab Application) (key : ℕ) (a : Application) → Some a ≡ get s key → IsEndThere (end_at (ends_in s) key)
+is_there s key a is = subst IsEndThere (sym (end_there s key a is)) tt
 
 -- its attention has the acknowledgement; or what it took back has
 pub acked_if : (why : Option FrontFault) (over : Bool) (front : Front) (withdrawn : Bool) (asks : Option Reset) → withdrawn ≡ false
-    → (if over then Over why else Open (record front { stage = rules.acknowledged front.stage }) withdrawn None) ≡ acknowledged (hears (if over then Over why else Open front withdrawn asks))
+    → (if over then Over why else Open (record front { stage = rules.acknowledged front.stage }) withdrawn None) ≡ end_acknowledged (end_hears (if over then Over why else Open front withdrawn asks))
 acked_if why true front withdrawn asks e = refl
 acked_if why false front true asks e = absurd (let u : ⊥ = cc in u)
 acked_if why false front false asks e = refl
 
 pub resumed_if : (why : Option FrontFault) (over : Bool) (front : Front) (withdrawn : Bool) (asks : Option Reset) → withdrawn ≡ true
-    → (if over then Over why else Open front false asks) ≡ acknowledged (hears (if over then Over why else Open front withdrawn asks))
+    → (if over then Over why else Open front false asks) ≡ end_acknowledged (end_hears (if over then Over why else Open front withdrawn asks))
 resumed_if why true front withdrawn asks e = refl
 resumed_if why false front true asks e = refl
 resumed_if why false front false asks e = absurd (let u : ⊥ = cc in u)

@@ -17,12 +17,12 @@ use Rattle.tds_service.specs.Table.{answers_in}
 use Rattle.tds_relay.specs.declared.application.Application.{Application}
 use Rattle.tds_relay.specs.declared.pool.coming.Heard.{Heard}
 use Rattle.tds_relay.specs.declared.pool.coming.What.{What}
-use Rattle.tds_relay.specs.Anew.{Resets, ResetsFor}
+use Rattle.tds_relay.specs.Anew.{ResetsNext, ResetsFor}
 use Rattle.tds_relay.specs.declared.pool.Hold.{Hold}
 use Rattle.tds_relay.specs.Pool as pool
 use Rattle.tds_relay.specs.Pool.{Pool, Event, Way, find_key, turn}
-use Rattle.tds_relay.specs.Fronts.{IsWhat, LetsGoFirst, Moved, MovedOn, end_of, ends_in, core_of_ends, told_by}
-use Rattle.tds_relay.specs.Core.{CausesMove, Closes, Does, End, Ends, Core, HasEntered, Over, AsksFor, IfAsked, IfOpen, IfWhose, IsHere, IsQuiet, IsReset, LetsGo, MayPart, Loses, MayDoAlone, MayMove, MayMoveAll, Move, Moves, Open, Replaces, change_end, change_whose, closes, closes_for, end_at, holder, lets_go, may_park, moved, moved_all, told, what_in, what_of}
+use Rattle.tds_relay.specs.Fronts.{IsWhat, LetsGoFirst, Moved, MovedOn, own_end, ends_in, core_of_ends, told_by}
+use Rattle.tds_relay.specs.Core.{CausesMove, Closes, Does, End, EndList, Core, HasEntered, Over, AsksFor, IfAsked, IfOpen, IfWhose, IsHere, IsQuiet, IsReset, LetsGo, MayPart, Loses, MayDoAlone, MayMove, MayMoveAll, Move, Moves, Open, Replaces, change_end, change_whose, closes, closes_for, end_at, holder, lets_go, may_park, moved, moved_all, end_told, what_in, what_of}
 use Rattle.tds_relay.specs.Promises.{Each}
 use Rattle.tds_relay.specs.Ties as causes
 use Rattle.tds_relay.specs.Ties.{Cause, Causes, Turns}
@@ -31,51 +31,51 @@ use Rattle.tds_relay.proofs.steps.Seen.{seen_changed, seen_is, seen_kept, seen_n
 -- ---- The ends of all, where one of them changes
 
 -- an application is written back whose end is as it was
-pub ends_kept : (s : Slab Application) (key : ℕ) (a b : Application) → Some a ≡ get s key → end_of b ≡ end_of a → ends_in (with_value s key b) ≡ ends_in s
-ends_kept s key a b is same = seen_kept end_of s key a b is same
+pub ends_kept : (s : Slab Application) (key : ℕ) (a b : Application) → Some a ≡ get s key → own_end b ≡ own_end a → ends_in (with_value s key b) ≡ ends_in s
+ends_kept s key a b is same = seen_kept own_end s key a b is same
 
 -- one's is what its slot has
-pub end_is : (s : Slab Application) (key : ℕ) → end_at (ends_in s) key ≡ option_map end_of (get s key)
-end_is s key = seen_is end_of s key
+pub end_is : (s : Slab Application) (key : ℕ) → end_at (ends_in s) key ≡ option_map own_end (get s key)
+end_is s key = seen_is own_end s key
 
 -- of one that isn't there none moves
 pub ends_nobody : (s : Slab Application) (key : ℕ) (by : End → End) → get s key ≡ None → ends_in s ≡ change_end key by (ends_in s)
-ends_nobody s key by none = sym (seen_nobody end_of s key by none)
+ends_nobody s key by none = sym (seen_nobody own_end s key by none)
 
 -- one is written back whose end has moved
-pub ends_moved : (s : Slab Application) (key : ℕ) (a b : Application) (by : End → End) → Some a ≡ get s key → end_of b ≡ by (end_of a) → ends_in (with_value s key b) ≡ change_end key by (ends_in s)
-ends_moved s key a b by is moves = seen_changed end_of s key a b by is moves
+pub ends_moved : (s : Slab Application) (key : ℕ) (a b : Application) (by : End → End) → Some a ≡ get s key → own_end b ≡ by (own_end a) → ends_in (with_value s key b) ≡ change_end key by (ends_in s)
+ends_moved s key a b by is moves = seen_changed own_end s key a b by is moves
 
 -- the same behind two steps; or what it is behind the first
-pub ends_more : {A E : Type 0} (r : Result A E) (p q s : Ends) → OnOk r (p ≡ q) → q ≡ s → OnOk r (p ≡ s)
+pub ends_more : {A E : Type 0} (r : Result A E) (p q s : EndList) → OnOk r (p ≡ q) → q ≡ s → OnOk r (p ≡ s)
 ends_more (Ok x) p q s h k = h ∙ k
 ends_more (Err e) p q s h k = tt
 
 -- an application is there no more
 pub ends_quit : (s s1 : Slab Application) (key : ℕ) (r : Option Application) → r ≡ get s key → OnSome r (s1.slots ≡ slice_set s.slots key None) → IfNone r (s1 ≡ s)
     → ends_in s1 ≡ slice_set (ends_in s) key None
-ends_quit s s1 key r is slots absent = seen_quit end_of s s1 key r is slots absent
+ends_quit s s1 key r is slots absent = seen_quit own_end s s1 key r is slots absent
 
 -- an application has come
-pub ends_entered : (s s1 : Slab Application) (size key : ℕ) (a : Application) → get s key ≡ None → Updates s s1 key (Some a) → end_of a ≡ Open (new_front size) false None → HasEntered key (ends_in s) (ends_in s1)
+pub ends_entered : (s s1 : Slab Application) (size key : ℕ) (a : Application) → get s key ≡ None → Updates s s1 key (Some a) → own_end a ≡ Open (new_front size) false None → HasEntered key (ends_in s) (ends_in s1)
 ends_entered s s1 size key a none updates is = record {
-  was_free = end_is s key ∙ ap (option_map end_of) none;
+  was_free = end_is s key ∙ ap (option_map own_end) none;
   size = size;
-  begins = seen_new end_of s s1 key a updates ∙ ap Some is;
-  others_stay = λ other apart. seen_others end_of s s1 key other a updates apart;
+  begins = seen_new own_end s s1 key a updates ∙ ap Some is;
+  others_stay = λ other apart. seen_others own_end s s1 key other a updates apart;
 }
 
 -- ---- One end that changes
 
-pub changed_at : (es : Ends) (key : ℕ) (by : End → End) → end_at (change_end key by es) key ≡ option_map by (end_at es key)
+pub changed_at : (es : EndList) (key : ℕ) (by : End → End) → end_at (change_end key by es) key ≡ option_map by (end_at es key)
 changed_at [] key by = refl
 changed_at (e ∷ es) zero by = refl
 changed_at (e ∷ es) (suc key) by = changed_at es key by
 
-set_both : (es : Ends) (key : ℕ) (o p : Option End) → slice_set (slice_set es key o) key p ≡ slice_set es key p
+set_both : (es : EndList) (key : ℕ) (o p : Option End) → slice_set (slice_set es key o) key p ≡ slice_set es key p
 set_both [] key o p = refl
 set_both (e ∷ es) zero o p = refl
-set_both (e ∷ es) (suc key) o p = ap (λ (xs : Ends). e ∷ xs) (set_both es key o p)
+set_both (e ∷ es) (suc key) o p = ap (λ (xs : EndList). e ∷ xs) (set_both es key o p)
 
 map_both : (f g : End → End) (o : Option End) → option_map f (option_map g o) ≡ option_map (λ e. f (g e)) o
 map_both f g None = refl
@@ -85,19 +85,19 @@ map_same : (f g : End → End) → ((e : End) → f e ≡ g e) → (o : Option E
 map_same f g same None = refl
 map_same f g same (Some e) = ap Some (same e)
 
-pub changed_both : (es : Ends) (key : ℕ) (f g : End → End) → change_end key f (change_end key g es) ≡ change_end key (λ e. f (g e)) es
+pub changed_both : (es : EndList) (key : ℕ) (f g : End → End) → change_end key f (change_end key g es) ≡ change_end key (λ e. f (g e)) es
 changed_both es key f g =
     set_both es key (option_map g (end_at es key)) (option_map f (end_at (change_end key g es) key))
     ∙ ap (λ (o : Option End). slice_set es key o) (ap (option_map f) (changed_at es key g) ∙ map_both f g (end_at es key))
 
-pub changed_alike : (es : Ends) (key : ℕ) (f g : End → End) → ((e : End) → f e ≡ g e) → change_end key f es ≡ change_end key g es
+pub changed_alike : (es : EndList) (key : ℕ) (f g : End → End) → ((e : End) → f e ≡ g e) → change_end key f es ≡ change_end key g es
 changed_alike es key f g same = ap (λ (o : Option End). slice_set es key o) (map_same f g same (end_at es key))
 
 map_id : (f : End → End) → ((e : End) → f e ≡ e) → (o : Option End) → option_map f o ≡ o
 map_id f same None = refl
 map_id f same (Some e) = ap Some (same e)
 
-pub changed_not : (es : Ends) (key : ℕ) (f : End → End) → ((e : End) → f e ≡ e) → es ≡ change_end key f es
+pub changed_not : (es : EndList) (key : ℕ) (f : End → End) → ((e : End) → f e ≡ e) → es ≡ change_end key f es
 changed_not es key f same = sym (ap (λ (o : Option End). slice_set es key o) (map_id f same (end_at es key)) ∙ set-get_or es key None)
 
 -- one that is over or isn't there
@@ -106,7 +106,7 @@ open_over P why None = tt
 open_over P why (Some (Open front withdrawn asks)) = tt
 open_over P why (Some (Over was)) = tt
 
-pub open_closed : (P : Stage → Type 0) (es : Ends) (key : ℕ) → IfOpen P (end_at (change_end key closes es) key)
+pub open_closed : (P : Stage → Type 0) (es : EndList) (key : ℕ) → IfOpen P (end_at (change_end key closes es) key)
 open_closed P es key = subst (IfOpen P) (sym (changed_at es key closes)) (open_over P None (end_at es key))
 
 asks_over : (reset : Reset) (why : Option FrontFault) (o : Option End) → AsksFor reset (option_map (closes_for why) o)
@@ -115,13 +115,13 @@ asks_over reset why (Some (Open front withdrawn asks)) = tt
 asks_over reset why (Some (Over was)) = tt
 
 -- who is to be closed may be parted
-pub closed_parts : (why : Option FrontFault) (d : Pool) (es : Ends) (key : ℕ) → MayPart (core_of_ends d (change_end key (closes_for why) es)) key
+pub closed_parts : (why : Option FrontFault) (d : Pool) (es : EndList) (key : ℕ) → MayPart (core_of_ends d (change_end key (closes_for why) es)) key
 closed_parts why d es key =
     let at = sym (changed_at es key (closes_for why)) in
     (subst (IfOpen IsHere) at (open_over IsHere why (end_at es key)), inl (subst (AsksFor Full) at (asks_over Full why (end_at es key))))
 
 -- one that asks for this as its request has begun
-pub asks_begun : (asked : Option Reset) (es : Ends) (key : ℕ) (front : Front) (withdrawn : Bool) → IfAsked asked (end_at (slice_set es key (Some (Open front withdrawn asked))) key)
+pub asks_begun : (asked : Option Reset) (es : EndList) (key : ℕ) (front : Front) (withdrawn : Bool) → IfAsked asked (end_at (slice_set es key (Some (Open front withdrawn asked))) key)
 asks_begun asked [] key front withdrawn = tt
 asks_begun asked (x ∷ xs) zero front withdrawn = refl
 asks_begun asked (x ∷ xs) (suc key) front withdrawn = asks_begun asked xs key front withdrawn
@@ -144,11 +144,11 @@ unheld_reset d key (Some (Over why)) e = tt
 
 -- or what it asks for is done
 pub reset_there : (d : Pool) (key number : ℕ) (asks : Option Reset) (hold : Hold) (o : Option End) → find_key key d.holds ≡ Some hold → hold.number ≡ number → IfAsked asks o
-    → ((reset : Reset) → asks ≡ Some reset → Resets reset (seat_numbered number d.service.seats)) → IsReset d key o
+    → ((reset : Reset) → asks ≡ Some reset → ResetsNext reset (seat_numbered number d.service.seats)) → IsReset d key o
 reset_there d key number asks hold None its is asked resets = tt
 reset_there d key number None hold (Some (Open front withdrawn was)) its is asked resets = none_reset d key (Some (Open front withdrawn was)) asked
 reset_there d key number (Some reset) hold (Some (Open front withdrawn was)) its is asked resets =
-    let there : Resets reset (seat_numbered hold.number d.service.seats) = subst (λ (n : ℕ). Resets reset (seat_numbered n d.service.seats)) (sym is) (resets reset refl) in
+    let there : ResetsNext reset (seat_numbered hold.number d.service.seats) = subst (λ (n : ℕ). ResetsNext reset (seat_numbered n d.service.seats)) (sym is) (resets reset refl) in
     let held : ResetsFor (Some reset) (find_key key d.holds) d = subst (λ (h : Option Hold). ResetsFor (Some reset) h d) (sym its) there in
     subst (λ (r : Option Reset). ResetsFor r (find_key key d.holds) d) (sym asked) held
 reset_there d key number asks hold (Some (Over why)) its is asked resets = tt
@@ -158,7 +158,7 @@ asked_if true why front withdrawn asks = tt
 asked_if false why front withdrawn asks = refl
 
 pub asked_there : (s : Slab Application) (key : ℕ) (a : Application) → Some a ≡ get s key → IfAsked a.reset (end_at (ends_in s) key)
-asked_there s key a is = subst (IfAsked a.reset) (sym (end_is s key ∙ ap (option_map end_of) (sym is))) (asked_if a.is_over a.fault a.front a.is_withdrawn a.reset)
+asked_there s key a is = subst (IfAsked a.reset) (sym (end_is s key ∙ ap (option_map own_end) (sym is))) (asked_if a.is_over a.fault a.front a.is_withdrawn a.reset)
 
 -- ---- Moves, one behind the other
 
@@ -190,15 +190,15 @@ pub moves_one : (by : Cause) (from old : Core) (move : Move) → MayMove old mov
 moves_one by from old move may caused quiet m =
     moves_both by from old (moved old move) m (record { moves = move ∷ []; are = refl; may = (may, tt); caused = (caused, tt); quiet = (quiet, tt) })
 
-pub same_core : (d d1 : Pool) (es es1 : Ends) → d1 ≡ d → es1 ≡ es → core_of_ends d es ≡ core_of_ends d1 es1
-same_core d d1 es es1 same ends = ap (λ (x : Pool). core_of_ends x es) (sym same) ∙ ap (λ (x : Ends). core_of_ends d1 x) (sym ends)
+pub same_core : (d d1 : Pool) (es es1 : EndList) → d1 ≡ d → es1 ≡ es → core_of_ends d es ≡ core_of_ends d1 es1
+same_core d d1 es es1 same ends = ap (λ (x : Pool). core_of_ends x es) (sym same) ∙ ap (λ (x : EndList). core_of_ends d1 x) (sym ends)
 
 -- to the same core
-pub moves_same : (by : Cause) (from : Core) (d d1 : Pool) (es es1 : Ends) → d1 ≡ d → es1 ≡ es → Moves by from (core_of_ends d es) → Moves by from (core_of_ends d1 es1)
+pub moves_same : (by : Cause) (from : Core) (d d1 : Pool) (es es1 : EndList) → d1 ≡ d → es1 ≡ es → Moves by from (core_of_ends d es) → Moves by from (core_of_ends d1 es1)
 moves_same by from d d1 es es1 same ends m = subst (Moves by from) (same_core d d1 es es1 same ends) m
 
 -- and on from it
-pub moved_same : (by : Cause) (d d1 : Pool) (es es1 : Ends) (new : Core) → d1 ≡ d → es1 ≡ es → Moved by (core_of_ends d1 es1) new → Moved by (core_of_ends d es) new
+pub moved_same : (by : Cause) (d d1 : Pool) (es es1 : EndList) (new : Core) → d1 ≡ d → es1 ≡ es → Moved by (core_of_ends d1 es1) new → Moved by (core_of_ends d es) new
 moved_same by d d1 es es1 new same ends m = λ from h. m from (moves_same by from d d1 es es1 same ends h)
 
 -- where a call answers
@@ -208,23 +208,23 @@ moves_ok (Err e) by old new m = tt
 
 -- ---- Each as the code does it
 
-pub moves_does : (by : Cause) (from : Core) (d d1 : Pool) (es es1 : Ends) (event : Event) (before after : List ℕ)
+pub moves_does : (by : Cause) (from : Core) (d d1 : Pool) (es es1 : EndList) (event : Event) (before after : List ℕ)
     → Turns event d d1 before after → MayDoAlone (core_of_ends d es) event → Causes by event → es1 ≡ es → Moves by from (core_of_ends d es) → Moves by from (core_of_ends d1 es1)
 moves_does by from d d1 es es1 event before after t may cause ends m =
     subst (Moves by from) (same_core (turn d event).pool d1 es es1 t.pool_is ends) (moves_one by from (core_of_ends d es) (Does event) may cause tt m)
 
-pub moves_closes : (by : Cause) (from : Core) (d d1 : Pool) (es es1 : Ends) (key : ℕ) → d1 ≡ d → es1 ≡ change_end key closes es → Moves by from (core_of_ends d es) → Moves by from (core_of_ends d1 es1)
+pub moves_closes : (by : Cause) (from : Core) (d d1 : Pool) (es es1 : EndList) (key : ℕ) → d1 ≡ d → es1 ≡ change_end key closes es → Moves by from (core_of_ends d es) → Moves by from (core_of_ends d1 es1)
 moves_closes by from d d1 es es1 key same ends m =
     subst (Moves by from) (same_core d d1 (change_end key closes es) es1 same ends) (moves_one by from (core_of_ends d es) (Closes key) tt tt tt m)
 
-pub moves_loses : (by : Cause) (from : Core) (d d1 : Pool) (es es1 : Ends) (number : ℕ) (key : Option ℕ) (before after : List ℕ)
+pub moves_loses : (by : Cause) (from : Core) (d d1 : Pool) (es es1 : EndList) (number : ℕ) (key : Option ℕ) (before after : List ℕ)
     → Turns (pool.Loses number) d d1 before after → key ≡ holder d number → es1 ≡ change_whose key closes es → Moves by from (core_of_ends d es) → Moves by from (core_of_ends d1 es1)
 moves_loses by from d d1 es es1 number key before after t its ends m =
     subst (Moves by from)
     (same_core (turn d (pool.Loses number)).pool d1 (change_whose (holder d number) closes es) es1 t.pool_is (ends ∙ ap (λ (o : Option ℕ). change_whose o closes es) its))
     (moves_one by from (core_of_ends d es) (Loses number) tt tt tt m)
 
-pub lets_go_first : (key : ℕ) (d d1 : Pool) (es es1 : Ends) (new : Core) (gives : Bool) (way : Way) (before after : List ℕ)
+pub lets_go_first : (key : ℕ) (d d1 : Pool) (es es1 : EndList) (new : Core) (gives : Bool) (way : Way) (before after : List ℕ)
     → Turns (pool.Leaves key gives way) d d1 before after → es1 ≡ change_end key lets_go es → MovedOn (core_of_ends d1 es1) new → LetsGoFirst key (core_of_ends d es) new
 lets_go_first key d d1 es es1 new gives way before after t ends on = (
   gives,
@@ -232,17 +232,17 @@ lets_go_first key d d1 es es1 new gives way before after t ends on = (
   λ by. moved_same by (turn d (pool.Leaves key gives way)).pool d1 (change_end key lets_go es) es1 new t.pool_is ends (on by),
 )
 
-pub moves_lets_go : (key : ℕ) (from : Core) (d : Pool) (es : Ends) (new : Core) → MayPart (core_of_ends d es) key → LetsGoFirst key (core_of_ends d es) new
+pub moves_lets_go : (key : ℕ) (from : Core) (d : Pool) (es : EndList) (new : Core) → MayPart (core_of_ends d es) key → LetsGoFirst key (core_of_ends d es) new
     → Moves (causes.Application key) from (core_of_ends d es) → Moves (causes.Application key) from new
 moves_lets_go key from d es new here l m =
     l.2 (causes.Application key) from (moves_one (causes.Application key) from (core_of_ends d es) (LetsGo key false l.0 l.1) here refl tt m)
 
-pub moves_parks : (key : ℕ) (from : Core) (d : Pool) (es : Ends) (new : Core) → may_park (core_of_ends d es) key ≡ true → LetsGoFirst key (core_of_ends d es) new
+pub moves_parks : (key : ℕ) (from : Core) (d : Pool) (es : EndList) (new : Core) → may_park (core_of_ends d es) key ≡ true → LetsGoFirst key (core_of_ends d es) new
     → Moves (causes.Parking key) from (core_of_ends d es) → Moves (causes.Parking key) from new
 moves_parks key from d es new rests l m =
     l.2 (causes.Parking key) from (moves_one (causes.Parking key) from (core_of_ends d es) (LetsGo key true l.0 l.1) rests refl tt m)
 
-pub moves_replaces : (number key : ℕ) (from : Core) (d d1 : Pool) (es es1 : Ends) (before after : List ℕ)
+pub moves_replaces : (number key : ℕ) (from : Core) (d d1 : Pool) (es es1 : EndList) (before after : List ℕ)
     → Turns (pool.Loses number) d d1 before after → Some key ≡ holder d number → IfWhose (MayPart (core_of_ends d es)) (holder d number) → es1 ≡ change_end key lets_go es
     → Moves (causes.Connection number) from (core_of_ends d es) → Moves (causes.Connection number) from (core_of_ends d1 es1)
 moves_replaces number key from d d1 es es1 before after t its here ends m =
@@ -250,10 +250,10 @@ moves_replaces number key from d d1 es es1 before after t its here ends m =
     (same_core (turn d (pool.Loses number)).pool d1 (change_whose (holder d number) lets_go es) es1 t.pool_is (ends ∙ ap (λ (o : Option ℕ). change_whose o lets_go es) its))
     (moves_one (causes.Connection number) from (core_of_ends d es) (Replaces number) here refl tt m)
 
-pub gone_stays : (es : Ends) (key : ℕ) (by : End → End) → change_end key by (slice_set es key None) ≡ slice_set es key None
+pub gone_stays : (es : EndList) (key : ℕ) (by : End → End) → change_end key by (slice_set es key None) ≡ slice_set es key None
 gone_stays [] key by = refl
 gone_stays (e ∷ es) zero by = refl
-gone_stays (e ∷ es) (suc key) by = ap (λ (xs : Ends). e ∷ xs) (gone_stays es key by)
+gone_stays (e ∷ es) (suc key) by = ap (λ (xs : EndList). e ∷ xs) (gone_stays es key by)
 
 -- ---- As the pool answers it
 
@@ -273,19 +273,19 @@ nobodys_what (Some key) what dones nobody = absurd (let u : ⊥ = cc in u)
 -- ---- What is heard
 
 -- as code tells it
-pub told_as : (who : Option ℕ) (key : ℕ) (what said : What) (es es1 : Ends) → who ≡ Some key → what ≡ said → es1 ≡ change_end key (told said) es → es1 ≡ change_whose who (told what) es
+pub told_as : (who : Option ℕ) (key : ℕ) (what said : What) (es es1 : EndList) → who ≡ Some key → what ≡ said → es1 ≡ change_end key (end_told said) es → es1 ≡ change_whose who (end_told what) es
 told_as who key what said es es1 its is ends =
-    ends ∙ ap (λ (x : What). change_end key (told x) es) (sym is) ∙ ap (λ (o : Option ℕ). change_whose o (told what) es) (sym its)
+    ends ∙ ap (λ (x : What). change_end key (end_told x) es) (sym is) ∙ ap (λ (o : Option ℕ). change_whose o (end_told what) es) (sym its)
 
-pub told_nobody : (who : Option ℕ) (what : What) (es : Ends) → who ≡ None → es ≡ change_whose who (told what) es
-told_nobody who what es nobody = ap (λ (o : Option ℕ). change_whose o (told what) es) (sym nobody)
+pub told_nobody : (who : Option ℕ) (what : What) (es : EndList) → who ≡ None → es ≡ change_whose who (end_told what) es
+told_nobody who what es nobody = ap (λ (o : Option ℕ). change_whose o (end_told what) es) (sym nobody)
 
-pub told_some : (o : Option Heard) (heard : Heard) (es : Ends) → o ≡ Some heard → change_whose heard.key (told heard.what) es ≡ told_by o es
+pub told_some : (o : Option Heard) (heard : Heard) (es : EndList) → o ≡ Some heard → change_whose heard.key (end_told heard.what) es ≡ told_by o es
 told_some o heard es is = ap (λ (x : Option Heard). told_by x es) (sym is)
 
-pub told_none : (o : Option Heard) (es : Ends) → o ≡ None → es ≡ told_by o es
+pub told_none : (o : Option Heard) (es : EndList) → o ≡ None → es ≡ told_by o es
 told_none o es is = ap (λ (x : Option Heard). told_by x es) (sym is)
 
-pub told_whose : (who : Option ℕ) (what : What) (dones : List (Done Token)) (es : Ends) → IsWhat who what dones → change_whose who (told (what_in dones)) es ≡ change_whose who (told what) es
+pub told_whose : (who : Option ℕ) (what : What) (dones : List (Done Token)) (es : EndList) → IsWhat who what dones → change_whose who (end_told (what_in dones)) es ≡ change_whose who (end_told what) es
 told_whose None what dones es is = refl
-told_whose (Some key) what dones es is = ap (λ (w : What). change_end key (told w) es) (sym is)
+told_whose (Some key) what dones es is = ap (λ (w : What). change_end key (end_told w) es) (sym is)

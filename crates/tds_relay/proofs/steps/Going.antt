@@ -5,7 +5,7 @@ use Rattle.tds_packet.specs.declared.kind.Kind.{Kind}
 use Rattle.tds_client.specs.declared.message.MessageKind.{MessageKind}
 use Rattle.tds_client.specs.Session.{ClientSession}
 use Rattle.tds_client.specs.Streams.{finished, opened, packets_are, put}
-use Rattle.tds_service.specs.Table.{DoesAt, Opens}
+use Rattle.tds_service.specs.Table.{DoesAt, BeginsMessage}
 use Rattle.tds_relay.specs.Reads.{waits_on}
 use Rattle.tds_relay.specs.declared.application.Application.{Application}
 use Rattle.tds_relay.specs.declared.application.Asking.{Asking}
@@ -14,9 +14,9 @@ use Rattle.tds_relay.specs.declared.pool.Pool as pools
 use Rattle.tds_relay.specs.declared.pool.Hold.{Hold}
 use Rattle.tds_relay.specs.declared.link.Link.{Link}
 use Rattle.tds_relay.specs.Asking.{waits_in, waits_of}
-use Rattle.tds_relay.specs.Bodies.{ArePut, Asks, Begins, Body, ClientPuts, Closed, Closes, Drifts, Going, Goes, Grows, Keeps, Kept, Refuses, Sends, Shuts, Spared, Starts, body_by, body_in, going, going_by, held_of}
+use Rattle.tds_relay.specs.Bodies.{ArePut, Asks, BeginsBody, Body, ClientPuts, Closed, Closes, Drifts, Going, Goes, Grows, Keeps, Kept, Refuses, Sends, Shuts, Spared, Starts, body_by, body_in, going, going_by, held_of}
 use Rattle.tds_relay.specs.Pool as pool
-use Rattle.tds_relay.specs.Pool.{Pool, Action, does, find_key}
+use Rattle.tds_relay.specs.Pool.{Pool, Action, holder_does, find_key}
 use Rattle.tds_relay.specs.Sparing as sparing
 use Rattle.tds_relay.specs.Sparing.{StartsBehind}
 use Rattle.tds_relay.specs.Ties.{Turns}
@@ -24,7 +24,7 @@ use Rattle.tds_relay.proofs.steps.Bodied.{spared_starts}
 
 -- ---- At the pool
 
-holds_does : (d : Pool) (action : Action) (o : Option Hold) → (does d action o).pool.holds ≡ d.holds
+holds_does : (d : Pool) (action : Action) (o : Option Hold) → (holder_does d action o).pool.holds ≡ d.holds
 holds_does d action None = refl
 holds_does d action (Some hold) = refl
 
@@ -139,14 +139,14 @@ grows_kept whole more m n g h a b kind was there is asks asked over held =
     subst (λ (x : Body). Grows whole more x (body_in n h)) (sym from)
     (subst (Grows whole more (if a.is_over then Closed else Kept kind a.held.items was)) (sym to) (kept_by a.is_over kind a.held.items more was whole))
 
-begun_by : (over : Bool) (kind : Kind) (message : MessageKind) → packets_are message ≡ kind → Begins kind (if over then Closed else Kept message [] false)
+begun_by : (over : Bool) (kind : Kind) (message : MessageKind) → packets_are message ≡ kind → BeginsBody kind (if over then Closed else Kept message [] false)
 begun_by true kind message is = Refuses
 begun_by false kind message is = Asks message is
 
 -- with nothing of it yet
-pub begun : (n : Option Application) (h : Body) (b : Application) (kind : Kind) (message : MessageKind) → n ≡ Some b → b.asking ≡ asking.Waits message false → b.held.items ≡ [] → packets_are message ≡ kind → Begins kind (body_in n h)
+pub begun : (n : Option Application) (h : Body) (b : Application) (kind : Kind) (message : MessageKind) → n ≡ Some b → b.asking ≡ asking.Waits message false → b.held.items ≡ [] → packets_are message ≡ kind → BeginsBody kind (body_in n h)
 begun n h b kind message is asked held packets =
-    subst (Begins kind) (sym (ap (λ (x : Option Application). body_in x h) is ∙ waits_is b h message false asked ∙ ap (λ (xs : List ℕ). if b.is_over then Closed else Kept message xs false) held)) (begun_by b.is_over kind message packets)
+    subst (BeginsBody kind) (sym (ap (λ (x : Option Application). body_in x h) is ∙ waits_is b h message false asked ∙ ap (λ (xs : List ℕ). if b.is_over then Closed else Kept message xs false) held)) (begun_by b.is_over kind message packets)
 
 -- wherever it would go on
 waits_by : (x : Asking) (whole : Bool) (held : List ℕ) (g h : Body) → waits_in x ≡ Some whole → body_by x held g ≡ body_by x held h
@@ -181,7 +181,7 @@ starts_by : (whole : Bool) (held : List ℕ) (kind : MessageKind) (number : ℕ)
 starts_by whole held kind number from had waits b there g = starts_as whole held kind number from waits b (subst (λ (o : Option (List ℕ)). Grows whole held (going_by number (Some (opened from kind)) o) b) there g)
 
 pub starts_on : (whole : Bool) (held : List ℕ) (kind : MessageKind) (key : ℕ) (old new : pools.Pool) (ls : List Link) (hold : Hold) (waits : List ℕ) (b : Body) → find_key key old.holds.items ≡ Some hold → new.holds.items ≡ old.holds.items
-    → Opens kind hold.lease old.service new.service → waits_on hold.number ls ≡ Some waits → Grows whole held (going new.service ls (find_key key new.holds.items)) b → Starts (Kept kind held whole) b
+    → BeginsMessage kind hold.lease old.service new.service → waits_on hold.number ls ≡ Some waits → Grows whole held (going new.service ls (find_key key new.holds.items)) b → Starts (Kept kind held whole) b
 starts_on whole held kind key old new ls hold waits b its same o there g =
     let is : going new.service ls (find_key key new.holds.items) ≡ going_by hold.number (Some (opened o.0 kind)) (waits_on hold.number ls) =
     ap (λ (hs : List Hold). going new.service ls (find_key key hs)) same ∙ ap (going new.service ls) its ∙ ap (λ (c : Option ClientSession). going_by hold.number c (waits_on hold.number ls)) o.1.is in
@@ -200,7 +200,7 @@ some_of None is = absurd (let u : ⊥ = cc in u)
 some_of (Some waits) is = (waits, refl)
 
 pub starts_there : (whole : Bool) (held : List ℕ) (kind : MessageKind) (key : ℕ) (old new : pools.Pool) (ls : List Link) (hold its : Hold) (b : Body) → find_key key old.holds.items ≡ Some hold → find_key key old.holds.items ≡ Some its
-    → new.holds.items ≡ old.holds.items → Opens kind hold.lease old.service new.service → IsSome (waits_on its.number ls) → Grows whole held (going new.service ls (find_key key new.holds.items)) b → Starts (Kept kind held whole) b
+    → new.holds.items ≡ old.holds.items → BeginsMessage kind hold.lease old.service new.service → IsSome (waits_on its.number ls) → Grows whole held (going new.service ls (find_key key new.holds.items)) b → Starts (Kept kind held whole) b
 starts_there whole held kind key old new ls hold its b one two same o there g =
     let alike : its ≡ hold = (let u : Some its ≡ Some hold = sym two ∙ one in cc) in
     let waits = some_of (waits_on hold.number ls) (subst (λ (h : Hold). IsSome (waits_on h.number ls)) alike there) in
@@ -218,7 +218,7 @@ behind_by : (whole : Bool) (held : List ℕ) (kind : MessageKind) (number : ℕ)
 behind_by whole held kind number from had waits b there g = behind_as had whole held kind number from waits b there (subst (λ (o : Option (List ℕ)). Grows whole held (going_by number (Some (opened from kind)) o) b) there g)
 
 pub behind_there : (whole : Bool) (held : List ℕ) (kind : MessageKind) (key : ℕ) (old new : pools.Pool) (ls : List Link) (hold its own : Hold) (b : Body) → find_key key old.holds.items ≡ Some hold → find_key key old.holds.items ≡ Some its
-    → find_key key old.holds.items ≡ Some own → new.holds.items ≡ old.holds.items → Opens kind hold.lease old.service new.service → IsSome (waits_on its.number ls)
+    → find_key key old.holds.items ≡ Some own → new.holds.items ≡ old.holds.items → BeginsMessage kind hold.lease old.service new.service → IsSome (waits_on its.number ls)
     → Grows whole held (going new.service ls (find_key key new.holds.items)) b → StartsBehind (waits_on own.number ls) (Kept kind held whole) b
 behind_there whole held kind key old new ls hold its own b one two three same o there g =
     let proper : hold ≡ own = (let u : Some hold ≡ Some own = sym one ∙ three in cc) in

@@ -8,7 +8,7 @@ use Rattle.tds_wire.specs.declared.told.Token.{Token}
 use Rattle.tds_service.specs.declared.seat.Seat as seats
 use Rattle.tds_service.specs.declared.service.Service as services
 use Rattle.tds_service.specs.Line as line
-use Rattle.tds_service.specs.Line.{Act, Line, turn}
+use Rattle.tds_service.specs.Line.{Act, Line, line_turn}
 use Rattle.tds_service.specs.History.{line_after}
 use Rattle.tds_service.specs.Refusing.{refusal_in}
 use Rattle.tds_service.specs.Service as calls
@@ -43,7 +43,7 @@ there_unless s lease c all None e did = subst IsSome (sym (found_changed lease c
 there_by : (s : Service) (lease : ℕ) (o : Option Seat) → find_by (has_lease lease) s.seats ≡ o → (acts {T = Token} s (has_lease lease) line.Cancel (line.Cancel ∷ []) o).reply ≡ Did
     → IsSome (find_by (has_lease lease) (acts {T = Token} s (has_lease lease) line.Cancel (line.Cancel ∷ []) o).service.seats)
 there_by s lease None e did = absurd (let u : ⊥ = cc in u)
-there_by s lease (Some c) e did = there_unless s lease c (line.Cancel ∷ []) (refusal_in (turn {T = Token} c.line line.Cancel).answer) e did
+there_by s lease (Some c) e did = there_unless s lease c (line.Cancel ∷ []) (refusal_in (line_turn {T = Token} c.line line.Cancel).answer) e did
 
 client_either : (b : Bool) (x : seats.Seat) (test : Seat → Bool) (xs : List seats.Seat) → IsSome (if b then Some (seat_in x) else find_by test (seats_in xs))
     → (IsSome (find_by test (seats_in xs)) → (s : ClientSession) × (client_by test xs ≡ Some s)) → (s : ClientSession) × ((if b then Some x.connection.client else client_by test xs) ≡ Some s)

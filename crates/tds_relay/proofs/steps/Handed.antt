@@ -4,7 +4,7 @@ use Rattle.std.proofs.lemmas.List.{set-get_or}
 use Rattle.std.specs.Prelude.{IsSome}
 use Rattle.slab.specs.Slab.{Slab, get, with_value}
 use Rattle.tds_wire.specs.declared.told.Token.{Token}
-use Rattle.tds_wire.specs.Reading.{Reading}
+use Rattle.tds_wire.specs.Reading.{Parser}
 use Rattle.tds_service.specs.Parts.{Part}
 use Rattle.tds_packet.specs.declared.header.Header.{Header}
 use Rattle.tds_packet.specs.Layout.{IsPacket}
@@ -21,16 +21,16 @@ use Rattle.tds_relay.specs.declared.pool.coming.What.TheVariants as whats
 use Rattle.tds_relay.specs.declared.link.Answer.{Answer}
 use Rattle.tds_relay.specs.declared.link.Link.{Link}
 use Rattle.tds_relay.specs.declared.link.News.{News}
-use Rattle.tds_relay.specs.Cutting.{ends_in, awaited}
+use Rattle.tds_relay.specs.Cutting.{is_last_packet, awaited}
 use Rattle.tds_relay.specs.Pool.{owes_reset, Pool, Comes, Way, turn, whose}
-use Rattle.tds_relay.specs.Fronts.{IsWhat, end_of, ends_in as ends_of, machine_with, told_by}
+use Rattle.tds_relay.specs.Fronts.{IsWhat, own_end, ends_in as ends_of, machine_with, told_by}
 use Rattle.tds_relay.specs.Core as core
-use Rattle.tds_relay.specs.Core.{End, Ends, Open, Over, done_by, end_at, told, what_in}
-use Rattle.tds_relay.specs.Handing.{Brings, Hears, IsBy, PassesAs, IsDone, IsFor, IsKnown, IsKnownBy, IsOf, KnowsOn, Passing, fed, news_for}
+use Rattle.tds_relay.specs.Core.{End, EndList, Open, Over, dones_of_part, end_at, end_told, what_in}
+use Rattle.tds_relay.specs.Handing.{BringsPacket, HearsBytes, IsBy, PassesAs, IsDone, IsFor, IsKnown, IsKnownBy, IsOf, KnowsOn, Passing, filled, news_for}
 use Rattle.tds_relay.specs.News.{holds_back}
-use Rattle.tds_relay.specs.Machine.{Machine, IsHanded, IsRight, IsTold, Manner, MayHand, Withheld, behind_news, change_whose, closes, end_whose, handed, hears_of_reset, is_said, news_in, put_all, put_some}
+use Rattle.tds_relay.specs.Machine.{Machine, IsHanded, IsRight, IsTold, Manner, MayHand, Withheld, behind_news, change_whose_queue, closes_connection, end_whose, handed, hears_of_reset, is_said, news_in, put_all, put_some}
 use Rattle.tds_relay.specs.Promises.{one_if}
-use Rattle.tds_relay.specs.Queues.{Queue, Queues, change, queue_at, queue_of, queues_in, put, put_news}
+use Rattle.tds_relay.specs.Queues.{Queue, Queues, change, queue_at, queue_of, queues_in, put_behind, put_news}
 use Rattle.tds_relay.specs.Ties.{Turns, part_on}
 use Rattle.tds_relay.proofs.steps.Fronts.{end_is, told_whose}
 use Rattle.tds_relay.proofs.steps.Queueing.{queues_changed}
@@ -60,21 +60,21 @@ on_for false goes a h content manner by = by
 on_for true goes a h content manner by = on_by goes a h content manner by
 
 -- what came of it is what the service answers, where it is somebody's
-said_alike : (who : Option ℕ) (what : What) (dones : List (Rattle.tds_service.specs.History.Done Rattle.tds_wire.specs.declared.told.Token.Token)) (es : Ends) → IsWhat who what dones
+said_alike : (who : Option ℕ) (what : What) (dones : List (Rattle.tds_service.specs.History.Done Rattle.tds_wire.specs.declared.told.Token.Token)) (es : EndList) → IsWhat who what dones
     → is_said (what_in dones) (end_whose who es) ≡ is_said what (end_whose who es)
 said_alike None what dones es is = refl
 said_alike (Some key) what dones es is = ap (λ (w : What). is_said w (end_at es key)) (sym is)
 
-told_alike : (who : Option ℕ) (what : What) (dones : List (Rattle.tds_service.specs.History.Done Rattle.tds_wire.specs.declared.told.Token.Token)) (es : Ends) → IsWhat who what dones
+told_alike : (who : Option ℕ) (what : What) (dones : List (Rattle.tds_service.specs.History.Done Rattle.tds_wire.specs.declared.told.Token.Token)) (es : EndList) → IsWhat who what dones
     → hears_of_reset (what_in dones) (end_whose who es) ≡ hears_of_reset what (end_whose who es)
 told_alike None what dones es is = refl
 told_alike (Some key) what dones es is = ap (λ (w : What). hears_of_reset w (end_at es key)) (sym is)
 
-pub may_hand : (number : ℕ) (parser : Option Reading) (a b : Answer) (r : packets.Reading) (heard : Heard) (old new : Machine) → (p : Passing number parser a b r heard old new)
-    → MayHand old number p.header p.content (part_on parser p.content (ends_in p.header)) p.manner
+pub may_hand : (number : ℕ) (parser : Option Parser) (a b : Answer) (r : packets.Reading) (heard : Heard) (old new : Machine) → (p : Passing number parser a b r heard old new)
+    → MayHand old number p.header p.content (part_on parser p.content (is_last_packet p.header)) p.manner
 may_hand number parser a b r heard old new p =
-    let part = part_on parser p.content (ends_in p.header) in
-    let dones = done_by old.core.pool number part in
+    let part = part_on parser p.content (is_last_packet p.header) in
+    let dones = dones_of_part old.core.pool number part in
     let who = whose old.core.pool number in
     let same : is_said (what_in dones) (end_whose who old.core.ends) ≡ is_said heard.what (end_whose heard.key old.core.ends) =
     ap (λ (o : Option ℕ). is_said (what_in dones) (end_whose o old.core.ends)) (sym p.whose_is) ∙ said_alike heard.key heard.what dones old.core.ends p.what_is in
@@ -93,7 +93,7 @@ may_hand number parser a b r heard old new p =
 -- ---- What waits by it
 
 -- the news first, where it is told
-pub news_first : (tells : Bool) (bytes : List ℕ) (p : Queue) → put bytes (put_news tells p) ≡ put_all (behind_news tells bytes) p
+pub news_first : (tells : Bool) (bytes : List ℕ) (p : Queue) → put_behind bytes (put_news tells p) ≡ put_all (behind_news tells bytes) p
 news_first true bytes p = refl
 news_first false bytes p = refl
 
@@ -105,15 +105,15 @@ pub nothing_put : (queues : Queues) (key : ℕ) → change key (put_some None) q
 nothing_put queues key = ap (λ (o : Option Queue). slice_set queues key o) (same_queue (queue_at queues key)) ∙ set-get_or queues key None
 
 -- nothing of it is
-pub withheld_is : (who : Option ℕ) (h : Header) (content : List ℕ) (queues : Queues) → queues ≡ change_whose who (put_some (handed Withheld h content)) queues
+pub withheld_is : (who : Option ℕ) (h : Header) (content : List ℕ) (queues : Queues) → queues ≡ change_whose_queue who (put_some (handed Withheld h content)) queues
 withheld_is None h content queues = refl
 withheld_is (Some key) h content queues = sym (nothing_put queues key)
 
 -- its application has it
 pub handed_is : (who : Option ℕ) (key : ℕ) (h : Header) (content : List ℕ) (manner : Manner) (s : Slab Application) (a b : Application) → Some key ≡ who → Some a ≡ get s key → queue_of b ≡ put_some (handed manner h content) (queue_of a)
-    → queues_in (with_value s key b) ≡ change_whose who (put_some (handed manner h content)) (queues_in s)
+    → queues_in (with_value s key b) ≡ change_whose_queue who (put_some (handed manner h content)) (queues_in s)
 handed_is who key h content manner s a b its is passes =
-    queues_changed s key a b (put_some (handed manner h content)) is passes ∙ ap (λ (o : Option ℕ). change_whose o (put_some (handed manner h content)) (queues_in s)) its
+    queues_changed s key a b (put_some (handed manner h content)) is passes ∙ ap (λ (o : Option ℕ). change_whose_queue o (put_some (handed manner h content)) (queues_in s)) its
 
 -- ---- Why
 
@@ -126,23 +126,23 @@ handed_for false goes a h content manner e by = absurd (let u : ⊥ = cc in u)
 handed_for true goes a h content manner e by = by
 
 -- the connection is closed behind it
-pub to_closed : (what : What) (o : Option End) → closes what ≡ true → is_said what o ≡ false
+pub to_closed : (what : What) (o : Option End) → closes_connection what ≡ true → is_said what o ≡ false
 to_closed what None e = refl
 to_closed what (Some (Open front true asks)) e = refl
 to_closed what (Some (Open front false asks)) e = ap not e
 to_closed what (Some (Over why)) e = refl
 
 -- nobody has it
-pub to_nobody : (what : What) (who : Option ℕ) (es : Ends) → who ≡ None → is_said what (end_whose who es) ≡ false
+pub to_nobody : (what : What) (who : Option ℕ) (es : EndList) → who ≡ None → is_said what (end_whose who es) ≡ false
 to_nobody what who es e = ap (λ (o : Option ℕ). is_said what (end_whose o es)) e
 
 -- who has it is there no more
 pub to_absent : (what : What) (s : Slab Application) (who : Option ℕ) (key : ℕ) → who ≡ Some key → get s key ≡ None → is_said what (end_whose who (ends_of s)) ≡ false
 to_absent what s who key its none =
-    ap (λ (o : Option ℕ). is_said what (end_whose o (ends_of s))) its ∙ ap (is_said what) (end_is s key ∙ ap (option_map end_of) none)
+    ap (λ (o : Option ℕ). is_said what (end_whose o (ends_of s))) its ∙ ap (is_said what) (end_is s key ∙ ap (option_map own_end) none)
 
-pub end_whose_is : (s : Slab Application) (who : Option ℕ) (key : ℕ) (a : Application) → who ≡ Some key → Some a ≡ get s key → end_whose who (ends_of s) ≡ Some (end_of a)
-end_whose_is s who key a its is = ap (λ (o : Option ℕ). end_whose o (ends_of s)) its ∙ end_is s key ∙ ap (option_map end_of) (sym is)
+pub end_whose_is : (s : Slab Application) (who : Option ℕ) (key : ℕ) (a : Application) → who ≡ Some key → Some a ≡ get s key → end_whose who (ends_of s) ≡ Some (own_end a)
+end_whose_is s who key a its is = ap (λ (o : Option ℕ). end_whose o (ends_of s)) its ∙ end_is s key ∙ ap (option_map own_end) (sym is)
 
 -- it hears nothing
 deaf : (what : What) (e : End) → is_said whats.Goes (Some e) ≡ false → is_said what (Some e) ≡ false
@@ -150,19 +150,19 @@ deaf what (Open front true asks) h = refl
 deaf what (Open front false asks) h = absurd (let u : ⊥ = cc in u)
 deaf what (Over why) h = refl
 
-pub to_deaf : (what : What) (s : Slab Application) (who : Option ℕ) (key : ℕ) (a : Application) → who ≡ Some key → Some a ≡ get s key → is_said whats.Goes (Some (end_of a)) ≡ false
+pub to_deaf : (what : What) (s : Slab Application) (who : Option ℕ) (key : ℕ) (a : Application) → who ≡ Some key → Some a ≡ get s key → is_said whats.Goes (Some (own_end a)) ≡ false
     → is_said what (end_whose who (ends_of s)) ≡ false
-to_deaf what s who key a its is h = ap (is_said what) (end_whose_is s who key a its is) ∙ deaf what (end_of a) h
+to_deaf what s who key a its is h = ap (is_said what) (end_whose_is s who key a its is) ∙ deaf what (own_end a) h
 
 -- it is handed on
-heard_by : (what : What) (e : End) → closes what ≡ false → is_said whats.Goes (Some e) ≡ true → is_said what (Some e) ≡ true
+heard_by : (what : What) (e : End) → closes_connection what ≡ false → is_said whats.Goes (Some e) ≡ true → is_said what (Some e) ≡ true
 heard_by what (Open front true asks) c h = absurd (let u : ⊥ = cc in u)
 heard_by what (Open front false asks) c h = ap not c
 heard_by what (Over why) c h = absurd (let u : ⊥ = cc in u)
 
-pub to_one : (what : What) (s : Slab Application) (who : Option ℕ) (key : ℕ) (a : Application) → closes what ≡ false → who ≡ Some key → Some a ≡ get s key → is_said whats.Goes (Some (end_of a)) ≡ true
+pub to_one : (what : What) (s : Slab Application) (who : Option ℕ) (key : ℕ) (a : Application) → closes_connection what ≡ false → who ≡ Some key → Some a ≡ get s key → is_said whats.Goes (Some (own_end a)) ≡ true
     → is_said what (end_whose who (ends_of s)) ≡ true
-to_one what s who key a on its is h = ap (is_said what) (end_whose_is s who key a its is) ∙ heard_by what (end_of a) on h
+to_one what s who key a on its is h = ap (is_said what) (end_whose_is s who key a its is) ∙ heard_by what (own_end a) on h
 
 -- ---- The parser
 
@@ -189,16 +189,16 @@ has_parser d number key cs is h =
 -- ---- That it was
 
 -- a packet has come, and was handed on so
-pub passing : (number : ℕ) (parser : Option Reading) (goes : News) (a b : Answer) (r : packets.Reading) (heard : Heard) (d d1 : Pool) (es : Ends) (p p1 : Queues) (h : Header) (content : List ℕ) (ends : Bool) (way : Way) (manner : Manner) (before after : List ℕ)
-    → IsPacket r.direction r.size r.taken h content → ends ≡ ends_in h → Turns (Comes number (part_on parser content ends) way) d d1 before after
-    → heard.key ≡ whose d number → IsWhat heard.key heard.what (done_by d number (part_on parser content ends)) → ((key : ℕ) → whose d number ≡ Some key → IsSome parser)
-    → IsFor (is_said heard.what (end_whose heard.key es)) goes a h content manner → PassesAs (owes_reset number d) a h content (part_on parser content ends) manner b → IsTold (owes_reset number d) (hears_of_reset heard.what (end_whose heard.key es)) manner (part_on parser content ends) → p1 ≡ change_whose (whose d number) (put_some (handed manner h content)) p
-    → Brings number parser a b r heard (machine_with d es p) (machine_with d1 (told_by (Some heard) es) p1)
+pub passing : (number : ℕ) (parser : Option Parser) (goes : News) (a b : Answer) (r : packets.Reading) (heard : Heard) (d d1 : Pool) (es : EndList) (p p1 : Queues) (h : Header) (content : List ℕ) (ends : Bool) (way : Way) (manner : Manner) (before after : List ℕ)
+    → IsPacket r.direction r.size r.taken h content → ends ≡ is_last_packet h → Turns (Comes number (part_on parser content ends) way) d d1 before after
+    → heard.key ≡ whose d number → IsWhat heard.key heard.what (dones_of_part d number (part_on parser content ends)) → ((key : ℕ) → whose d number ≡ Some key → IsSome parser)
+    → IsFor (is_said heard.what (end_whose heard.key es)) goes a h content manner → PassesAs (owes_reset number d) a h content (part_on parser content ends) manner b → IsTold (owes_reset number d) (hears_of_reset heard.what (end_whose heard.key es)) manner (part_on parser content ends) → p1 ≡ change_whose_queue (whose d number) (put_some (handed manner h content)) p
+    → BringsPacket number parser a b r heard (machine_with d es p) (machine_with d1 (told_by (Some heard) es) p1)
 passing number parser goes a b r heard d d1 es p p1 h content ends way manner before behind packet last turned its what there by cut tells is =
     let turns = subst (λ (b : Bool). Turns (Comes number (part_on parser content b) way) d d1 before behind) last turned in
     let hears = subst (λ (b : Bool). IsTold (owes_reset number d) (hears_of_reset heard.what (end_whose heard.key es)) manner (part_on parser content b)) last tells in
-    let said = subst (λ (b : Bool). IsWhat heard.key heard.what (done_by d number (part_on parser content b))) last what in
-    let dones = done_by d number (part_on parser content (ends_in h)) in
+    let said = subst (λ (b : Bool). IsWhat heard.key heard.what (dones_of_part d number (part_on parser content b))) last what in
+    let dones = dones_of_part d number (part_on parser content (is_last_packet h)) in
     inr (record {
       header = h;
       content = content;
@@ -214,28 +214,28 @@ passing number parser goes a b r heard d d1 es p p1 h content ends way manner be
       told = hears;
       is =
           ap (λ (e : Pool). machine_with e (told_by (Some heard) es) p1) turns.pool_is
-          ∙ ap (λ (x : Ends). machine_with (turn d (Comes number (part_on parser content (ends_in h)) way)).pool x p1)
-          (sym (ap (λ (o : Option ℕ). core.change_whose o (told (what_in dones)) es) (sym its) ∙ told_whose heard.key heard.what dones es said))
-          ∙ ap (λ (q : Queues). machine_with (turn d (Comes number (part_on parser content (ends_in h)) way)).pool (core.change_whose (whose d number) (told (what_in dones)) es) q) is;
+          ∙ ap (λ (x : EndList). machine_with (turn d (Comes number (part_on parser content (is_last_packet h)) way)).pool x p1)
+          (sym (ap (λ (o : Option ℕ). core.change_whose o (end_told (what_in dones)) es) (sym its) ∙ told_whose heard.key heard.what dones es said))
+          ∙ ap (λ (q : Queues). machine_with (turn d (Comes number (part_on parser content (is_last_packet h)) way)).pool (core.change_whose (whose d number) (end_told (what_in dones)) es) q) is;
     })
 
 -- ---- Of which bytes
 
 left_less : ((r : packets.Reading) (bytes : List ℕ) → ¬ IsWhole (with_taken r (up_to_end r bytes)) → IsLess r (up_to_end r bytes)) → ((r : packets.Reading) → IsLess r [])
-    → (number : ℕ) (parser : Option Reading) (a b : Answer) (r next : packets.Reading) (bytes : List ℕ) (heard : Heard) (old new : Machine)
-    → Brings number parser a b (fed r bytes) heard old new → IsDone (fed r bytes) next → IsLess next next.taken
+    → (number : ℕ) (parser : Option Parser) (a b : Answer) (r next : packets.Reading) (bytes : List ℕ) (heard : Heard) (old new : Machine)
+    → BringsPacket number parser a b (filled r bytes) heard old new → IsDone (filled r bytes) next → IsLess next next.taken
 left_less less nothing number parser a b r next bytes heard old new (inl none) done =
     subst (λ (x : packets.Reading). IsLess x x.taken) (sym (done.less none.0)) (less r (r.taken ++ bytes) none.0)
 left_less less nothing number parser a b r next bytes heard old new (inr p) done =
     subst (λ (x : packets.Reading). IsLess x x.taken) (sym (done.whole (p.header, p.content, p.packet))) (nothing r)
 
 pub hears_is : ((r : packets.Reading) (bytes : List ℕ) → ¬ IsWhole (with_taken r (up_to_end r bytes)) → IsLess r (up_to_end r bytes)) → ((r : packets.Reading) → IsLess r [])
-    → (number : ℕ) (parser : Option Reading) (link next : Link) (bytes : List ℕ) (count : ℕ) (heard : Heard) (old new : Machine) (r s : packets.Reading)
-    → r ≡ fed link.reader bytes → r.taken ≡ link.reader.taken ++ take count bytes → Brings number parser link.answer next.answer r heard old new
-    → s ≡ r → (IsWhole s → next.reader ≡ with_taken s []) → (¬ IsWhole s → next.reader ≡ s) → Hears number parser link next bytes count heard old new
+    → (number : ℕ) (parser : Option Parser) (link next : Link) (bytes : List ℕ) (count : ℕ) (heard : Heard) (old new : Machine) (r s : packets.Reading)
+    → r ≡ filled link.reader bytes → r.taken ≡ link.reader.taken ++ take count bytes → BringsPacket number parser link.answer next.answer r heard old new
+    → s ≡ r → (IsWhole s → next.reader ≡ with_taken s []) → (¬ IsWhole s → next.reader ≡ s) → HearsBytes number parser link next bytes count heard old new
 hears_is less nothing number parser link next bytes count heard old new r s is took brings same whole none =
-    let brought = subst (λ (x : packets.Reading). Brings number parser link.answer next.answer x heard old new) is brings in
-    let done : IsDone (fed link.reader bytes) next.reader =
+    let brought = subst (λ (x : packets.Reading). BringsPacket number parser link.answer next.answer x heard old new) is brings in
+    let done : IsDone (filled link.reader bytes) next.reader =
     subst (λ (x : packets.Reading). IsDone x next.reader) (same ∙ is) (record { whole = whole; less = none }) in
     record {
       taken = ap (λ (x : packets.Reading). x.taken) (sym is) ∙ took;
@@ -245,7 +245,7 @@ hears_is less nothing number parser link next bytes count heard old new r s is t
     }
 
 -- its reader goes the same way
-pub done_keeps : (number : ℕ) (parser : Option Reading) (a b : Answer) (r s next : packets.Reading) (heard : Heard) (old new : Machine) → Brings number parser a b r heard old new
+pub done_keeps : (number : ℕ) (parser : Option Parser) (a b : Answer) (r s next : packets.Reading) (heard : Heard) (old new : Machine) → BringsPacket number parser a b r heard old new
     → s ≡ r → (IsWhole s → next ≡ with_taken s []) → (¬ IsWhole s → next ≡ s) → next.direction ≡ s.direction
 done_keeps number parser a b r s next heard old new (inl none) same whole less =
     ap (λ (x : packets.Reading). x.direction) (less (subst (λ (x : packets.Reading). ¬ IsWhole x) (sym same) none.0))

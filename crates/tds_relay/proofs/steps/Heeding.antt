@@ -15,13 +15,13 @@ use Rattle.tds_relay.specs.declared.relay.Relay as code
 use Rattle.tds_relay.specs.Pool.{Pool, find_number, key_of}
 use Rattle.tds_relay.specs.Lent.{Keeps, KeepsWaits, Lends, LendsInLine, MayBeLent, OfWaiting}
 use Rattle.tds_relay.specs.Fronts.{ClosesInstead, FedOn, IsFed, Moved, MovedOn, TakesBetween, core_in, core_of_ends, given_by, machine_in, machine_with}
-use Rattle.tds_relay.specs.Core.{End, Ends, Feeds, Core, Move, Moves, Open, change_end, closes_for, end_at, is_in, moved}
+use Rattle.tds_relay.specs.Core.{End, EndList, Feeds, Core, Move, Moves, Open, change_end, closes_for, end_at, is_in, moved}
 use Rattle.tds_relay.specs.Machine.{Machine, Step, Admits, Hands, Makes, Removes, Takes, Writes, after, after_all, owed, put_some}
 use Rattle.tds_relay.specs.Queues.{Queues, change, queues_in}
 use Rattle.tds_packet.specs.Reading.{Reading}
 use Rattle.tds_relay.specs.declared.link.Link.{Link}
 use Rattle.tds_relay.specs.Reads.{FillsAt, Opens as LinksOpen, StaysAt, if_open, open_at, open_waits, waits_on}
-use Rattle.tds_relay.specs.Taking.{IsDeaf, count_by, left_by}
+use Rattle.tds_relay.specs.Taking.{IsDeaf, count_by, bytes_left_by}
 use Rattle.tds_relay.specs.Ties.{Application}
 use Rattle.tds_relay.specs.Sparing.{AwayRest}
 use Rattle.tds_relay.proofs.spared.Filling.{waits_queued}
@@ -120,7 +120,7 @@ taken_is : (bytes : List ℕ) (o : Option End) (front : Front) (withdrawn : Bool
 taken_is bytes o front withdrawn asks brings was says = ap (taken_of bytes) was ∙ ap (λ (r : Result Fed FrontFault). take (count_by r bytes) bytes) says
 
 cancels_taken : (key : ℕ) (old : Machine) (bytes left rest : List ℕ) (a b c : BodyAndWaits) (h : Machine) (h1 : Core) (ps1 : Queues) (front : Front) (withdrawn : Bool) (asks : Option Reset) → end_at h.core.ends key ≡ Some (Open front withdrawn asks)
-    → left_by left (end_at h.core.ends key) ≡ rest → change key (put_some (owed left (end_at h.core.ends key))) h.queues ≡ ps1 → Moves (Application key) (moved h.core (Feeds key left)) h1
+    → bytes_left_by left (end_at h.core.ends key) ≡ rest → change key (put_some (owed left (end_at h.core.ends key))) h.queues ≡ ps1 → Moves (Application key) (moved h.core (Feeds key left)) h1
     → Heeds (said_of left (end_at h.core.ends key)) (taken_of left (end_at h.core.ends key)) b c → IsClosedAsEnd (end_at h1.ends key) c.0 → HeedsAll key old bytes left a b h
     → HeedsAll key old bytes rest a c (record { core = h1; queues = ps1 })
 cancels_taken key old bytes left rest a b c h h1 ps1 front withdrawn asks opened left_is waits m o closed t = record {
@@ -140,18 +140,18 @@ cancels_refused key old bytes left rest a b c h h1 ps1 front withdrawn asks faul
     let moves : Moves (Application key) (moved h.core (Feeds key left)) closed = subst (Moves (Application key) (moved h.core (Feeds key left))) is (no_moves (Application key) (moved h.core (Feeds key left))) in
     let stays : Heeds said.Nothing (taken_of left (end_at h.core.ends key)) b b = record { obeys = record { mid = b.0; does = refl; starts = Stays }; fills = λ number. fills_refl (b.1 number); cancels = tt; puts = put_refl b } in
     cancels_moved key old bytes rest a b c closed h1 h.queues ps1 m kept s shut
-    (cancels_deaf key old (record { core = closed; queues = h.queues }) bytes (left_by left (end_at h.core.ends key)) rest a b (deaf_for (Some fault) key h.core.ends)
-    (cancels_taken key old bytes left (left_by left (end_at h.core.ends key)) a b b h closed h.queues front withdrawn asks opened refl waits moves
+    (cancels_deaf key old (record { core = closed; queues = h.queues }) bytes (bytes_left_by left (end_at h.core.ends key)) rest a b (deaf_for (Some fault) key h.core.ends)
+    (cancels_taken key old bytes left (bytes_left_by left (end_at h.core.ends key)) a b b h closed h.queues front withdrawn asks opened refl waits moves
     (subst (λ (answer : Said). Heeds answer (taken_of left (end_at h.core.ends key)) b b) (sym (said_is left (end_at h.core.ends key) front withdrawn asks (Err fault) opened says)) stays) (closed_deaf (end_at closed.ends key) b.0 (deaf_for (Some fault) key h.core.ends)) t))
 
-cancels_between : (key : ℕ) (old : Machine) (bytes left rest : List ℕ) (a b c : BodyAndWaits) (d : Pool) (before now : Ends) (ps ps1 : Queues) (h1 : Core) (answer : Said) → (f : IsFed key before now left answer)
+cancels_between : (key : ℕ) (old : Machine) (bytes left rest : List ℕ) (a b c : BodyAndWaits) (d : Pool) (before now : EndList) (ps ps1 : Queues) (h1 : Core) (answer : Said) → (f : IsFed key before now left answer)
     → TakesBetween key (core_of_ends d before) left h1 ⊎ ClosesInstead key answer (core_of_ends d before) h1 → Heeds answer (take f.count left) b c → rest ≡ drop f.count left → ps1 ≡ given_by key answer ps
     → (IsDeaf (end_at h1.ends key) → RestsFrom b c) → IsClosedAsEnd (end_at h1.ends key) c.0 → HeedsAll key old bytes left a b (machine_with d before ps)
     → HeedsAll key old bytes rest a c (record { core = h1; queues = ps1 })
 cancels_between key old bytes left rest a b c d before now ps ps1 h1 answer f (inl m) o is given shut closed t =
-    let same : end_at m.mid.ends key ≡ end_at before key = ap (λ (es : Ends). end_at es key) m.same in
+    let same : end_at m.mid.ends key ≡ end_at before key = ap (λ (es : EndList). end_at es key) m.same in
     cancels_taken key old bytes left rest a b c (record { core = m.mid; queues = ps }) h1 ps1 f.front f.withdrawn f.asks (same ∙ f.was)
-    (ap (left_by left) same ∙ left_fed key before now left answer f ∙ sym is)
+    (ap (bytes_left_by left) same ∙ left_fed key before now left answer f ∙ sym is)
     (ap (λ (o : Option End). change key (put_some (owed left o)) ps) same ∙ waits_fed key before now left answer ps f ∙ sym given)
     m.next
     (subst (λ (said : Said). Heeds said (taken_of left (end_at m.mid.ends key)) b c) (sym (said_is left (end_at m.mid.ends key) f.front f.withdrawn f.asks (Ok (record { count = f.count; said = answer })) (same ∙ f.was) f.says))
@@ -162,7 +162,7 @@ cancels_between key old bytes left rest a b c d before now ps ps1 h1 answer f (i
     cancels_deaf key old (record { core = h1; queues = ps1 }) bytes left rest a c k.deaf
     (cancels_moves key old bytes left a b c (core_of_ends d before) h1 ps ps1 k.moves (given ∙ k.nothing ps) (shut k.deaf) closed t)
 
-pub cancels_fed : (key : ℕ) (old : Machine) (bytes left rest : List ℕ) (a b c : BodyAndWaits) (d : Pool) (before now : Ends) (ps ps1 : Queues) (h1 : Core) (answer : Said) → FedOn key answer d now h1 → (f : IsFed key before now left answer)
+pub cancels_fed : (key : ℕ) (old : Machine) (bytes left rest : List ℕ) (a b c : BodyAndWaits) (d : Pool) (before now : EndList) (ps ps1 : Queues) (h1 : Core) (answer : Said) → FedOn key answer d now h1 → (f : IsFed key before now left answer)
     → Heeds answer (take f.count left) b c → rest ≡ drop f.count left → ps1 ≡ given_by key answer ps → (IsDeaf (end_at h1.ends key) → RestsFrom b c)
     → IsClosedAsEnd (end_at h1.ends key) c.0 → HeedsAll key old bytes left a b (machine_with d before ps) → HeedsAll key old bytes rest a c (record { core = h1; queues = ps1 })
 cancels_fed key old bytes left rest a b c d before now ps ps1 h1 answer on f o is given shut closed t =

@@ -5,17 +5,17 @@ use Rattle.std.specs.Prelude.{Option, Some, None, Result, Ok, Err, IfOk, OnOk, �
 use Rattle.tds_packet.specs.declared.status.Reset.TheVariants.{Full}
 use Rattle.tds_wire.specs.declared.told.Token.{Token}
 use Rattle.tds_service.specs.Line as line
-use Rattle.tds_wire.specs.Reading.{Reading}
+use Rattle.tds_wire.specs.Reading.{Parser}
 use Rattle.tds_client.specs.declared.fault.ClientRefusal.TheVariants as clients
 use Rattle.tds_service.specs.declared.seat.Seat as code
 use Rattle.tds_service.specs.declared.service.Service as services
 use Rattle.tds_service.specs.Parts.{Part}
 use Rattle.tds_service.specs.Packets.{packet_part}
-use Rattle.tds_service.specs.Line.{Line, Stage, Packet, Answer}
+use Rattle.tds_service.specs.Line.{Line, LineStage, Packet, Answer}
 use Rattle.tds_service.specs.History.{Done}
 use Rattle.tds_service.specs.Service as calls
-use Rattle.tds_service.specs.Service.{Service, Call, Reply, Back, Free, Lent, Seat, Step, step, service_after, find_by, has_number, is_lendable, lease_at, seat_numbered}
-use Rattle.tds_service.specs.Table.{Answers, Refuses, RefusesIn, StepsIn, answers_in, seat_in, seats_in, service_in}
+use Rattle.tds_service.specs.Service.{Service, Call, Reply, Back, Free, Lent, Seat, ServiceStep, step, service_after, find_by, has_number, is_lendable, lease_at, seat_numbered}
+use Rattle.tds_service.specs.Table.{Answers, Denies, RefusesIn, StepsIn, answers_in, seat_in, seats_in, service_in}
 use Rattle.tds_service.specs.declared.refusal.Refusal.{Refusal}
 use Rattle.tds_service.specs.declared.refusal.Refusal.TheVariants as refusals
 use Rattle.tds_service.specs.Ties.{AreBytes, Appends, sent_in}
@@ -24,7 +24,7 @@ use Rattle.tds_relay.specs.declared.pool.Figures.{Figures}
 use Rattle.tds_relay.specs.declared.pool.Hold.{Hold}
 use Rattle.tds_relay.specs.declared.fault.Broken.{Broken}
 use Rattle.tds_relay.specs.Pool as pool
-use Rattle.tds_relay.specs.Pool.{Pool, Event, Turn, Way, find_key, holding, moves, turn, without_lease, cleaning, releasing, frees}
+use Rattle.tds_relay.specs.Pool.{Pool, Event, PoolTurn, Way, find_key, holding, moves, turn, without_lease, cleaning, releasing, frees}
 use Rattle.tds_relay.specs.Ties.{Makes, Settles, Turns, lost_by, sent_along}
 
 both_bytes : (p q : List Packet) (x y : List ℕ) → AreBytes p x → AreBytes q y → AreBytes (p ++ q) (x ++ y)
@@ -57,7 +57,7 @@ makes_one call s new reply number before after one = makes_more call [] s new ne
 
 -- ---- One is lost
 
-lost_sends : (l : Line) (stage : Stage) → (line.loses {T = Token} l stage).sent ≡ []
+lost_sends : (l : Line) (stage : LineStage) → (line.line_loses {T = Token} l stage).sent ≡ []
 lost_sends l line.Idle = refl
 lost_sends l (line.Sending begun) = refl
 lost_sends l line.Reading = refl
@@ -78,13 +78,13 @@ makes_lost s new number out is =
 
 -- ---- What was refused
 
-pub refused_same : (s : Service) (t : Step Token) (refusal : Refusal) → RefusesIn s t refusal → (refusal ≡ refusals.Memory → ⊥) → t.service ≡ s
-refused_same s t refusals.Unknown h never = ap (λ (x : Step Token). x.service) h
-refused_same s t refusals.AllInUse h never = ap (λ (x : Step Token). x.service) h
-refused_same s t refusals.NotNow h never = ap (λ (x : Step Token). x.service) h
-refused_same s t refusals.NotIdle h never = ap (λ (x : Step Token). x.service) h
-refused_same s t refusals.NotSending h never = ap (λ (x : Step Token). x.service) h
-refused_same s t refusals.Broken h never = ap (λ (x : Step Token). x.service) h
+pub refused_same : (s : Service) (t : ServiceStep Token) (refusal : Refusal) → RefusesIn s t refusal → (refusal ≡ refusals.Memory → ⊥) → t.service ≡ s
+refused_same s t refusals.Unknown h never = ap (λ (x : ServiceStep Token). x.service) h
+refused_same s t refusals.AllInUse h never = ap (λ (x : ServiceStep Token). x.service) h
+refused_same s t refusals.NotNow h never = ap (λ (x : ServiceStep Token). x.service) h
+refused_same s t refusals.NotIdle h never = ap (λ (x : ServiceStep Token). x.service) h
+refused_same s t refusals.NotSending h never = ap (λ (x : ServiceStep Token). x.service) h
+refused_same s t refusals.Broken h never = ap (λ (x : ServiceStep Token). x.service) h
 refused_same s t refusals.Memory h never = absurd (never refl)
 
 -- ---- A cleaning
@@ -145,7 +145,7 @@ released_free s s1 new lease number n way before between after one others =
 -- ---- Turns
 
 -- so it moves, and this connection is the last that broke the rules
-abbrev moves_broken : Pool → List Hold → List ℕ → List (Call Token) → Option Broken → Turn
+abbrev moves_broken : Pool → List Hold → List ℕ → List (Call Token) → Option Broken → PoolTurn
 moves_broken d held waiting all broken = record {
   pool = record { mode = d.mode; service = service_after d.service all; holds = held; line = waiting; broken = broken; figures = d.figures };
   calls = all;
@@ -155,8 +155,8 @@ turns_broken : (d : Pool) (event : Event) (s : Service) (held : List Hold) (wait
     → turn d event ≡ moves_broken d held waiting all broken → Makes all d.service s before after
     → Turns event d (record { mode = d.mode; service = s; holds = held; line = waiting; broken = broken; figures = d.figures }) before after
 turns_broken d event s held waiting all broken before after is made = record {
-  pool_is = ap (λ (x : Service). let y : Pool = record { mode = d.mode; service = x; holds = held; line = waiting; broken = broken; figures = d.figures } in y) made.service_is ∙ ap (λ (t : Turn). t.pool) (sym is);
-  bytes = subst (λ (t : Turn). Appends (sent_along d.service t.calls) before after) (sym is) made.bytes;
+  pool_is = ap (λ (x : Service). let y : Pool = record { mode = d.mode; service = x; holds = held; line = waiting; broken = broken; figures = d.figures } in y) made.service_is ∙ ap (λ (t : PoolTurn). t.pool) (sym is);
+  bytes = subst (λ (t : PoolTurn). Appends (sent_along d.service t.calls) before after) (sym is) made.bytes;
 }
 
 pub turns_by : (d : Pool) (event : Event) (s : Service) (held : List Hold) (waiting : List ℕ) (all : List (Call Token)) (before after : List ℕ) → turn d event ≡ moves d held waiting all
@@ -214,9 +214,9 @@ turns_action d key action h s f reply number before after found one figures =
       pool_is =
           ap (λ (x : Service). let y : Pool = record { mode = d.mode; service = x; holds = d.holds; line = d.line; broken = d.broken; figures = f } in y) one.service_is
           ∙ ap (λ (g : Figures). let y : Pool = record { mode = d.mode; service = (step {T = Token} d.service call).service; holds = d.holds; line = d.line; broken = d.broken; figures = g } in y) figures
-          ∙ sym (ap (λ (o : Option Hold). (pool.does d action o).pool) found);
+          ∙ sym (ap (λ (o : Option Hold). (pool.holder_does d action o).pool) found);
       bytes =
-          subst (λ (o : Option Hold). Appends (sent_along d.service (pool.does d action o).calls) before after) (sym found) (makes_one call d.service s reply number before after one).bytes;
+          subst (λ (o : Option Hold). Appends (sent_along d.service (pool.holder_does d action o).calls) before after) (sym found) (makes_one call d.service s reply number before after one).bytes;
     }
 
 -- a request is asked
@@ -299,33 +299,33 @@ came_unknown d n part way out e =
     (record { service_is = same; bytes = subst (λ (p : List Packet). Appends (p ++ []) out out) quiet (appends_none out) })
 
 -- nobody is found, or something was read there
-read_by : (test : Seat → Bool) (c : code.Seat) (cs : List code.Seat) (b : Bool) → test (seat_in c) ≡ b → (find_by test (seats_in cs) ≡ None) ⊎ Reading
-    → (find_by test (seats_in (c ∷ cs)) ≡ None) ⊎ Reading
+read_by : (test : Seat → Bool) (c : code.Seat) (cs : List code.Seat) (b : Bool) → test (seat_in c) ≡ b → (find_by test (seats_in cs) ≡ None) ⊎ Parser
+    → (find_by test (seats_in (c ∷ cs)) ≡ None) ⊎ Parser
 read_by test c cs true e ih = inr c.connection.parser
 read_by test c cs false e (inl h) = inl (rw e h)
 read_by test c cs false e (inr r) = inr r
 
-read_there : (test : Seat → Bool) (cs : List code.Seat) → (find_by test (seats_in cs) ≡ None) ⊎ Reading
+read_there : (test : Seat → Bool) (cs : List code.Seat) → (find_by test (seats_in cs) ≡ None) ⊎ Parser
 read_there test [] = inl refl
 read_there test (c ∷ cs) = read_by test c cs (test (seat_in c)) refl (read_there test cs)
 
 hears_unless : (s : Service) (test : Seat → Bool) (part : Part Token) (o : Option Seat) (refusal : Refusal) → RefusesIn s (calls.hears s test part o) refusal → (refusal ≡ refusals.Memory → ⊥) → o ≡ None
 hears_unless s test part None refusal h never = refl
-hears_unless s test part (Some c) refusals.Unknown h never = absurd (let u : calls.Did ≡ calls.Unknown = ap (λ (x : Step Token). x.reply) h in let v : ⊥ = cc in v)
-hears_unless s test part (Some c) refusals.AllInUse h never = absurd (let u : calls.Did ≡ calls.AllInUse = ap (λ (x : Step Token). x.reply) h in let v : ⊥ = cc in v)
-hears_unless s test part (Some c) refusals.NotNow h never = absurd (let u : calls.Did ≡ calls.NotNow = ap (λ (x : Step Token). x.reply) h in let v : ⊥ = cc in v)
-hears_unless s test part (Some c) refusals.NotIdle h never = absurd (let u : calls.Did ≡ calls.No clients.NotIdle = ap (λ (x : Step Token). x.reply) h in let v : ⊥ = cc in v)
-hears_unless s test part (Some c) refusals.NotSending h never = absurd (let u : calls.Did ≡ calls.No clients.NotSending = ap (λ (x : Step Token). x.reply) h in let v : ⊥ = cc in v)
-hears_unless s test part (Some c) refusals.Broken h never = absurd (let u : calls.Did ≡ calls.No clients.Broken = ap (λ (x : Step Token). x.reply) h in let v : ⊥ = cc in v)
+hears_unless s test part (Some c) refusals.Unknown h never = absurd (let u : calls.Did ≡ calls.Unknown = ap (λ (x : ServiceStep Token). x.reply) h in let v : ⊥ = cc in v)
+hears_unless s test part (Some c) refusals.AllInUse h never = absurd (let u : calls.Did ≡ calls.AllInUse = ap (λ (x : ServiceStep Token). x.reply) h in let v : ⊥ = cc in v)
+hears_unless s test part (Some c) refusals.NotNow h never = absurd (let u : calls.Did ≡ calls.NotNow = ap (λ (x : ServiceStep Token). x.reply) h in let v : ⊥ = cc in v)
+hears_unless s test part (Some c) refusals.NotIdle h never = absurd (let u : calls.Did ≡ calls.No clients.NotIdle = ap (λ (x : ServiceStep Token). x.reply) h in let v : ⊥ = cc in v)
+hears_unless s test part (Some c) refusals.NotSending h never = absurd (let u : calls.Did ≡ calls.No clients.NotSending = ap (λ (x : ServiceStep Token). x.reply) h in let v : ⊥ = cc in v)
+hears_unless s test part (Some c) refusals.Broken h never = absurd (let u : calls.Did ≡ calls.No clients.Broken = ap (λ (x : ServiceStep Token). x.reply) h in let v : ⊥ = cc in v)
 hears_unless s test part (Some c) refusals.Memory h never = absurd (never refl)
 
-unread_by : (cs : List code.Seat) (s : Service) (n : ℕ) (bytes : List ℕ) (ends : Bool) (refusal : Refusal) → s.seats ≡ seats_in cs → (find_by (has_number n) (seats_in cs) ≡ None) ⊎ Reading
-    → ((r : Reading) → Refuses (calls.Came n (packet_part r bytes ends)) s refusal) → (refusal ≡ refusals.Memory → ⊥) → seat_numbered n s.seats ≡ None
+unread_by : (cs : List code.Seat) (s : Service) (n : ℕ) (bytes : List ℕ) (ends : Bool) (refusal : Refusal) → s.seats ≡ seats_in cs → (find_by (has_number n) (seats_in cs) ≡ None) ⊎ Parser
+    → ((r : Parser) → Denies (calls.Came n (packet_part r bytes ends)) s refusal) → (refusal ≡ refusals.Memory → ⊥) → seat_numbered n s.seats ≡ None
 unread_by cs s n bytes ends refusal is (inl h) refused never = ap (find_by (has_number n)) is ∙ h
 unread_by cs s n bytes ends refusal is (inr r) refused never = hears_unless s (has_number n) (packet_part r bytes ends) (find_by (has_number n) s.seats) refusal (refused r) never
 
 -- What is refused, but for memory, is of a connection that isn't known.
-pub unread : (s : services.Service) (n : ℕ) (bytes : List ℕ) (ends : Bool) (refusal : Refusal) → ((r : Reading) → Refuses (calls.Came n (packet_part r bytes ends)) (service_in s) refusal)
+pub unread : (s : services.Service) (n : ℕ) (bytes : List ℕ) (ends : Bool) (refusal : Refusal) → ((r : Parser) → Denies (calls.Came n (packet_part r bytes ends)) (service_in s) refusal)
     → (refusal ≡ refusals.Memory → ⊥) → seat_numbered n (service_in s).seats ≡ None
 unread s n bytes ends refusal refused never = unread_by s.seats.items (service_in s) n bytes ends refusal refl (read_there (has_number n) s.seats.items) refused never
 

@@ -15,7 +15,7 @@ use Rattle.tds_relay.specs.declared.pool.Mode.{Mode}
 use Rattle.tds_relay.specs.declared.pool.Mode.TheVariants.{Sessions, Transactions}
 use Rattle.tds_relay.specs.Pool.{Pool, find_key, owes_of}
 use Rattle.tds_relay.specs.Core.{End, Open, Over, Core, IfOpen, IsHere, MayPart, end_at, is_at_end, may_park}
-use Rattle.tds_relay.specs.Fronts.{end_of, ends_in}
+use Rattle.tds_relay.specs.Fronts.{own_end, ends_in}
 use Rattle.tds_relay.specs.Law.{Rested}
 use Rattle.tds_relay.specs.Parking.{has_no_request}
 use Rattle.tds_relay.specs.Places.{holds_clean, is_by_transactions, is_clean_of, is_clean_on, is_done_with}
@@ -157,11 +157,11 @@ where_at_end true false h a x y z = absurd (let u : ⊥ = cc in u)
 where_at_end true true h false x y z = absurd (let u : ⊥ = cc in u)
 
 -- the end of one that is there, or isn't
-pub its_end : (s : Slab Application) (key : ℕ) (a : Application) → Some a ≡ get s key → is_at_end (end_at (ends_in s) key) ≡ is_at_end (Some (end_of a))
+pub its_end : (s : Slab Application) (key : ℕ) (a : Application) → Some a ≡ get s key → is_at_end (end_at (ends_in s) key) ≡ is_at_end (Some (own_end a))
 its_end s key a is = ap is_at_end (end_there s key a is)
 
 pub nobodys_end : (s : Slab Application) (key : ℕ) → get s key ≡ None → is_at_end (end_at (ends_in s) key) ≡ false
-nobodys_end s key none = ap is_at_end (ends.end_is s key ∙ ap (option_map end_of) none)
+nobodys_end s key none = ap is_at_end (ends.end_is s key ∙ ap (option_map own_end) none)
 
 pub its_request : (s : Slab Application) (key : ℕ) (a : Application) → Some a ≡ get s key → has_no_request (get s key) ≡ has_no_request (Some a)
 its_request s key a is = ap has_no_request (sym is)

@@ -5,7 +5,7 @@ use Rattle.std.proofs.lemmas.Bool.{eqb-false, eqb-true}
 use Rattle.tds_packet.specs.Reading.{Reading}
 use Rattle.tds_relay.specs.declared.link.Link.{Link}
 use Rattle.tds_relay.specs.Queues.{Queue, queue_in}
-use Rattle.tds_relay.specs.Reads.{FillsAt, NoneFills, Opens, OpensFirst, OpensOthers, StaysAt, Stays, answer_at, bytes_on, if_open, link_at, open_at, open_of, open_waits, opened_at, place_from, place_of, reader_at, reader_of, seen_at, seen_of}
+use Rattle.tds_relay.specs.Reads.{FillsAt, NoneFills, Opens, OpensFirst, OpensOthers, StaysAt, LinksStay, answer_at, bytes_on, if_open, link_at, open_at, open_of, open_waits, opened_at, place_from, place_of, reader_at, reader_of, seen_at, seen_of}
 use Rattle.tds_relay.proofs.steps.Beginning.{other_answer, same_begins}
 use Rattle.tds_relay.proofs.steps.Fullness.{first_none, full_by, full_come, same_full}
 use Rattle.tds_relay.proofs.steps.Naming.{written_called}
@@ -186,7 +186,7 @@ none_there [] e = refl
 none_there (x ∷ xs) e = absurd (let none : length (x ∷ xs) ≡ 0 = eqb-true (length (x ∷ xs)) 0 e in let u : ⊥ = cc in u)
 
 -- it comes, with nothing of a packet, and those who wait are served
-pub first_opens : (number : ℕ) (l : Link) (ls ms ks ns : List Link) → (length ls == 0) ≡ true → ms ≡ ls ++ l ∷ [] → l.number ≡ number → l.reader.taken ≡ [] → l.is_open ≡ true → l.out.is_full ≡ false → Stays ms ks → Opens ks ns
+pub first_opens : (number : ℕ) (l : Link) (ls ms ks ns : List Link) → (length ls == 0) ≡ true → ms ≡ ls ++ l ∷ [] → l.number ≡ number → l.reader.taken ≡ [] → l.is_open ≡ true → l.out.is_full ≡ false → LinksStay ms ks → Opens ks ns
     → OpensFirst (Some number) ls ns
 first_opens number l ls ms ks ns none pushed same nothing is_open fits stays opens = λ other.
     let are : ms ≡ l ∷ [] = pushed ∙ ap (λ (xs : List Link). xs ++ l ∷ []) (none_there ls none) in

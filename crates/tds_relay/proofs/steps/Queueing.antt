@@ -3,7 +3,7 @@ use Rattle.std.proofs.Common.{◌≡◌, ◌∙◌, ℕ, Option, Some, None, ap,
 use Rattle.slab.specs.Slab.{Slab, Updates, get, with_value}
 use Rattle.std.specs.Prelude.{Result, Ok, Err, OnOk, OnSome, IfNone}
 use Rattle.tds_relay.specs.declared.application.Application.{Application}
-use Rattle.tds_relay.specs.Queues.{Enters, Queue, Queues, tagged, change, nothing, queue_at, queue_of, queues_in}
+use Rattle.tds_relay.specs.Queues.{EntersQueues, Queue, Queues, tagged, change, empty_queue, queue_at, queue_of, queues_in}
 use Rattle.tds_relay.proofs.steps.Seen.{seen_changed, seen_is, seen_kept, seen_new, seen_nobody, seen_others, seen_quit}
 
 -- an application is written back of which the same waits
@@ -33,7 +33,7 @@ pub quits_is : (s s1 : Slab Application) (key : ℕ) (r : Option Application) �
 quits_is s s1 key r is slots absent = seen_quit queue_of s s1 key r is slots absent
 
 -- an application has come
-pub enters_is : (s s1 : Slab Application) (size tag key : ℕ) (a : Application) → get s key ≡ None → Updates s s1 key (Some a) → queue_of a ≡ tagged tag (nothing size) → Enters size tag key (queues_in s) (queues_in s1)
+pub enters_is : (s s1 : Slab Application) (size tag key : ℕ) (a : Application) → get s key ≡ None → Updates s s1 key (Some a) → queue_of a ≡ tagged tag (empty_queue size) → EntersQueues size tag key (queues_in s) (queues_in s1)
 enters_is s s1 size tag key a none updates is = record {
   was_free = queue_is s key ∙ ap (option_map queue_of) none;
   nothing_waits = seen_new queue_of s s1 key a updates ∙ ap Some is;

@@ -17,9 +17,9 @@ use Rattle.tds_front.specs.Rules.{taken}
 use Rattle.tds_relay.specs.Anew.{AsksNothing}
 use Rattle.tds_relay.specs.declared.pool.Hold.{Hold}
 use Rattle.tds_relay.specs.Pool as pool
-use Rattle.tds_relay.specs.Pool.{Pool, does, find_key, turn}
+use Rattle.tds_relay.specs.Pool.{Pool, holder_does, find_key, turn}
 use Rattle.tds_relay.specs.Fronts.{IsFed, core_of_ends, withdraws}
-use Rattle.tds_relay.specs.Core.{Does, End, Ends, Core, IfOpen, IfWhose, IsBegun, Moves, Open, Over, asks_by, change_end, end_at, lets_go}
+use Rattle.tds_relay.specs.Core.{Does, End, EndList, Core, IfOpen, IfWhose, IsBegun, Moves, Open, Over, asks_by, change_end, end_at, lets_go}
 use Rattle.tds_relay.specs.Ties.{Application, Turns}
 use Rattle.tds_relay.proofs.ends.Leading.{fits}
 use Rattle.tds_relay.proofs.steps.Fronts.{changed_at, moves_one, same_core}
@@ -123,22 +123,22 @@ fed_quiet front bytes count answer stage says e d =
     stage front bytes ∙ ap (stage_fed front.stage (judged front.due bytes)) e
     ∙ says_quiet front.stage (judged front.due bytes) count answer (subst (SaysOf front.stage (judged front.due bytes)) e (says front bytes)) d
 
-open_set : (P : Stage → Type 0) (es : Ends) (key : ℕ) (front : Front) (withdrawn : Bool) (asks : Option Reset) → P front.stage → IfOpen P (end_at (slice_set es key (Some (Open front withdrawn asks))) key)
+open_set : (P : Stage → Type 0) (es : EndList) (key : ℕ) (front : Front) (withdrawn : Bool) (asks : Option Reset) → P front.stage → IfOpen P (end_at (slice_set es key (Some (Open front withdrawn asks))) key)
 open_set P [] key front withdrawn asks p = tt
 open_set P (x ∷ xs) zero front withdrawn asks p = p
 open_set P (x ∷ xs) (suc key) front withdrawn asks p = open_set P xs key front withdrawn asks p
 
-pub quiet_fed : (key : ℕ) (before now : Ends) (bytes : List ℕ) (answer : Said) → StageLaw → SaysLaw → Drops answer → IsFed key before now bytes answer → IfOpen AsksNothing (end_at now key)
+pub quiet_fed : (key : ℕ) (before now : EndList) (bytes : List ℕ) (answer : Said) → StageLaw → SaysLaw → Drops answer → IsFed key before now bytes answer → IfOpen AsksNothing (end_at now key)
 quiet_fed key before now bytes answer stage says d f =
-    subst (λ (es : Ends). IfOpen AsksNothing (end_at es key)) (sym f.is)
+    subst (λ (es : EndList). IfOpen AsksNothing (end_at es key)) (sym f.is)
     (open_set AsksNothing before key (fed f.front bytes).front f.withdrawn (asks_by answer f.asks) (fed_quiet f.front bytes f.count answer stage says f.says d))
 
-pub begun_fed : (key : ℕ) (before now : Ends) (bytes : List ℕ) (answer : Said) → StageLaw → SaysLaw → Opens answer → IsFed key before now bytes answer → IfOpen IsBegun (end_at now key)
+pub begun_fed : (key : ℕ) (before now : EndList) (bytes : List ℕ) (answer : Said) → StageLaw → SaysLaw → Opens answer → IsFed key before now bytes answer → IfOpen IsBegun (end_at now key)
 begun_fed key before now bytes answer stage says d f =
     let fed_is = stage f.front bytes ∙ ap (stage_fed f.front.stage (judged f.front.due bytes)) f.says in
     let begun : IsBegun (fed f.front bytes).front.stage =
     subst IsBegun (sym fed_is) (says_begun f.front.stage (judged f.front.due bytes) f.count answer (subst (SaysOf f.front.stage (judged f.front.due bytes)) f.says (says f.front bytes)) d) in
-    subst (λ (es : Ends). IfOpen IsBegun (end_at es key)) (sym f.is) (open_set IsBegun before key (fed f.front bytes).front f.withdrawn (asks_by answer f.asks) begun)
+    subst (λ (es : EndList). IfOpen IsBegun (end_at es key)) (sym f.is) (open_set IsBegun before key (fed f.front bytes).front f.withdrawn (asks_by answer f.asks) begun)
 
 open_let : (P : Stage → Type 0) (o : Option End) → IfOpen P o → IfOpen P (option_map lets_go o)
 open_let P None p = tt
@@ -146,7 +146,7 @@ open_let P (Some (Open front withdrawn asks)) p = p
 open_let P (Some (Over why)) p = tt
 
 -- it stays so where its connection is let go
-pub open_lets_go : (P : Stage → Type 0) (es : Ends) (key : ℕ) → IfOpen P (end_at es key) → IfOpen P (end_at (change_end key lets_go es) key)
+pub open_lets_go : (P : Stage → Type 0) (es : EndList) (key : ℕ) → IfOpen P (end_at es key) → IfOpen P (end_at (change_end key lets_go es) key)
 open_lets_go P es key p = subst (IfOpen P) (sym (changed_at es key lets_go)) (open_let P (end_at es key) p)
 
 pub whose_is : (P : ℕ → Type 0) (o : Option ℕ) (key : ℕ) → o ≡ Some key → IfWhose P o → P key
@@ -159,7 +159,7 @@ quiet_withdrawn (Some (Over why)) q = tt
 
 -- ---- Its attention goes out, and it waits no more
 
-either_first : (d : Pool) (key : ℕ) (o : Option Hold) → (does (turn d (pool.Unwaits key)).pool pool.Stops o).pool ≡ (turn (does d pool.Stops o).pool (pool.Unwaits key)).pool
+either_first : (d : Pool) (key : ℕ) (o : Option Hold) → (holder_does (turn d (pool.Unwaits key)).pool pool.Stops o).pool ≡ (turn (holder_does d pool.Stops o).pool (pool.Unwaits key)).pool
 either_first d key None = refl
 either_first d key (Some h) = refl
 
@@ -168,10 +168,10 @@ pub stops_unwaits : (key : ℕ) (d d1 d2 : Pool) (before after out out1 : List �
 stops_unwaits key d d1 d2 before after out out1 t u =
     sym (either_first d key (find_key key d.holds)) ∙ sym (u.pool_is ∙ ap (λ (x : Pool). (turn x (pool.Does key pool.Stops)).pool) t.pool_is)
 
-pub moves_unwaits : (key : ℕ) (from : Core) (d d2 : Pool) (now behind : Ends) → (turn d (pool.Unwaits key)).pool ≡ d2 → behind ≡ change_end key withdraws now → IfOpen AsksNothing (end_at now key)
+pub moves_unwaits : (key : ℕ) (from : Core) (d d2 : Pool) (now behind : EndList) → (turn d (pool.Unwaits key)).pool ≡ d2 → behind ≡ change_end key withdraws now → IfOpen AsksNothing (end_at now key)
     → Moves (Application key) from (core_of_ends d behind) → Moves (Application key) from (core_of_ends d2 behind)
 moves_unwaits key from d d2 now behind is ends quiet m =
     let there : IfOpen AsksNothing (end_at behind key) =
-    subst (λ (es : Ends). IfOpen AsksNothing (end_at es key)) (sym ends) (subst (IfOpen AsksNothing) (sym (changed_at now key withdraws)) (quiet_withdrawn (end_at now key) quiet)) in
+    subst (λ (es : EndList). IfOpen AsksNothing (end_at es key)) (sym ends) (subst (IfOpen AsksNothing) (sym (changed_at now key withdraws)) (quiet_withdrawn (end_at now key) quiet)) in
     subst (Moves (Application key) from) (same_core (turn d (pool.Unwaits key)).pool d2 behind behind (sym is) refl)
     (moves_one (Application key) from (core_of_ends d behind) (Does (pool.Unwaits key)) there refl tt m)

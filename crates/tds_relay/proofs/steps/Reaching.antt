@@ -3,7 +3,7 @@ use Rattle.std.proofs.Common.{◌≡◌, ◌∙◌, ℕ, List, [], ◌∷◌, �
 use Rattle.std.specs.Prelude.{Result, Ok, Err, OnOk}
 use Rattle.tds_relay.specs.Pool.{Pool, Event, Leaves, pool_after, new_pool, turn}
 use Rattle.tds_relay.specs.Promises.{Each}
-use Rattle.tds_relay.specs.Ties.{Application, Cause, Causes, Goes, IsReached, Leaving, Reaches, Turns}
+use Rattle.tds_relay.specs.Ties.{Application, Cause, Causes, LedTo, IsReached, Leaving, Reaches, Turns}
 
 after_both : (d : Pool) (xs ys : List Event) → pool_after d (xs ++ ys) ≡ pool_after (pool_after d xs) ys
 after_both d [] ys = refl
@@ -34,7 +34,7 @@ reaches_next by from old event cause h = record {
 }
 
 -- where it was reached from a new one, it is
-pub reached_on : (by : Cause) (old new : Pool) → Goes by old new → IsReached old → IsReached new
+pub reached_on : (by : Cause) (old new : Pool) → LedTo by old new → IsReached old → IsReached new
 reached_on by old new g r =
     let h : Reaches by old new = g old (record { events = []; are = refl; caused = tt }) in
     (r.0, r.1 ++ h.events, after_both (new_pool r.0) r.1 h.events ∙ ap (λ (d : Pool). pool_after d h.events) r.2 ∙ h.are)

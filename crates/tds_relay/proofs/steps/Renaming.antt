@@ -8,9 +8,9 @@ use Rattle.tds_front.specs.declared.front.Said.TheVariants as said
 use Rattle.tds_relay.specs.declared.application.Application.{Application}
 use Rattle.tds_relay.specs.declared.link.Link.{Link}
 use Rattle.tds_relay.specs.Fronts.{given_by}
-use Rattle.tds_relay.specs.Machine.{change_whose, put_all, put_some}
-use Rattle.tds_relay.specs.Queues.{Queue, Queues, acknowledgement, tagged, change, fits, names_in, names_of, queues_in, put}
-use Rattle.tds_relay.specs.Reads.{IsCalled, Opens, Seen, Stays, link_at, place_of, seen_at, seen_of}
+use Rattle.tds_relay.specs.Machine.{change_whose_queue, put_all, put_some}
+use Rattle.tds_relay.specs.Queues.{Queue, Queues, acknowledgement, tagged, change, fits, names_in, names_of, queues_in, put_behind}
+use Rattle.tds_relay.specs.Reads.{IsCalled, Opens, Seen, LinksStay, link_at, place_of, seen_at, seen_of}
 use Rattle.tds_relay.proofs.steps.Naming.{is_called_on}
 use Rattle.tds_relay.proofs.steps.Placed.{IsAt, differs_by, is_at, none_there, other_seen}
 use Rattle.tds_relay.proofs.steps.Staying.{opens_both, stays_opens}
@@ -45,7 +45,7 @@ alone_called true l tag is_open is = inl (is_open, is)
 alone_called false l tag is_open is = tt
 
 -- one comes that is called so, and those who wait are served
-pub first_called : (number tag : ℕ) (l : Link) (ls ms ks ns : List Link) → (length ls == 0) ≡ true → ms ≡ ls ++ l ∷ [] → l.is_open ≡ true → l.tag ≡ Some tag → Stays ms ks → Opens ks ns
+pub first_called : (number tag : ℕ) (l : Link) (ls ms ks ns : List Link) → (length ls == 0) ≡ true → ms ≡ ls ++ l ∷ [] → l.is_open ≡ true → l.tag ≡ Some tag → LinksStay ms ks → Opens ks ns
     → IsCalled true (Some tag) (seen_at number ns)
 first_called number tag l ls ms ks ns none pushed is_open is stays opens =
     let are : ms ≡ l ∷ [] = pushed ∙ ap (λ (xs : List Link). xs ++ l ∷ []) (none_there ls none) in
@@ -69,17 +69,17 @@ if_tag true bytes p = refl
 if_tag false bytes p = refl
 
 -- whatever it is tagged, these bytes are put there so
-pub put_called : (tag : ℕ) (bytes : List ℕ) (p : Queue) → put bytes (tagged tag p) ≡ tagged tag (put bytes p)
-unfolding put
+pub put_called : (tag : ℕ) (bytes : List ℕ) (p : Queue) → put_behind bytes (tagged tag p) ≡ tagged tag (put_behind bytes p)
+unfolding put_behind
 put_called tag bytes p = if_called (fits p bytes) tag bytes p
 
-put_tag : (bytes : List ℕ) (p : Queue) → (put bytes p).tag ≡ p.tag
-unfolding put
+put_tag : (bytes : List ℕ) (p : Queue) → (put_behind bytes p).tag ≡ p.tag
+unfolding put_behind
 put_tag bytes p = if_tag (fits p bytes) bytes p
 
 all_called : (tag : ℕ) (pieces : List (List ℕ)) (p : Queue) → put_all pieces (tagged tag p) ≡ tagged tag (put_all pieces p)
 all_called tag [] p = refl
-all_called tag (piece ∷ pieces) p = ap (put_all pieces) (put_called tag piece p) ∙ all_called tag pieces (put piece p)
+all_called tag (piece ∷ pieces) p = ap (put_all pieces) (put_called tag piece p) ∙ all_called tag pieces (put_behind piece p)
 
 pub some_called : (tag : ℕ) (o : Option (List (List ℕ))) (p : Queue) → put_some o (tagged tag p) ≡ tagged tag (put_some o p)
 some_called tag None p = refl
@@ -91,7 +91,7 @@ called_so tag p q o is = ap (tagged tag) is ∙ sym (some_called tag o p)
 
 all_tag : (pieces : List (List ℕ)) (p : Queue) → (put_all pieces p).tag ≡ p.tag
 all_tag [] p = refl
-all_tag (piece ∷ pieces) p = all_tag pieces (put piece p) ∙ put_tag piece p
+all_tag (piece ∷ pieces) p = all_tag pieces (put_behind piece p) ∙ put_tag piece p
 
 some_tag : (o : Option (List (List ℕ))) (p : Queue) → (put_some o p).tag ≡ p.tag
 some_tag None p = refl
@@ -116,10 +116,10 @@ names_given key (said.Begin kind reset) ps = refl
 names_given key (said.Body count) ps = refl
 names_given key (said.End count) ps = refl
 names_given key (said.Forget gone) ps = refl
-names_given key said.Acknowledge ps = names_changed (put acknowledgement) (put_tag acknowledgement) key ps
+names_given key said.Acknowledge ps = names_changed (put_behind acknowledgement) (put_tag acknowledgement) key ps
 names_given key said.HandOn ps = refl
 
-pub names_handed : (who : Option ℕ) (o : Option (List (List ℕ))) (ps : Queues) → names_of (change_whose who (put_some o) ps) ≡ names_of ps
+pub names_handed : (who : Option ℕ) (o : Option (List (List ℕ))) (ps : Queues) → names_of (change_whose_queue who (put_some o) ps) ≡ names_of ps
 names_handed None o ps = refl
 names_handed (Some key) o ps = names_changed (put_some o) (some_tag o) key ps
 

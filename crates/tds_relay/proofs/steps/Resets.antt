@@ -12,13 +12,13 @@ use Rattle.tds_client.specs.declared.sign.Sign.{Sign}
 use Rattle.tds_client.specs.declared.sign.Sign.TheVariants as signs
 use Rattle.tds_client.specs.declared.sign.DoneKind.{DoneKind}
 use Rattle.tds_client.specs.declared.sign.Rules.TheVariants.{Any}
-use Rattle.tds_client.specs.Hearing.{◌>>=◌, acknowledges_by, change_placed, changed, done_behind, hear_sign, place_change, mark_after, may_end, place_done, with_done}
+use Rattle.tds_client.specs.Hearing.{◌>>=◌, acknowledges_by, change_placed, descriptor_changed, done_behind, hear_sign, place_change, mark_after, may_end, place_done, with_done}
 use Rattle.tds_token.specs.declared.env_change.EnvChange.{EnvChange}
 use Rattle.tds_listen.specs.Hearing.{heard_by}
 use Rattle.tds_listen.specs.declared.fault.ListenFault.{ListenFault}
 use Rattle.tds_wire.specs.declared.told.Token.{Token}
 use Rattle.tds_service.specs.Line as line
-use Rattle.tds_service.specs.Line.{Line, Stage, turn}
+use Rattle.tds_service.specs.Line.{Line, LineStage, line_turn}
 use Rattle.tds_service.specs.Parts as parts
 use Rattle.tds_service.specs.Parts.{Close, Item, Part, close_by, close_part, hear_items, hear_part, heard_until, is_end, unless_owed}
 use Rattle.tds_service.specs.Service as calls
@@ -28,12 +28,12 @@ use Rattle.tds_relay.specs.declared.pool.coming.Heard as code
 use Rattle.tds_relay.specs.declared.link.Answer.{Answer}
 use Rattle.tds_relay.specs.Pool as pool
 use Rattle.tds_relay.specs.Pool.{Pool, Hearing, Way, find_lease, hearing_of, key_of, owes_of, owes_reset, whose, whose_by}
-use Rattle.tds_relay.specs.Core.{done_by, what_in, what_of}
+use Rattle.tds_relay.specs.Core.{dones_of_part, what_in, what_of}
 use Rattle.tds_relay.specs.Fronts.{IsWhat}
 use Rattle.tds_relay.specs.Ties.{Turns}
 use Rattle.tds_relay.specs.Cutting.{awaited}
 use Rattle.tds_relay.specs.Handing.{IsBy, IsOf, news_for}
-use Rattle.tds_relay.specs.Machine.{IsTold, Manner, Whole, Without, closes, news_in, news_of, owed_behind}
+use Rattle.tds_relay.specs.Machine.{IsTold, Manner, Whole, Without, closes_connection, news_in, news_of, owed_behind}
 use Rattle.tds_relay.specs.Promises.{one_if}
 
 -- ---- Of signs
@@ -49,7 +49,7 @@ abbrev Leaves : Heard → Sign → Result Heard ClientFault → Type 0
 Leaves heard sign (Ok next) = is_owed next ≡ owed_behind (is_owed heard) sign
 Leaves heard sign (Err fault) = Unit {0}
 
-changed_leaves : (heard : Heard) (change : EnvChange) (sign : Sign) (o : Option ℕ) → is_some (mark_after change heard.mark) ≡ owed_behind (is_owed heard) sign → Leaves heard sign (changed heard change o)
+changed_leaves : (heard : Heard) (change : EnvChange) (sign : Sign) (o : Option ℕ) → is_some (mark_after change heard.mark) ≡ owed_behind (is_owed heard) sign → Leaves heard sign (descriptor_changed heard change o)
 changed_leaves heard change sign None e = tt
 changed_leaves heard change sign (Some descriptor) e = e
 
@@ -146,7 +146,7 @@ part_adds cancelling heard part =
 
 -- where the connection isn't to be closed
 abbrev Counts : Line → Part Token → line.Turn Token → Type 0
-Counts l part t = closes (what_of t.answer) ≡ false → news_in (is_owed l.heard) part.items + Owed t.line.heard ≡ Owed l.heard
+Counts l part t = closes_connection (what_of t.answer) ≡ false → news_in (is_owed l.heard) part.items + Owed t.line.heard ≡ Owed l.heard
 
 reads_count : (l : Line) (part : Part Token) (ends : Bool) (until : Heard) (all : Result Heard ListenFault) → AddsIn l.heard part.items all → Counts l part (line.reads l part ends until all)
 reads_count l part ends until (Err fault) adds right = absurd (let u : ⊥ = cc in u)
@@ -163,7 +163,7 @@ skips_count l part ends until (Err fault) adds right = absurd (let u : ⊥ = cc 
 skips_count l part false until (Ok heard) adds right = adds
 skips_count l part true until (Ok heard) adds right = skips_end_count l part heard heard.done adds right
 
-comes_count : (l : Line) (part : Part Token) (stage : Stage) → Counts l part (line.comes l part stage)
+comes_count : (l : Line) (part : Part Token) (stage : LineStage) → Counts l part (line.comes l part stage)
 comes_count l part line.Idle right = absurd (let u : ⊥ = cc in u)
 comes_count l part (line.Sending begun) right = absurd (let u : ⊥ = cc in u)
 comes_count l part line.Reading right = reads_count l part (is_end part.close) (heard_until false l.heard part.items) (hear_part false l.heard part) (part_adds false l.heard part) right
@@ -194,16 +194,16 @@ Owes o = one_if (owes_of o)
 abbrev Behind : Pool → ℕ → Part Token → Service
 Behind d number part = (step d.service (calls.Came number part)).service
 
-came_counts : (s : Service) (number : ℕ) (part : Part Token) (c : Seat) → seat_numbered number s.seats ≡ Some c → closes (what_in (step s (calls.Came number part)).dones) ≡ false
+came_counts : (s : Service) (number : ℕ) (part : Part Token) (c : Seat) → seat_numbered number s.seats ≡ Some c → closes_connection (what_in (step s (calls.Came number part)).dones) ≡ false
     → news_in (owes_of (seat_numbered number s.seats)) part.items + Owes (seat_numbered number (step s (calls.Came number part)).service.seats) ≡ Owes (seat_numbered number s.seats)
 came_counts s number part c there right =
     let l = c.line in
-    let t = turn l (line.Come part) in
+    let t = line_turn l (line.Come part) in
     let place = drained c.place t.line.stage in
     let did = ap (λ (o : Option Seat). calls.hears s (has_number number) part o) there in
-    let one : closes (what_of t.answer) ≡ false = subst (λ (x : calls.Step Token). closes (what_in x.dones) ≡ false) did right in
+    let one : closes_connection (what_of t.answer) ≡ false = subst (λ (x : calls.ServiceStep Token). closes_connection (what_in x.dones) ≡ false) did right in
     let now : seat_numbered number (step s (calls.Came number part)).service.seats ≡ Some (record { number = c.number; place = place; line = t.line }) =
-    ap (λ (x : calls.Step Token). seat_numbered number x.service.seats) did ∙ changed_first number place t.line s.seats c there in
+    ap (λ (x : calls.ServiceStep Token). seat_numbered number x.service.seats) did ∙ changed_first number place t.line s.seats c there in
     ap (λ (o : Option Seat). news_in (owes_of (seat_numbered number s.seats)) part.items + Owes o) now
     ∙ ap (λ (b : Bool). news_in b part.items + Owed t.line.heard) (ap owes_of there) ∙ comes_count l part l.stage one ∙ sym (ap Owes there)
 
@@ -226,7 +226,7 @@ service_by d number key part way lease pool.Settled its right =
 service_by d number key part way lease pool.Wrong its right = absurd (right refl)
 
 -- a packet that comes is no loss
-not_lost : (l : Line) (part : Part Token) (ends : Bool) (until : Heard) (all : Result Heard ListenFault) → closes (what_of (line.reads l part ends until all).answer) ≡ false
+not_lost : (l : Line) (part : Part Token) (ends : Bool) (until : Heard) (all : Result Heard ListenFault) → closes_connection (what_of (line.reads l part ends until all).answer) ≡ false
     → hearing_of (line.reads l part ends until all).answer ≡ pool.Wrong → ⊥
 not_lost l part ends until (Err fault) right wrong = let u : ⊥ = cc in u
 not_lost l part false until (Ok heard) right wrong = let u : ⊥ = cc in u
@@ -237,13 +237,13 @@ end_not_lost l heard finals.Awaited wrong = let u : ⊥ = cc in u
 end_not_lost l heard finals.Answered wrong = let u : ⊥ = cc in u
 end_not_lost l heard finals.Acknowledged wrong = let u : ⊥ = cc in u
 
-skip_not_lost : (l : Line) (ends : Bool) (until : Heard) (all : Result Heard ListenFault) → closes (what_of (line.skips {T = Token} l ends until all).answer) ≡ false
+skip_not_lost : (l : Line) (ends : Bool) (until : Heard) (all : Result Heard ListenFault) → closes_connection (what_of (line.skips {T = Token} l ends until all).answer) ≡ false
     → hearing_of (line.skips {T = Token} l ends until all).answer ≡ pool.Wrong → ⊥
 skip_not_lost l ends until (Err fault) right wrong = let u : ⊥ = cc in u
 skip_not_lost l false until (Ok heard) right wrong = let u : ⊥ = cc in u
 skip_not_lost l true until (Ok heard) right wrong = end_not_lost l heard heard.done wrong
 
-right_of : (l : Line) (part : Part Token) (stage : Stage) → closes (what_of (line.comes l part stage).answer) ≡ false → hearing_of (line.comes l part stage).answer ≡ pool.Wrong → ⊥
+right_of : (l : Line) (part : Part Token) (stage : LineStage) → closes_connection (what_of (line.comes l part stage).answer) ≡ false → hearing_of (line.comes l part stage).answer ≡ pool.Wrong → ⊥
 right_of l part line.Idle right wrong = let u : ⊥ = cc in u
 right_of l part (line.Sending begun) right wrong = let u : ⊥ = cc in u
 right_of l part line.Reading right wrong = not_lost l part (is_end part.close) (heard_until false l.heard part.items) (hear_part false l.heard part) right wrong
@@ -256,14 +256,14 @@ seat_of d number key None e h =
     absurd (let nobody : whose d number ≡ None = ap (λ (o : Option Seat). whose_by (lease_at o) d.holds) e in let u : Some key ≡ None = sym h ∙ nobody in let v : ⊥ = cc in v)
 
 -- So often a packet tells it that somebody hears: as often as it was owed, and isn't behind it.
-pub news_counted : (d : Pool) (number key : ℕ) (part : Part Token) (way : Way) → whose d number ≡ Some key → closes (what_in (done_by d number part)) ≡ false
+pub news_counted : (d : Pool) (number key : ℕ) (part : Part Token) (way : Way) → whose d number ≡ Some key → closes_connection (what_in (dones_of_part d number part)) ≡ false
     → news_in (owes_reset number d) part.items + one_if (owes_reset number (pool.turn d (pool.Comes number part way)).pool) ≡ one_if (owes_reset number d)
 news_counted d number key part way its right =
     let c = seat_of d number key (seat_numbered number d.service.seats) refl its in
     let did = ap (λ (o : Option Seat). calls.hears d.service (has_number number) part o) c.1 in
     let heard = step {T = Token} d.service (calls.Came number part) in
-    let one : closes (what_of (turn c.0.line (line.Come part)).answer) ≡ false = subst (λ (x : calls.Step Token). closes (what_in x.dones) ≡ false) did right in
-    let no : pool.hearing heard.dones ≡ pool.Wrong → ⊥ = λ wrong. right_of c.0.line part c.0.line.stage one (sym (ap (λ (x : calls.Step Token). pool.hearing x.dones) did) ∙ wrong) in
+    let one : closes_connection (what_of (line_turn c.0.line (line.Come part)).answer) ≡ false = subst (λ (x : calls.ServiceStep Token). closes_connection (what_in x.dones) ≡ false) did right in
+    let no : pool.hearing heard.dones ≡ pool.Wrong → ⊥ = λ wrong. right_of c.0.line part c.0.line.stage one (sym (ap (λ (x : calls.ServiceStep Token). pool.hearing x.dones) did) ∙ wrong) in
     let same : (pool.turn d (pool.Comes number part way)).pool.service ≡ Behind d number part =
     service_by d number key part way (lease_at (seat_numbered number d.service.seats)) (pool.hearing heard.dones) its no in
     ap (λ (s : Service). news_in (owes_reset number d) part.items + Owes (seat_numbered number s.seats)) same ∙ came_counts d.service number part c.0 c.1 right
@@ -309,11 +309,11 @@ unowed false owes holds e = refl
 
 -- As it is heard: how often a packet has the news, by what its connection owed before it and owes behind it.
 pub heard_so : (d : Pool) (number key : ℕ) (part : Part Token) (heard : code.Heard) (way : Way) (d1 : Pool) (before behind : List ℕ) → Turns (pool.Comes number part way) d d1 before behind
-    → whose d number ≡ Some key → heard.key ≡ Some key → IsWhat heard.key heard.what (done_by d number part) → closes heard.what ≡ false
+    → whose d number ≡ Some key → heard.key ≡ Some key → IsWhat heard.key heard.what (dones_of_part d number part) → closes_connection heard.what ≡ false
     → (owed owes : Bool) → owed ≡ owes_reset number d → owes ≡ owes_reset number d1 → news_in (owes_reset number d) part.items ≡ one_if (owed && not owes)
 heard_so d number key part heard way d1 before behind turned mine its what right owed owes was is =
-    let same : heard.what ≡ what_in (done_by d number part) = subst (λ (o : Option ℕ). IsWhat o heard.what (done_by d number part)) its what in
-    let one : closes (what_in (done_by d number part)) ≡ false = ap closes (sym same) ∙ right in
+    let same : heard.what ≡ what_in (dones_of_part d number part) = subst (λ (o : Option ℕ). IsWhat o heard.what (dones_of_part d number part)) its what in
+    let one : closes_connection (what_in (dones_of_part d number part)) ≡ false = ap closes_connection (sym same) ∙ right in
     let count = news_counted d number key part way mine one in
     let now : news_in (owes_reset number d) part.items + one_if owes ≡ one_if owed =
     ap (λ (b : Bool). news_in (owes_reset number d) part.items + one_if b) (is ∙ ap (λ (x : Pool). owes_reset number x) turned.pool_is) ∙ count ∙ ap one_if (sym was) in

@@ -4,7 +4,7 @@ use Rattle.tds_client.specs.declared.fault.ClientRefusal.{ClientRefusal}
 use Rattle.tds_client.specs.declared.heard.Heard.{Heard}
 use Rattle.tds_wire.specs.declared.told.Token.{Token}
 use Rattle.tds_service.specs.Line as line
-use Rattle.tds_service.specs.Line.{Act, Line, turn}
+use Rattle.tds_service.specs.Line.{Act, Line, line_turn}
 use Rattle.tds_service.specs.History.{line_after}
 use Rattle.tds_service.specs.Refusing.{packets, refusal_in}
 use Rattle.tds_service.specs.Service as calls
@@ -15,7 +15,7 @@ use Rattle.tds_relay.specs.Pool.{Pool, find_key}
 
 -- ---- On one line
 
-abbrev line_at : ℕ → line.Stage → Heard → Line
+abbrev line_at : ℕ → line.LineStage → Heard → Line
 line_at n s h = record { asked = n; stage = s; heard = h }
 
 abbrev Ends : ℕ → List (Act Token)
@@ -31,23 +31,23 @@ ends_sent n begun h (suc count) = ends_sent n true h count
 
 -- where the first act isn't refused
 abbrev Goes : Line → Act Token → List (Act Token) → Bool → Type 0
-Goes l first all whole = refusal_in (turn l first).answer ≡ None → IsSent whole (Some (line_after l all).stage)
+Goes l first all whole = refusal_in (line_turn l first).answer ≡ None → IsSent whole (Some (line_after l all).stage)
 
-asks_at : (n : ℕ) (s : line.Stage) (h : Heard) → Goes (line_at n s h) line.Ask (line.Ask ∷ []) false
+asks_at : (n : ℕ) (s : line.LineStage) (h : Heard) → Goes (line_at n s h) line.Ask (line.Ask ∷ []) false
 asks_at n line.Idle h e = refl
 asks_at n (line.Sending begun) h e = absurd (let u : ⊥ = cc in u)
 asks_at n line.Reading h e = absurd (let u : ⊥ = cc in u)
 asks_at n line.Cancelling h e = absurd (let u : ⊥ = cc in u)
 asks_at n (line.Broken fault) h e = absurd (let u : ⊥ = cc in u)
 
-puts_at : (n : ℕ) (s : line.Stage) (h : Heard) (count : ℕ) → Goes (line_at n s h) (line.Send false) (packets count) false
+puts_at : (n : ℕ) (s : line.LineStage) (h : Heard) (count : ℕ) → Goes (line_at n s h) (line.Send false) (packets count) false
 puts_at n line.Idle h count e = absurd (let u : ⊥ = cc in u)
 puts_at n (line.Sending begun) h count e = puts_sent n begun h count
 puts_at n line.Reading h count e = absurd (let u : ⊥ = cc in u)
 puts_at n line.Cancelling h count e = absurd (let u : ⊥ = cc in u)
 puts_at n (line.Broken fault) h count e = absurd (let u : ⊥ = cc in u)
 
-ends_at : (n : ℕ) (s : line.Stage) (h : Heard) (count : ℕ) → Goes (line_at n s h) (line.Send true) (Ends count) true
+ends_at : (n : ℕ) (s : line.LineStage) (h : Heard) (count : ℕ) → Goes (line_at n s h) (line.Send true) (Ends count) true
 ends_at n line.Idle h count e = absurd (let u : ⊥ = cc in u)
 ends_at n (line.Sending begun) h count e = ends_sent n begun h count
 ends_at n line.Reading h count e = absurd (let u : ⊥ = cc in u)
@@ -83,7 +83,7 @@ unless_sent s lease c all whole None e did goes =
 acts_sent : (s : Service) (lease : ℕ) (first : Act Token) (all : List (Act Token)) (whole : Bool) (o : Option Seat) → find_by (has_lease lease) s.seats ≡ o
     → (acts s (has_lease lease) first all o).reply ≡ Did → ((l : Line) → Goes l first all whole) → IsSent whole (stage_by (acts s (has_lease lease) first all o).service lease)
 acts_sent s lease first all whole None e did goes = absurd (let u : ⊥ = cc in u)
-acts_sent s lease first all whole (Some c) e did goes = unless_sent s lease c all whole (refusal_in (turn c.line first).answer) e did (goes c.line)
+acts_sent s lease first all whole (Some c) e did goes = unless_sent s lease c all whole (refusal_in (line_turn c.line first).answer) e did (goes c.line)
 
 asks_sent : (s : Service) (lease : ℕ) → (step {T = Token} s (calls.Ask lease)).reply ≡ Did → IsSent false (stage_by (step {T = Token} s (calls.Ask lease)).service lease)
 asks_sent s lease did = acts_sent s lease line.Ask (line.Ask ∷ []) false (find_by (has_lease lease) s.seats) refl did (λ l. asks_at l.asked l.stage l.heard)

@@ -9,7 +9,7 @@ use Rattle.tds_relay.proofs.steps.Beginning.{answer_begins, answer_stays, begin_
 use Rattle.tds_relay.proofs.steps.Fullness.{full_both, full_choose, full_open, full_pushed, full_refl, full_written, pushed_none, stays_none}
 use Rattle.tds_relay.specs.Cutting.{at_its_beginning}
 use Rattle.tds_relay.proofs.steps.Naming.{called_both, called_refl, called_stays, pushed_called}
-use Rattle.tds_relay.specs.Reads.{CalledAt, FillsAt, FillsBy, Opens, OpensOne, OpensOthers, MayBegin, Seen, Sees, StaysAt, Stays, Fullness, answer_at, answer_on, bytes_on, fullness_at, fullness_of, if_open, link_at, open_answer, open_at, open_fullness, open_of, open_waits, opened_at, opened_seen, reader_at, reader_of, seen_at, seen_of, waits_on, without_link}
+use Rattle.tds_relay.specs.Reads.{CalledAt, FillsAt, FillsBy, Opens, OpensOne, OpensOthers, MayBegin, Seen, HoldsOnLinks, StaysAt, LinksStay, Fullness, answer_at, answer_on, bytes_on, fullness_at, fullness_of, if_open, link_at, open_answer, open_at, open_fullness, open_of, open_waits, opened_at, opened_seen, reader_at, reader_of, seen_at, seen_of, waits_on, without_link}
 
 pub at_refl : {A : Type 0} (o : Option A) → StaysAt o o
 at_refl None = tt
@@ -35,10 +35,10 @@ few_refl ls = omega arith
 few_both : (a b c : ℕ) → b ≤ a → c ≤ b → c ≤ a
 few_both a b c h k = omega (arith, h, k)
 
-pub stays_refl : (ls : List Link) → Stays ls ls
+pub stays_refl : (ls : List Link) → LinksStay ls ls
 stays_refl ls = record { few = few_refl ls; seen = λ number had h. h; fills = λ number. fills_refl (waits_on number ls); begins = λ number. begin_refl (answer_at number ls); fullness = λ number. full_refl (fullness_at number ls) }
 
-pub stays_both : (ls ms ns : List Link) → Stays ls ms → Stays ms ns → Stays ls ns
+pub stays_both : (ls ms ns : List Link) → LinksStay ls ms → LinksStay ms ns → LinksStay ls ns
 stays_both ls ms ns h k = record {
   few = few_both (length ls) (length ms) (length ns) h.few k.few;
   seen = λ number had s. k.seen number had (h.seen number had s);
@@ -47,28 +47,28 @@ stays_both ls ms ns h k = record {
   fullness = λ number. full_both (fullness_at number ls) (fullness_at number ms) (fullness_at number ns) (h.fullness number) (k.fullness number);
 }
 
-pub stays_then : (ls ms ns : List Link) → Stays ls ms → ns ≡ ms → Stays ls ns
-stays_then ls ms ns h e = subst (λ (xs : List Link). Stays ls xs) (sym e) h
+pub stays_then : (ls ms ns : List Link) → LinksStay ls ms → ns ≡ ms → LinksStay ls ns
+stays_then ls ms ns h e = subst (λ (xs : List Link). LinksStay ls xs) (sym e) h
 
 -- where a call answers
-pub stays_on : {A E : Type 0} (r : Result A E) (ls ms ns : List Link) → Stays ls ms → OnOk r (Stays ms ns) → OnOk r (Stays ls ns)
+pub stays_on : {A E : Type 0} (r : Result A E) (ls ms ns : List Link) → LinksStay ls ms → OnOk r (LinksStay ms ns) → OnOk r (LinksStay ls ns)
 stays_on (Ok x) ls ms ns h k = stays_both ls ms ns h k
 stays_on (Err e) ls ms ns h k = tt
 
-pub stays_same : {A E : Type 0} (r : Result A E) (ls ms ns : List Link) → Stays ls ms → OnOk r (ns ≡ ms) → OnOk r (Stays ls ns)
-stays_same (Ok x) ls ms ns h e = subst (λ (xs : List Link). Stays ls xs) (sym e) h
+pub stays_same : {A E : Type 0} (r : Result A E) (ls ms ns : List Link) → LinksStay ls ms → OnOk r (ns ≡ ms) → OnOk r (LinksStay ls ns)
+stays_same (Ok x) ls ms ns h e = subst (λ (xs : List Link). LinksStay ls xs) (sym e) h
 stays_same (Err e) ls ms ns h k = tt
 
 -- where the connections before are as they were
-pub stays_from : {A E : Type 0} (r : Result A E) (ls ms ns : List Link) → ms ≡ ls → OnOk r (Stays ms ns) → OnOk r (Stays ls ns)
-stays_from r ls ms ns e h = subst (λ (xs : List Link). OnOk r (Stays xs ns)) e h
+pub stays_from : {A E : Type 0} (r : Result A E) (ls ms ns : List Link) → ms ≡ ls → OnOk r (LinksStay ms ns) → OnOk r (LinksStay ls ns)
+stays_from r ls ms ns e h = subst (λ (xs : List Link). OnOk r (LinksStay xs ns)) e h
 
 open_stays : (o p : Option Seen) → StaysAt o p → StaysAt (open_of o) (open_of p)
 open_stays o None h = tt
 open_stays o (Some s) h = subst (λ (x : Option Seen). StaysAt (open_of x) (open_of (Some s))) (sym h) (at_refl (open_of (Some s)))
 
-pub stays_behind : (ls ms ns : List Link) → ms ≡ ls → Stays ms ns → Stays ls ns
-stays_behind ls ms ns e h = subst (λ (xs : List Link). Stays xs ns) e h
+pub stays_behind : (ls ms ns : List Link) → ms ≡ ls → LinksStay ms ns → LinksStay ls ns
+stays_behind ls ms ns e h = subst (λ (xs : List Link). LinksStay xs ns) e h
 
 -- one that isn't open has nothing to be seen
 pub shut : (l : Link) → l.is_open ≡ false → open_of (Some (seen_of l)) ≡ None
@@ -100,7 +100,7 @@ same_readers (x ∷ xs) (suc i) d m number reader n =
     either_reader (x.number == n) x x (link_at n (slice_set xs i m)) (link_at n xs) refl (same_readers xs i d m number reader n)
 
 -- a link is written back that has the same of a packet
-pub sees_written : (ls : List Link) (i : ℕ) (d m : Link) → m.number ≡ (slice_index_or ls i d).number → seen_of m ≡ seen_of (slice_index_or ls i d) → Sees ls (slice_set ls i m)
+pub sees_written : (ls : List Link) (i : ℕ) (d m : Link) → m.number ≡ (slice_index_or ls i d).number → seen_of m ≡ seen_of (slice_index_or ls i d) → HoldsOnLinks ls (slice_set ls i m)
 sees_written ls i d m number reader n had h = subst (λ (o : Option Seen). StaysAt had o) (sym (same_readers ls i d m number reader n)) h
 
 either_fills : (b : Bool) (l m : Link) (o p : Option Link) → FillsAt (Some (bytes_on l)) (Some (bytes_on m)) → FillsAt (option_map bytes_on o) (option_map bytes_on p)
@@ -122,14 +122,14 @@ few_written ls i m = let same : length (slice_set ls i m) ≡ length ls = length
 
 -- and what waited there, with more behind it or not
 pub stays_written : (ls : List Link) (i : ℕ) (d m : Link) → m.number ≡ (slice_index_or ls i d).number → seen_of m ≡ seen_of (slice_index_or ls i d)
-    → FillsAt (Some (bytes_on (slice_index_or ls i d))) (Some (bytes_on m)) → m.answer ≡ (slice_index_or ls i d).answer → fullness_of m ≡ fullness_of (slice_index_or ls i d) → Stays ls (slice_set ls i m)
+    → FillsAt (Some (bytes_on (slice_index_or ls i d))) (Some (bytes_on m)) → m.answer ≡ (slice_index_or ls i d).answer → fullness_of m ≡ fullness_of (slice_index_or ls i d) → LinksStay ls (slice_set ls i m)
 stays_written ls i d m number reader fills known full =
     record { few = few_written ls i m; seen = sees_written ls i d m number reader; fills = fills_written ls i d m number fills; begins = begins_written ls i d m number (answer_stays (slice_index_or ls i d).answer m.answer known); fullness = full_written ls i d m number full }
 
 -- and its next message begins
 pub stays_restarted : (ls : List Link) (i : ℕ) (d m : Link) → m.number ≡ (slice_index_or ls i d).number → seen_of m ≡ seen_of (slice_index_or ls i d)
     → FillsAt (Some (bytes_on (slice_index_or ls i d))) (Some (bytes_on m)) → m.answer ≡ at_its_beginning (slice_index_or ls i d).answer → fullness_of m ≡ fullness_of (slice_index_or ls i d)
-    → Stays ls (slice_set ls i m)
+    → LinksStay ls (slice_set ls i m)
 stays_restarted ls i d m number reader fills begins full =
     record { few = few_written ls i m; seen = sees_written ls i d m number reader; fills = fills_written ls i d m number fills; begins = begins_written ls i d m number (answer_begins (slice_index_or ls i d).answer m.answer begins); fullness = full_written ls i d m number full }
 
@@ -206,7 +206,7 @@ few_left : (p : Link → Bool) (ls : List Link) → length (filter p ls) ≤ len
 few_left p [] = omega arith
 few_left p (x ∷ xs) = few_if (p x) x (filter p xs) xs (few_left p xs)
 
-pub stays_without : (number : ℕ) (ls : List Link) → Stays ls (without_link number ls)
+pub stays_without : (number : ℕ) (ls : List Link) → LinksStay ls (without_link number ls)
 stays_without number ls = record {
   few = few_left (λ (l : Link). not (l.number == number)) ls;
   seen = λ n had h. at_both had (seen_at n ls) (seen_at n (without_link number ls)) h (without_at number ls n);
@@ -272,7 +272,7 @@ open_fills : (o p : Option Reading) (w v : Option (List ℕ)) → StaysAt o p �
 open_fills o None w v stays fills = tt
 open_fills o (Some r) w v stays fills = subst (λ (x : Option Reading). FillsAt (if_open x w) v) (sym stays) fills
 
-pub stays_opens : (ls ms : List Link) → Stays ls ms → Opens ls ms
+pub stays_opens : (ls ms : List Link) → LinksStay ls ms → Opens ls ms
 stays_opens ls ms stays =
     let same : (number : ℕ) → StaysAt (open_at number ls) (open_at number ms) = λ number. open_stays (seen_at number ls) (seen_at number ms) (stays.seen number (seen_at number ls) (at_refl (seen_at number ls))) in
     record {
@@ -312,19 +312,19 @@ pub opens_by_push : (ls ms ns : List Link) (l : Link) → ms ≡ ls → ns ≡ m
 opens_by_push ls ms ns l same pushed closed fits unnamed =
     subst (λ (xs : List Link). Opens ls xs) (sym (pushed ∙ ap (λ (xs : List Link). xs ++ l ∷ []) same)) (opens_pushed ls l closed fits unnamed)
 
-pub opens_on : {A E : Type 0} (r : Result A E) (ls ms ns : List Link) → Stays ls ms → OnOk r (Stays ms ns) → OnOk r (Opens ls ns)
+pub opens_on : {A E : Type 0} (r : Result A E) (ls ms ns : List Link) → LinksStay ls ms → OnOk r (LinksStay ms ns) → OnOk r (Opens ls ns)
 opens_on (Ok x) ls ms ns h k = stays_opens ls ns (stays_both ls ms ns h k)
 opens_on (Err e) ls ms ns h k = tt
 
 -- and then those who wait are served
-pub opens_served : {A E : Type 0} (r : Result A E) (ls ms ns : List Link) → Stays ls ms → OnOk r (Opens ms ns) → OnOk r (Opens ls ns)
+pub opens_served : {A E : Type 0} (r : Result A E) (ls ms ns : List Link) → LinksStay ls ms → OnOk r (Opens ms ns) → OnOk r (Opens ls ns)
 opens_served (Ok x) ls ms ns h k = opens_both ls ms ns (stays_opens ls ms h) k
 opens_served (Err e) ls ms ns h k = tt
 
 -- one is opened
 pub opens_one_served : {A E : Type 0} (r : Result A E) (number : ℕ) (ls ks ms ns : List Link) → ((other : ℕ) → open_at other ks ≡ opened_at number other ls)
     → ((other : ℕ) → waits_on other ks ≡ waits_on other ls) → ((other : ℕ) → answer_at other ks ≡ answer_at other ls) → ((other : ℕ) → seen_at other ks ≡ opened_seen number other ls)
-    → ((other : ℕ) → fullness_at other ks ≡ fullness_at other ls) → Stays ks ms → OnOk r (Opens ms ns) → OnOk r (OpensOne number ls ns)
+    → ((other : ℕ) → fullness_at other ks ≡ fullness_at other ls) → LinksStay ks ms → OnOk r (Opens ms ns) → OnOk r (OpensOne number ls ns)
 opens_one_served (Ok x) number ls ks ms ns opened waits answers seen full h k =
     let both = opens_both ks ms ns (stays_opens ks ms h) k in
     record {
@@ -345,7 +345,7 @@ opens_one_served (Err e) number ls ks ms ns opened waits answers seen full h k =
 
 -- by itself
 pub opens_alone : (number : ℕ) (ls ks ms : List Link) → ((other : ℕ) → open_at other ks ≡ opened_at number other ls) → ((other : ℕ) → waits_on other ks ≡ waits_on other ls)
-    → ((other : ℕ) → answer_at other ks ≡ answer_at other ls) → ((other : ℕ) → seen_at other ks ≡ opened_seen number other ls) → ((other : ℕ) → fullness_at other ks ≡ fullness_at other ls) → Stays ks ms → OpensOne number ls ms
+    → ((other : ℕ) → answer_at other ks ≡ answer_at other ls) → ((other : ℕ) → seen_at other ks ≡ opened_seen number other ls) → ((other : ℕ) → fullness_at other ks ≡ fullness_at other ls) → LinksStay ks ms → OpensOne number ls ms
 opens_alone number ls ks ms opened waits answers seen full h = opens_one_served {A = ℕ} {E = ℕ} (Ok 0) number ls ks ms ms opened waits answers seen full h (opens_refl ms)
 
 -- all but one
@@ -362,10 +362,10 @@ others_both number ls ms ns h k = record {
   called = λ other. called_both (seen_at other ls) (seen_at other ms) (seen_at other ns) (h.called other) (k.called other);
 }
 
-pub others_stay : (number : ℕ) (ls ms ns : List Link) → OpensOthers number ls ms → Stays ms ns → OpensOthers number ls ns
+pub others_stay : (number : ℕ) (ls ms ns : List Link) → OpensOthers number ls ms → LinksStay ms ns → OpensOthers number ls ns
 others_stay number ls ms ns h k = others_both number ls ms ns h (others_open number ms ns (stays_opens ms ns k))
 
-pub others_stay_on : {A E : Type 0} (r : Result A E) (number : ℕ) (ls ms ns : List Link) → OpensOthers number ls ms → OnOk r (Stays ms ns) → OnOk r (OpensOthers number ls ns)
+pub others_stay_on : {A E : Type 0} (r : Result A E) (number : ℕ) (ls ms ns : List Link) → OpensOthers number ls ms → OnOk r (LinksStay ms ns) → OnOk r (OpensOthers number ls ns)
 others_stay_on (Ok x) number ls ms ns h k = others_stay number ls ms ns h k
 others_stay_on (Err e) number ls ms ns h k = tt
 

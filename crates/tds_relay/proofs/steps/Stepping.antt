@@ -4,9 +4,9 @@ use Rattle.std.specs.Prelude.{Result, Ok, Err, OnOk}
 use Rattle.tds_relay.specs.Pool as pool
 use Rattle.tds_relay.specs.Pool.{Pool, Sharing, turn}
 use Rattle.tds_relay.specs.Fronts.{LetsGoFirst, Moved, MovedOn, core_of_ends, machine_with}
-use Rattle.tds_relay.specs.Core.{CausesMove, Ends, Core, HasEntered, IsQuiet, MayMoveAll, Move, Moves, change_end, lets_go, moved_all}
+use Rattle.tds_relay.specs.Core.{CausesMove, EndList, Core, HasEntered, IsQuiet, MayMoveAll, Move, Moves, change_end, lets_go, moved_all}
 use Rattle.tds_relay.specs.Machine.{Machine, Step, Admits, CausesStep, IsLedTo, Makes, MayAll, MayStep, Removes, Steps, StepsOn, Writes, after, after_all, new_machine}
-use Rattle.tds_relay.specs.Queues.{Enters, Queues, change, without_first}
+use Rattle.tds_relay.specs.Queues.{EntersQueues, Queues, change, without_first}
 use Rattle.tds_relay.specs.Promises.{Each}
 use Rattle.tds_relay.specs.Ties as causes
 use Rattle.tds_relay.specs.Ties.{Cause}
@@ -88,23 +88,23 @@ pub steps_whoever : {A E : Type 0} (r : Result A E) (from : Machine) (old new : 
 steps_whoever (Ok x) from old new queues queues1 s m kept = λ by. steps_moved by from old new queues queues1 (m by) kept (s by)
 steps_whoever (Err e) from old new queues queues1 s m kept = tt
 
-pub same_machine : (d d1 : Pool) (es es1 : Ends) (ps ps1 : Queues) → d1 ≡ d → es1 ≡ es → ps1 ≡ ps → machine_with d es ps ≡ machine_with d1 es1 ps1
+pub same_machine : (d d1 : Pool) (es es1 : EndList) (ps ps1 : Queues) → d1 ≡ d → es1 ≡ es → ps1 ≡ ps → machine_with d es ps ≡ machine_with d1 es1 ps1
 same_machine d d1 es es1 ps ps1 same ends kept =
-    ap (λ (x : Pool). machine_with x es ps) (sym same) ∙ ap (λ (x : Ends). machine_with d1 x ps) (sym ends) ∙ ap (λ (x : Queues). machine_with d1 es1 x) (sym kept)
+    ap (λ (x : Pool). machine_with x es ps) (sym same) ∙ ap (λ (x : EndList). machine_with d1 x ps) (sym ends) ∙ ap (λ (x : Queues). machine_with d1 es1 x) (sym kept)
 
 -- to the same machine
-pub steps_same : (by : Cause) (from : Machine) (d d1 : Pool) (es es1 : Ends) (ps ps1 : Queues) → d1 ≡ d → es1 ≡ es → ps1 ≡ ps → Steps by from (machine_with d es ps) → Steps by from (machine_with d1 es1 ps1)
+pub steps_same : (by : Cause) (from : Machine) (d d1 : Pool) (es es1 : EndList) (ps ps1 : Queues) → d1 ≡ d → es1 ≡ es → ps1 ≡ ps → Steps by from (machine_with d es ps) → Steps by from (machine_with d1 es1 ps1)
 steps_same by from d d1 es es1 ps ps1 same ends kept s = subst (Steps by from) (same_machine d d1 es es1 ps ps1 same ends kept) s
 
 -- ---- Applications that come and go
 
-pub steps_enters : (from : Machine) (d : Pool) (es es1 : Ends) (ps ps1 : Queues) (key size tag : ℕ) → HasEntered key es es1 → Enters size tag key ps ps1
+pub steps_enters : (from : Machine) (d : Pool) (es es1 : EndList) (ps ps1 : Queues) (key size tag : ℕ) → HasEntered key es es1 → EntersQueues size tag key ps ps1
     → Steps causes.Neither from (machine_with d es ps) → Steps causes.Neither from (machine_with d es1 ps1)
 steps_enters from d es es1 ps ps1 key size tag entered waits s =
     steps_one causes.Neither from (machine_with d es ps) (Admits key es1 ps1) (entered, size, tag, waits) (refl, tt) s
 
 -- one is there no more, and what it held is let go
-pub steps_quits : (key : ℕ) (from : Machine) (d : Pool) (es es1 : Ends) (ps ps1 : Queues) (new : Core) → es1 ≡ slice_set es key None → ps1 ≡ slice_set ps key None → LetsGoFirst key (core_of_ends d es1) new
+pub steps_quits : (key : ℕ) (from : Machine) (d : Pool) (es es1 : EndList) (ps ps1 : Queues) (new : Core) → es1 ≡ slice_set es key None → ps1 ≡ slice_set ps key None → LetsGoFirst key (core_of_ends d es1) new
     → Steps (causes.Application key) from (machine_with d es ps) → Steps (causes.Application key) from (record { core = new; queues = ps1 })
 steps_quits key from d es es1 ps ps1 new quit gone l s =
     let left : Pool = (turn d (pool.Leaves key l.0 l.1)).pool in
@@ -115,7 +115,7 @@ steps_quits key from d es es1 ps ps1 new quit gone l s =
     (ap (change_end key lets_go) quit ∙ gone_stays es key lets_go) gone one)
 
 -- so many bytes wait for one no more
-pub steps_writes : (key count : ℕ) (h : Machine) (d1 : Pool) (es1 : Ends) (ps1 : Queues) → d1 ≡ h.core.pool → es1 ≡ h.core.ends → ps1 ≡ change key (without_first count) h.queues
+pub steps_writes : (key count : ℕ) (h : Machine) (d1 : Pool) (es1 : EndList) (ps1 : Queues) → d1 ≡ h.core.pool → es1 ≡ h.core.ends → ps1 ≡ change key (without_first count) h.queues
     → Steps causes.Neither h (machine_with d1 es1 ps1)
 steps_writes key count h d1 es1 ps1 same ends sent =
     steps_same causes.Neither h h.core.pool d1 h.core.ends es1 (change key (without_first count) h.queues) ps1 same ends sent

@@ -6,7 +6,7 @@ use Rattle.tds_client.specs.declared.message.MessageKind.{MessageKind}
 use Rattle.tds_client.specs.Session.{ClientSession}
 use Rattle.tds_client.specs.Streams.{opened}
 use Rattle.tds_service.specs.declared.service.Service as services
-use Rattle.tds_service.specs.Table.{Opens, client_of}
+use Rattle.tds_service.specs.Table.{BeginsMessage, client_of}
 use Rattle.tds_relay.specs.declared.application.Application.{Application}
 use Rattle.tds_relay.specs.declared.application.Asking.{Asking}
 use Rattle.tds_relay.specs.declared.application.Asking.TheVariants as asking
@@ -63,7 +63,7 @@ some_of None is = absurd (let u : ⊥ = cc in u)
 some_of (Some waits) is = (waits, refl)
 
 pub put_there : (whole : Bool) (held : List ℕ) (kind : MessageKind) (key : ℕ) (old new : pools.Pool) (ls : List Link) (hold its : Hold) (b : BodyAndWaits) → find_key key old.holds.items ≡ Some hold → find_key key old.holds.items ≡ Some its
-    → new.holds.items ≡ old.holds.items → Opens kind hold.lease old.service new.service → IsSome (waits_on its.number ls)
+    → new.holds.items ≡ old.holds.items → BeginsMessage kind hold.lease old.service new.service → IsSome (waits_on its.number ls)
     → Grows whole held (going new.service ls (find_key key new.holds.items)) b.0 → PutsFrom (λ (number : ℕ). waits_on number ls) (Kept kind held whole) b
 put_there whole held kind key old new ls hold its b one two same o there g =
     let alike : its ≡ hold = (let u : Some its ≡ Some hold = sym two ∙ one in cc) in

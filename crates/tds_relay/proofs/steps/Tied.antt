@@ -13,8 +13,8 @@ use Rattle.tds_relay.specs.declared.link.Link.{Link}
 use Rattle.tds_relay.specs.declared.relay.Relay as code
 use Rattle.tds_relay.specs.Bodies.{AskOn, Astray, Body, Closed, Going, IsClosedAsEnd, Kept, Nowhere, Spared, body_by, body_in, body_of, going, going_by, going_of}
 use Rattle.tds_relay.specs.Pool.{find_key}
-use Rattle.tds_relay.specs.Fronts.{end_of, ends_in}
-use Rattle.tds_relay.specs.Core.{End, Ends, Open, Over, end_at}
+use Rattle.tds_relay.specs.Fronts.{own_end, ends_in}
+use Rattle.tds_relay.specs.Core.{End, EndList, Open, Over, end_at}
 use Rattle.tds_relay.specs.Reads.{waits_on}
 use Rattle.tds_relay.specs.Taking.{IsDeaf}
 use Rattle.tds_relay.proofs.steps.Bodied.{shut}
@@ -49,7 +49,7 @@ over_tied : (why : Option FrontFault) (over : Bool) (end : End) (x : Body) → I
 over_tied why true end x t = tt
 over_tied why false end x t = t
 
-in_tied : (o : Option Application) (goes : Body) → ((end : Option End) → IsClosedAsEnd end goes) → IsClosedAsEnd (option_map end_of o) (body_in o goes)
+in_tied : (o : Option Application) (goes : Body) → ((end : Option End) → IsClosedAsEnd end goes) → IsClosedAsEnd (option_map own_end o) (body_in o goes)
 in_tied None goes t = tt
 in_tied (Some a) goes t =
     let end : End = Open a.front a.is_withdrawn a.reset in
@@ -72,7 +72,7 @@ spared_closed a b (inr shut) e = shut
 
 -- where its end is as it was, wherever it goes,
 pub closed_asks : (key : ℕ) (old mid : code.Relay) → ends_in mid.applications ≡ ends_in old.applications → body_of key old ≡ Closed → (goes : Body) → body_in (get mid.applications key) goes ≡ Closed
-closed_asks key old mid ends e goes = shut mid.applications key goes (subst (λ (es : Ends). IsDeaf (end_at es key)) (sym ends) (deaf_of key old e))
+closed_asks key old mid ends e goes = shut mid.applications key goes (subst (λ (es : EndList). IsDeaf (end_at es key)) (sym ends) (deaf_of key old e))
 
 -- and then all ask on
 pub stays_closed : (key : ℕ) (old mid new : code.Relay) → ends_in mid.applications ≡ ends_in old.applications → AskOn mid.applications new.applications → body_of key old ≡ Closed → body_of key new ≡ Closed

@@ -14,11 +14,11 @@ use Rattle.tds_relay.specs.declared.pool.coming.What.{What}
 use Rattle.tds_relay.specs.declared.pool.coming.What.TheVariants as whats
 use Rattle.tds_relay.specs.Fronts.{ClosesInstead, FedOn, IsFed, LetsGoFirst, Moved, MovedOn, TakesBetween, given_by, core_of_ends, machine_with, told_by}
 use Rattle.tds_relay.specs.Core as core
-use Rattle.tds_relay.specs.Core.{End, Ends, Feeds, Core, IsQuiet, Move, Moves, Open, Over, change_end, closes, closes_for, end_at, ends_behind, goes_on, hands_on, holder, lets_go, moved, moved_all, sent_by, takes_back, told}
+use Rattle.tds_relay.specs.Core.{End, EndList, Feeds, Core, IsQuiet, Move, Moves, Open, Over, change_end, closes, closes_for, end_at, ends_behind, end_goes_on, hands_on, holder, lets_go, moved, moved_all, sent_by, takes_back, end_told}
 use Rattle.tds_relay.specs.Machine.{Machine, Step, Admits, CausesStep, Hands, Makes, MayAll, Removes, Steps, Takes, Writes, after, after_all, owed, put_some}
 use Rattle.tds_relay.specs.Queues.{Queues, change}
 use Rattle.tds_relay.specs.Promises.{Each}
-use Rattle.tds_relay.specs.Taking.{AreTaken, IsDeaf, Tells, left_by}
+use Rattle.tds_relay.specs.Taking.{AreTaken, IsDeaf, Tells, bytes_left_by}
 use Rattle.tds_relay.specs.Ties.{Application, Cause}
 use Rattle.tds_relay.proofs.steps.Fed.{fed_is, left_fed, waits_fed}
 use Rattle.tds_relay.proofs.steps.Fronts.{each_both, moves_closes, no_moves}
@@ -29,7 +29,7 @@ use Rattle.tds_relay.proofs.steps.Stepping.{after_both, after_makes, caused_make
 
 pub taken_both : (key : ℕ) (h : Machine) (xs ys : List Step) (a b c : List ℕ) → AreTaken key h xs a b → AreTaken key (after_all h xs) ys b c → AreTaken key h (xs ++ ys) a c
 taken_both key h [] ys a b c t u = subst (λ (bytes : List ℕ). AreTaken key h ys bytes c) (sym t) u
-taken_both key h (Takes other more ∷ xs) ys a b c t u = (t.0, t.1, taken_both key (after h (Takes other more)) xs ys (left_by a (end_at h.core.ends key)) b c t.2 u)
+taken_both key h (Takes other more ∷ xs) ys a b c t u = (t.0, t.1, taken_both key (after h (Takes other more)) xs ys (bytes_left_by a (end_at h.core.ends key)) b c t.2 u)
 taken_both key h (Makes move ∷ xs) ys a b c t u = taken_both key (after h (Makes move)) xs ys a b c t u
 taken_both key h (Hands number header content part way manner ∷ xs) ys a b c t u = taken_both key (after h (Hands number header content part way manner)) xs ys a b c t u
 taken_both key h (Writes other count ∷ xs) ys a b c t u = taken_both key (after h (Writes other count)) xs ys a b c t u
@@ -52,18 +52,18 @@ deaf_if true by (Some (Open front w asks)) over d = absurd d
 deaf_if true by (Some (Over why)) over d = subst (λ (e : End). IsDeaf (Some e)) (sym (over why)) tt
 deaf_if false by o over d = d
 
-deaf_changed : (es : Ends) (k key : ℕ) (by : End → End) → IsFirm by → IsDeaf (end_at es key) → IsDeaf (end_at (change_end k by es) key)
+deaf_changed : (es : EndList) (k key : ℕ) (by : End → End) → IsFirm by → IsDeaf (end_at es key) → IsDeaf (end_at (change_end k by es) key)
 deaf_changed es k key by over d = subst IsDeaf (sym (changed_at End es k key by)) (deaf_if (k == key) by (end_at es key) over d)
 
-deaf_whose : (es : Ends) (who : Option ℕ) (key : ℕ) (by : End → End) → IsFirm by → IsDeaf (end_at es key) → IsDeaf (end_at (core.change_whose who by es) key)
+deaf_whose : (es : EndList) (who : Option ℕ) (key : ℕ) (by : End → End) → IsFirm by → IsDeaf (end_at es key) → IsDeaf (end_at (core.change_whose who by es) key)
 deaf_whose es None key by over d = d
 deaf_whose es (Some k) key by over d = deaf_changed es k key by over d
 
-over_goes : (packets : List Packet) → IsFirm (goes_on packets)
+over_goes : (packets : List Packet) → IsFirm (end_goes_on packets)
 over_goes [] why = refl
 over_goes (packet ∷ packets) why = refl
 
-over_told : (what : What) → IsFirm (told what)
+over_told : (what : What) → IsFirm (end_told what)
 over_told whats.Goes why = refl
 over_told whats.Finished why = refl
 over_told whats.Acknowledged why = refl
@@ -71,7 +71,7 @@ over_told whats.Closed why = refl
 
 deaf_moved : (key : ℕ) (h : Core) (move : Move) → IsQuiet move → IsDeaf (end_at h.ends key) → IsDeaf (end_at (ends_behind h move) key)
 deaf_moved key h (core.Does event) quiet d = d
-deaf_moved key h (core.Sends k action) quiet d = deaf_changed h.ends k key (goes_on (sent_by h.pool (pool.Does k action))) (over_goes (sent_by h.pool (pool.Does k action))) d
+deaf_moved key h (core.Sends k action) quiet d = deaf_changed h.ends k key (end_goes_on (sent_by h.pool (pool.Does k action))) (over_goes (sent_by h.pool (pool.Does k action))) d
 deaf_moved key h (core.LetsGo k parks gives way) quiet d = deaf_changed h.ends k key lets_go (λ why. refl) d
 deaf_moved key h (core.Loses number) quiet d = deaf_whose h.ends (holder h.pool number) key closes (λ why. refl) d
 deaf_moved key h (core.Replaces number) quiet d = deaf_whose h.ends (holder h.pool number) key lets_go (λ why. refl) d
@@ -99,12 +99,12 @@ deaf_led_on (Ok x) by key old new m d = deaf_led by key old new m d
 deaf_led_on (Err e) by key old new m d = tt
 
 -- what is heard is told to it
-pub deaf_told : (heard : Option Heard) (key : ℕ) (es : Ends) → IsDeaf (end_at es key) → IsDeaf (end_at (told_by heard es) key)
+pub deaf_told : (heard : Option Heard) (key : ℕ) (es : EndList) → IsDeaf (end_at es key) → IsDeaf (end_at (told_by heard es) key)
 deaf_told None key es d = d
-deaf_told (Some heard) key es d = deaf_whose es heard.key key (told heard.what) (over_told heard.what) d
+deaf_told (Some heard) key es d = deaf_whose es heard.key key (end_told heard.what) (over_told heard.what) d
 
 -- where it lets its connection go first
-pub lets_go_deaf : (key : ℕ) (d : Pool) (es : Ends) (new : Core) → IsDeaf (end_at es key) → LetsGoFirst key (core_of_ends d es) new → IsDeaf (end_at new.ends key)
+pub lets_go_deaf : (key : ℕ) (d : Pool) (es : EndList) (new : Core) → IsDeaf (end_at es key) → LetsGoFirst key (core_of_ends d es) new → IsDeaf (end_at new.ends key)
 lets_go_deaf key d es new deaf l =
     let mid : Core = moved (core_of_ends d es) (core.LetsGo key false l.0 l.1) in
     deaf_behind key mid new (l.2 (Application key) mid (no_moves (Application key) mid)) (deaf_changed es key key lets_go (λ why. refl) deaf)
@@ -115,14 +115,14 @@ closed_deaf why true (Some (Open front w asks)) e = tt
 closed_deaf why true (Some (Over was)) e = tt
 closed_deaf why false o e = absurd (let u : ⊥ = cc in u)
 
-pub deaf_for : (why : Option FrontFault) (key : ℕ) (es : Ends) → IsDeaf (end_at (change_end key (closes_for why) es) key)
+pub deaf_for : (why : Option FrontFault) (key : ℕ) (es : EndList) → IsDeaf (end_at (change_end key (closes_for why) es) key)
 deaf_for why key es = subst IsDeaf (sym (changed_at End es key key (closes_for why))) (closed_deaf why (key == key) (end_at es key) (eq-eqb key key refl))
 
-pub deaf_closed : (key : ℕ) (es : Ends) → IsDeaf (end_at (change_end key closes es) key)
+pub deaf_closed : (key : ℕ) (es : EndList) → IsDeaf (end_at (change_end key closes es) key)
 deaf_closed key es = deaf_for None key es
 
 -- bytes were taken, and then it goes on
-pub fed_then : (key : ℕ) (d : Pool) (before now : Ends) (bytes : List ℕ) (answer : Said) (new : Core) → takes_back answer ≡ false → hands_on answer ≡ false → IsFed key before now bytes answer
+pub fed_then : (key : ℕ) (d : Pool) (before now : EndList) (bytes : List ℕ) (answer : Said) (new : Core) → takes_back answer ≡ false → hands_on answer ≡ false → IsFed key before now bytes answer
     → Moved (Application key) (core_of_ends d now) new → TakesBetween key (core_of_ends d before) bytes new ⊎ ClosesInstead key answer (core_of_ends d before) new
 fed_then key d before now bytes answer new keeps here f m = inl (record {
   mid = core_of_ends d before;
@@ -180,7 +180,7 @@ tells_ok (Err e) key old bytes left h h1 ps ps1 t m kept = tt
 
 -- bytes are taken where its end is open
 abbrev pub tells_takes : (key : ℕ) (old : Machine) (bytes left rest : List ℕ) (h : Machine) (queues1 : Queues) (front : Front) (withdrawn : Bool) (asks : Option Reset) → end_at h.core.ends key ≡ Some (Open front withdrawn asks)
-    → left_by left (end_at h.core.ends key) ≡ rest → change key (put_some (owed left (end_at h.core.ends key))) h.queues ≡ queues1 → Tells key old bytes left h
+    → bytes_left_by left (end_at h.core.ends key) ≡ rest → change key (put_some (owed left (end_at h.core.ends key))) h.queues ≡ queues1 → Tells key old bytes left h
     → Tells key old bytes rest (record { core = moved h.core (Feeds key left); queues = queues1 })
 tells_takes key old bytes left rest h queues1 front withdrawn asks open_at left_is waits t =
     let step : Step = Takes key left in
@@ -195,7 +195,7 @@ tells_takes key old bytes left rest h queues1 front withdrawn asks open_at left_
       caused = each_both (CausesStep (Application key)) t.steps (step ∷ []) t.caused ((refl, tt), tt);
       rest = rest;
       takes = taken_both key old t.steps (step ∷ []) bytes t.rest rest t.takes
-          (refl, sym is, ap (λ (xs : List ℕ). left_by xs (end_at (after_all old t.steps).core.ends key)) is ∙ ap (λ (x : Machine). left_by left (end_at x.core.ends key)) t.are ∙ left_is);
+          (refl, sym is, ap (λ (xs : List ℕ). bytes_left_by xs (end_at (after_all old t.steps).core.ends key)) is ∙ ap (λ (x : Machine). bytes_left_by left (end_at x.core.ends key)) t.are ∙ left_is);
       all = inl refl;
     }
 
@@ -208,11 +208,11 @@ tells_refused key old bytes left rest h h1 ps1 front withdrawn asks fault open_a
     let closed : Core = core_of_ends h.core.pool (change_end key (closes_for (Some fault)) h.core.ends) in
     let deaf : IsDeaf (end_at closed.ends key) = deaf_for (Some fault) key h.core.ends in
     tells_moved key old bytes rest closed h1 h.queues ps1 m kept
-    (tells_deaf key old (record { core = closed; queues = h.queues }) bytes (left_by left (end_at h.core.ends key)) rest deaf
-    (subst (λ (x : Core). Tells key old bytes (left_by left (end_at h.core.ends key)) (record { core = x; queues = h.queues })) is (tells_takes key old bytes left (left_by left (end_at h.core.ends key)) h h.queues front withdrawn asks open_at refl waits t)))
+    (tells_deaf key old (record { core = closed; queues = h.queues }) bytes (bytes_left_by left (end_at h.core.ends key)) rest deaf
+    (subst (λ (x : Core). Tells key old bytes (bytes_left_by left (end_at h.core.ends key)) (record { core = x; queues = h.queues })) is (tells_takes key old bytes left (bytes_left_by left (end_at h.core.ends key)) h h.queues front withdrawn asks open_at refl waits t)))
 
 -- it is to be closed, whatever it was at
-pub tells_expelled : {A E : Type 0} (r : Result A E) (key : ℕ) (old : Machine) (bytes left rest : List ℕ) (d : Pool) (es : Ends) (ps ps1 : Queues) (h1 : Core) → Tells key old bytes left (machine_with d es ps)
+pub tells_expelled : {A E : Type 0} (r : Result A E) (key : ℕ) (old : Machine) (bytes left rest : List ℕ) (d : Pool) (es : EndList) (ps ps1 : Queues) (h1 : Core) → Tells key old bytes left (machine_with d es ps)
     → OnOk r (Moved (Application key) (core_of_ends d (change_end key closes es)) h1) → OnOk r (ps1 ≡ ps) → OnOk r (Tells key old bytes rest (record { core = h1; queues = ps1 }))
 tells_expelled (Ok x) key old bytes left rest d es ps ps1 h1 t m kept =
     tells_moved key old bytes rest (core_of_ends d (change_end key closes es)) h1 ps ps1 m kept
@@ -220,21 +220,21 @@ tells_expelled (Ok x) key old bytes left rest d es ps ps1 h1 t m kept =
     (tells_moved key old bytes left (core_of_ends d es) (core_of_ends d (change_end key closes es)) ps ps (λ from h. moves_closes (Application key) from d d es (change_end key closes es) key refl refl h) refl t))
 tells_expelled (Err e) key old bytes left rest d es ps ps1 h1 t m kept = tt
 
-tells_between : (key : ℕ) (old : Machine) (bytes left rest : List ℕ) (d : Pool) (before now : Ends) (ps ps1 : Queues) (h1 : Core) (answer : Said) → (f : IsFed key before now left answer)
+tells_between : (key : ℕ) (old : Machine) (bytes left rest : List ℕ) (d : Pool) (before now : EndList) (ps ps1 : Queues) (h1 : Core) (answer : Said) → (f : IsFed key before now left answer)
     → TakesBetween key (core_of_ends d before) left h1 ⊎ ClosesInstead key answer (core_of_ends d before) h1 → rest ≡ drop f.count left → ps1 ≡ given_by key answer ps
     → Tells key old bytes left (machine_with d before ps) → Tells key old bytes rest (record { core = h1; queues = ps1 })
 tells_between key old bytes left rest d before now ps ps1 h1 answer f (inl b) is given t =
-    let same : end_at b.mid.ends key ≡ end_at before key = ap (λ (es : Ends). end_at es key) b.same in
+    let same : end_at b.mid.ends key ≡ end_at before key = ap (λ (es : EndList). end_at es key) b.same in
     tells_moves key old bytes rest (moved b.mid (Feeds key left)) h1 ps1 ps1 b.next refl
     (tells_takes key old bytes left rest (record { core = b.mid; queues = ps }) ps1 f.front f.withdrawn f.asks (same ∙ f.was)
-    (ap (left_by left) same ∙ left_fed key before now left answer f ∙ sym is)
+    (ap (bytes_left_by left) same ∙ left_fed key before now left answer f ∙ sym is)
     (ap (λ (o : Option End). change key (put_some (owed left o)) ps) same ∙ waits_fed key before now left answer ps f ∙ sym given)
     (tells_moves key old bytes left (core_of_ends d before) b.mid ps ps b.first refl t))
 tells_between key old bytes left rest d before now ps ps1 h1 answer f (inr k) is given t =
     tells_deaf key old (record { core = h1; queues = ps1 }) bytes left rest k.deaf
     (tells_moves key old bytes left (core_of_ends d before) h1 ps ps1 k.moves (given ∙ k.nothing ps) t)
 
-pub tells_fed : (key : ℕ) (old : Machine) (bytes left rest : List ℕ) (d : Pool) (before now : Ends) (ps ps1 : Queues) (h1 : Core) (answer : Said) → FedOn key answer d now h1 → (f : IsFed key before now left answer)
+pub tells_fed : (key : ℕ) (old : Machine) (bytes left rest : List ℕ) (d : Pool) (before now : EndList) (ps ps1 : Queues) (h1 : Core) (answer : Said) → FedOn key answer d now h1 → (f : IsFed key before now left answer)
     → rest ≡ drop f.count left → ps1 ≡ given_by key answer ps → Tells key old bytes left (machine_with d before ps) → Tells key old bytes rest (record { core = h1; queues = ps1 })
 tells_fed key old bytes left rest d before now ps ps1 h1 answer on f is given t =
     tells_between key old bytes left rest d before now ps ps1 h1 answer f (on before left f) is given t

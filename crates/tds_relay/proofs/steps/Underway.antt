@@ -12,8 +12,8 @@ use Rattle.tds_relay.specs.declared.link.Link.{Link}
 use Rattle.tds_relay.specs.Asking.{Closes, Drains, IsTakenBack, IsUnderway, Waits, waits_in, waits_of}
 use Rattle.tds_relay.specs.Pool as pool
 use Rattle.tds_relay.specs.Pool.{Pool, find_key, turn}
-use Rattle.tds_relay.specs.Fronts.{end_of, ends_in, core_of_ends}
-use Rattle.tds_relay.specs.Core.{End, Ends, Open, Over, change_end, closes, end_at, is_in}
+use Rattle.tds_relay.specs.Fronts.{own_end, ends_in, core_of_ends}
+use Rattle.tds_relay.specs.Core.{End, EndList, Open, Over, change_end, closes, end_at, is_in}
 use Rattle.tds_relay.specs.Taking.{IsDeaf}
 use Rattle.tds_relay.proofs.steps.Fed.{end_open, end_there}
 use Rattle.tds_relay.proofs.steps.Fronts.{end_is}
@@ -33,13 +33,13 @@ added_in : (key : ℕ) (line : List ℕ) → is_in key (line ++ key ∷ []) ≡ 
 added_in key [] = ap (λ (b : Bool). b || false) (eq-eqb key key refl)
 added_in key (k ∷ line) = ap (λ (b : Bool). (k == key) || b) (added_in key line) ∙ or_true (k == key)
 
-pub in_line : (whole : Bool) (links : List Link) (key : ℕ) (d d1 : Pool) (es : Ends) → d1 ≡ (turn d (pool.Waits key)).pool → IsUnderway whole links key (core_of_ends d1 es)
+pub in_line : (whole : Bool) (links : List Link) (key : ℕ) (d d1 : Pool) (es : EndList) → d1 ≡ (turn d (pool.Waits key)).pool → IsUnderway whole links key (core_of_ends d1 es)
 in_line whole links key d d1 es e = Waits (subst (λ (x : Pool). is_in key x.line ≡ true) (sym e) (added_in key d.line))
 
 -- ---- Its end
 
 pub none_deaf : (key : ℕ) (s : Slab Application) → get s key ≡ None → IsDeaf (end_at (ends_in s) key)
-none_deaf key s none = subst IsDeaf (sym (end_is s key ∙ ap (option_map end_of) none)) tt
+none_deaf key s none = subst IsDeaf (sym (end_is s key ∙ ap (option_map own_end) none)) tt
 
 pub over_deaf : (key : ℕ) (s : Slab Application) (a : Application) → Some a ≡ get s key → a.is_over ≡ true → IsDeaf (end_at (ends_in s) key)
 over_deaf key s a is over = subst IsDeaf (sym (end_there s key a is ∙ ap (λ (b : Bool). let o : Option End = Some (if b then Over a.fault else Open a.front a.is_withdrawn a.reset) in o) over)) tt
@@ -59,8 +59,8 @@ pub drains : (whole : Bool) (links : List Link) (key : ℕ) (d : Pool) (s : Slab
     → IsUnderway whole links key (core_of_ends d (ends_in s))
 drains whole links key d s a h is back its = drains_by whole links key d s a h a.is_over refl is back its
 
-pub of_closed : (whole : Bool) (links : List Link) (key : ℕ) (d : Pool) (es es1 : Ends) → es1 ≡ change_end key closes es → IsUnderway whole links key (core_of_ends d es1)
-of_closed whole links key d es es1 e = Closes (subst (λ (x : Ends). IsDeaf (end_at x key)) (sym e) (deaf_closed key es))
+pub of_closed : (whole : Bool) (links : List Link) (key : ℕ) (d : Pool) (es es1 : EndList) → es1 ≡ change_end key closes es → IsUnderway whole links key (core_of_ends d es1)
+of_closed whole links key d es es1 e = Closes (subst (λ (x : EndList). IsDeaf (end_at x key)) (sym e) (deaf_closed key es))
 
 -- ---- What it asks
 

@@ -5,7 +5,7 @@ use Rattle.tds_relay.specs.Away.{IsAway, WaitsAway, done_before, done_since}
 use Rattle.tds_relay.specs.Behind.{events_along}
 use Rattle.tds_relay.specs.Pool as pool
 use Rattle.tds_relay.specs.Pool.{Pool, Event, Sharing, pool_after, new_pool, turn}
-use Rattle.tds_relay.specs.Giving.{Visit, machine_in, moves_in}
+use Rattle.tds_relay.specs.Giving.{Visit, machine_at_visit, moves_in}
 use Rattle.tds_relay.specs.Core as core
 use Rattle.tds_relay.specs.Core.{Core, MayDoAlone, MayMove, MayMoveAll, Move, end_at, event_if, events_of, moved, moved_all, new_core, stops_of}
 use Rattle.tds_relay.specs.Machine.{Machine, after_all, new_machine}
@@ -22,7 +22,7 @@ waits_both : (key : ℕ) (d : Pool) (xs ys : List Event) → WaitsAway key d xs 
 waits_both key d [] ys w more = more
 waits_both key d (x ∷ xs) ys w more = (w.0, waits_both key (turn d x).pool xs ys w.1 more)
 
-away_at : (key k : ℕ) (h : Core) → core.IsAway h k → k ∷ [] ≡ key ∷ [] → IsAway key h.pool
+away_at : (key k : ℕ) (h : Core) → core.IsThereAndAway h k → k ∷ [] ≡ key ∷ [] → IsAway key h.pool
 away_at key k h away is =
     let same : k ≡ key = cc in
     let there : IsAway k h.pool = record { holds = away.holds; waits = no_place k h.pool.line away.waits } in
@@ -82,10 +82,10 @@ away_where_it_enters sharing key alone by judges v =
     subst (IsAway key) at.is away
 
 -- its coming does nothing at the pool
-pub pool_is : (sharing : Sharing) (key : ℕ) (v : Visit sharing key) → (machine_in v).core.pool ≡ pool_after (new_pool sharing) (done_before v)
+pub pool_is : (sharing : Sharing) (key : ℕ) (v : Visit sharing key) → (machine_at_visit v).core.pool ≡ pool_after (new_pool sharing) (done_before v)
 pool_is sharing key v =
     ap (λ (h : Machine). h.core.pool) (came sharing key v).machine_is ∙ ap (λ (h : Core). h.pool) (core_after (new_machine sharing) v.before) ∙ pool_along (new_core sharing) (moves_in v.before)
 
 pub away_since : (sharing : Sharing) (key : ℕ) (v : Visit sharing key) → WaitsAway key (pool_after (new_pool sharing) (done_before v)) (done_since v)
 away_since sharing key v =
-    subst (λ (d : Pool). WaitsAway key d (done_since v)) (pool_is sharing key v) (moves_away key (machine_in v).core (moves_in v.since) (may_moves (machine_in v) v.since (came sharing key v).may_since))
+    subst (λ (d : Pool). WaitsAway key d (done_since v)) (pool_is sharing key v) (moves_away key (machine_at_visit v).core (moves_in v.since) (may_moves (machine_at_visit v) v.since (came sharing key v).may_since))

@@ -3,16 +3,16 @@ use Rattle.std.proofs.Common.{◌≡◌, ℕ, Bool, true, false, List, refl, sym
 use Rattle.std.specs.Prelude.{Option, Some, None, IsSome, Result, Ok, Err, if◌then◌else◌}
 use Rattle.tds_wire.specs.declared.fault.Refusal.{Refusal}
 use Rattle.tds_wire.specs.declared.told.Token.{Token}
-use Rattle.tds_wire.specs.Reading.{Reading, is_between}
+use Rattle.tds_wire.specs.Reading.{Parser, is_between}
 use Rattle.tds_client.specs.declared.fault.ClientFault.{ClientFault}
 use Rattle.tds_client.specs.declared.heard.FinalDone.{FinalDone}
 use Rattle.tds_client.specs.declared.heard.FinalDone.TheVariants.{Awaited, Answered, Acknowledged}
 use Rattle.tds_client.specs.declared.heard.Heard.{Heard}
 use Rattle.tds_listen.specs.declared.fault.ListenFault.{ListenFault}
 use Rattle.tds_listen.specs.declared.fault.ListenFault.TheVariants as faults
-use Rattle.tds_listen.specs.Hearing.{Fails, Stands, Stop, Tokens, heard_by, tokens_in}
+use Rattle.tds_listen.specs.Hearing.{Fails, Stands, Stop, TokensHeard, heard_by, tokens_in}
 use Rattle.tds_service.specs.Line as line
-use Rattle.tds_service.specs.Line.{Answer, Line, reads, skips, skips_to_end, turn}
+use Rattle.tds_service.specs.Line.{Answer, Line, reads, skips, skips_to_end, line_turn}
 use Rattle.tds_service.specs.Packets.{close_from, items_from}
 use Rattle.tds_service.specs.Parts as parts
 use Rattle.tds_service.specs.Parts.{Item, Part, hear_items, hear_part, heard_until, is_end}
@@ -71,7 +71,7 @@ abbrev part_of : List (Item Token) → Bool → Stop → Part Token
 part_of items ends stop = record { items = items; close = close_from ends stop }
 
 abbrev EndsBy : Line → List (Item Token) → Bool → Stop → Type 0
-EndsBy l items ends stop = EndsAs ends (is_end (close_from ends stop)) (turn l (line.Come (part_of items ends stop))).answer
+EndsBy l items ends stop = EndsAs ends (is_end (close_from ends stop)) (line_turn l (line.Come (part_of items ends stop))).answer
 
 read_ends : (n : ℕ) (h : Heard) (items : List (Item Token)) (ends : Bool) (stop : Stop) → EndsBy (line_at n line.Reading h) items ends stop
 read_ends n h items false (Stands r) =
@@ -93,7 +93,7 @@ skip_ends n h items true (Stands r) =
     subst (λ (b : Bool). EndsAs true b (skips {T = Token} l b u (hear_part true h part)).answer) (sym (ends_if (is_between r))) (acked_ends l u (hear_part true h part))
 skip_ends n h items ends (Fails refusal) = skip_fails (line_at n line.Cancelling h) (heard_until true h items) refusal (hear_items true h items) ends
 
-ends_at : (n : ℕ) (s : line.Stage) (h : Heard) (items : List (Item Token)) (ends : Bool) (stop : Stop) → EndsBy (line_at n s h) items ends stop
+ends_at : (n : ℕ) (s : line.LineStage) (h : Heard) (items : List (Item Token)) (ends : Bool) (stop : Stop) → EndsBy (line_at n s h) items ends stop
 ends_at n line.Idle h items ends stop = tt
 ends_at n (line.Sending begun) h items ends stop = tt
 ends_at n line.Reading h items ends stop = read_ends n h items ends stop
@@ -103,13 +103,13 @@ ends_at n (line.Broken fault) h items ends stop = tt
 -- ---- By the parser over the data
 
 abbrev Answers : Line → Bool → Part Token → Type 0
-Answers l ends part = EndsAs ends (is_end part.close) (turn l (line.Come part)).answer
+Answers l ends part = EndsAs ends (is_end part.close) (line_turn l (line.Come part)).answer
 
-walked_ends : (l : Line) (parser : Option Reading) (content : List ℕ) (ends : Bool) → IsSome parser → Answers l ends (part_on parser content ends)
+walked_ends : (l : Line) (parser : Option Parser) (content : List ℕ) (ends : Bool) → IsSome parser → Answers l ends (part_on parser content ends)
 walked_ends l None content ends some = absurd (let u : ⊥ = cc in u)
 walked_ends l (Some r) content ends some =
-    let all : Tokens = tokens_in r content in
+    let all : TokensHeard = tokens_in r content in
     ends_at l.asked l.stage l.heard (items_from all.tokens) ends all.stop
 
-pub ends_heard : (l : Line) (parser : Option Reading) (content : List ℕ) (ends : Bool) (part : Part Token) → part ≡ part_on parser content ends → IsSome parser → Answers l ends part
+pub ends_heard : (l : Line) (parser : Option Parser) (content : List ℕ) (ends : Bool) (part : Part Token) → part ≡ part_on parser content ends → IsSome parser → Answers l ends part
 ends_heard l parser content ends part is some = subst (Answers l ends) (sym is) (walked_ends l parser content ends some)

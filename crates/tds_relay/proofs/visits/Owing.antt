@@ -19,15 +19,15 @@ use Rattle.tds_front.specs.declared.stage.Action.TheVariants as actions
 use Rattle.tds_front.specs.declared.stage.Head.{Head}
 use Rattle.tds_front.specs.declared.stage.Stage.{Stage}
 use Rattle.tds_front.specs.declared.stage.Stage.TheVariants as stages
-use Rattle.tds_front.specs.Bytes.{action_done, fed, says, with_due}
-use Rattle.tds_front.specs.Passing.{Event as Passed, Refuses, IsData, IsSaid, SaysOf, judged, towards, with_own}
+use Rattle.tds_front.specs.Bytes.{action_done, fed, says, front_with_due}
+use Rattle.tds_front.specs.Passing.{FrontEvent, Refuses, IsData, IsSaid, SaysOf, judged, towards, with_own}
 use Rattle.tds_front.specs.Rules as rules
 use Rattle.tds_front.specs.Rules.{taken}
 use Rattle.tds_front.specs.Serving.{Happening, begun_behind}
-use Rattle.tds_relay.specs.Behind.{brought, brought_by, if_open, passes, refused_by}
+use Rattle.tds_relay.specs.Behind.{brought, brought_by, if_end_open, passes, refused_by}
 use Rattle.tds_relay.specs.Giving.{AreSaid, Given, if_its}
 use Rattle.tds_relay.specs.Core as core
-use Rattle.tds_relay.specs.Core.{End, Open, Ends, Core, end_at}
+use Rattle.tds_relay.specs.Core.{End, Open, EndList, Core, end_at}
 use Rattle.tds_relay.specs.Machine.{owed, owed_by}
 use Rattle.tds_relay.proofs.visits.Replies.{Said, gives, its, not_its}
 
@@ -101,7 +101,7 @@ brought_so stage (Some head) (Err fault) s never begun =
 
 -- ---- An attention that is acknowledged
 
-attended_not : (b : Bool) (first fault : FrontFault) → (if b then rules.breaks first else rules.breaks fault).does ≡ Ok actions.Acknowledge → ⊥
+attended_not : (b : Bool) (first fault : FrontFault) → (if b then rules.breaks_end first else rules.breaks_end fault).does ≡ Ok actions.Acknowledge → ⊥
 attended_not true first fault e = let u : ⊥ = cc in u
 attended_not false first fault e = let u : ⊥ = cc in u
 
@@ -120,7 +120,7 @@ done_not f stage count does fault fails is =
     u
 
 rest_not : (b : Bool) (f : Front) (first head : Head) (left : ℕ) (fault : FrontFault) → (if b then None else Some first) ≡ Some head
-    → (if b then says (with_due f (due.Rest first (left - 1))) 1 said.Nothing else action_done f (taken f.stage first).stage first.count (taken f.stage first).does).brings ≡ Err fault
+    → (if b then says (front_with_due f (due.Rest first (left - 1))) 1 said.Nothing else action_done f (taken f.stage first).stage first.count (taken f.stage first).does).brings ≡ Err fault
     → (taken f.stage head).does ≡ Ok actions.Acknowledge → ⊥
 rest_not true f first head left fault e fails is = let u : ⊥ = cc in u
 rest_not false f first head left fault e fails is =
@@ -155,15 +155,15 @@ brought_said front bytes s =
     brought_so front.stage (judged front.due bytes) (fed front bytes).brings s (never_refused front.most front.stage front.due front.part bytes)
 
 own_owes : (bytes : List ℕ) (front : Front) (w : Bool) (asks : Option Reset) (o : Option End) → o ≡ Some (Open front w asks) → SaysOf front.stage (judged front.due bytes) (fed front bytes).brings
-    → Said front.stage (if_open o (λ front withdrawn. brought front bytes)) (gives (owed bytes o))
+    → Said front.stage (if_end_open o (λ front withdrawn. brought front bytes)) (gives (owed bytes o))
 own_owes bytes front w asks o e s =
-    subst (λ (x : Option End). Said front.stage (if_open x (λ front withdrawn. brought front bytes)) (gives (owed bytes x))) (sym e) (brought_said front bytes s)
+    subst (λ (x : Option End). Said front.stage (if_end_open x (λ front withdrawn. brought front bytes)) (gives (owed bytes x))) (sym e) (brought_said front bytes s)
 
-owes_if : (key : ℕ) (ends : Ends) (other : ℕ) (bytes : List ℕ) (front : Front) (w : Bool) (asks : Option Reset) (b : Bool) → (other == key) ≡ b → end_at ends key ≡ Some (Open front w asks)
+owes_if : (key : ℕ) (ends : EndList) (other : ℕ) (bytes : List ℕ) (front : Front) (w : Bool) (asks : Option Reset) (b : Bool) → (other == key) ≡ b → end_at ends key ≡ Some (Open front w asks)
     → SaysOf front.stage (judged front.due bytes) (fed front bytes).brings
-    → Said front.stage (if b then if_open (end_at ends key) (λ front withdrawn. brought front bytes) else []) (if_its key (Some other) (owed bytes (end_at ends other)))
+    → Said front.stage (if b then if_end_open (end_at ends key) (λ front withdrawn. brought front bytes) else []) (if_its key (Some other) (owed bytes (end_at ends other)))
 owes_if key ends other bytes front w asks true e is s =
-    let es : List Passed = if_open (end_at ends key) (λ front withdrawn. brought front bytes) in
+    let es : List FrontEvent = if_end_open (end_at ends key) (λ front withdrawn. brought front bytes) in
     let same : if_its key (Some other) (owed bytes (end_at ends other)) ≡ gives (owed bytes (end_at ends key)) =
     its key other (owed bytes (end_at ends other)) e ∙ ap (λ (k : ℕ). gives (owed bytes (end_at ends k))) (eqb-true other key e) in
     subst (λ (all : List Given). Said front.stage es all) (sym same) (own_owes bytes front w asks (end_at ends key) is s)

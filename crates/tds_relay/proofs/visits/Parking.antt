@@ -3,11 +3,11 @@ use Rattle.std.proofs.Common.{◌≡◌, ◌∙◌, ◌||◌, ℕ, Bool, true, f
 use Rattle.tds_relay.specs.Apart.{UnlessServed}
 use Rattle.tds_relay.specs.Pool as pool
 use Rattle.tds_relay.specs.Pool.{Pool, Event, Sharing, pool_after, turn}
-use Rattle.tds_relay.specs.Core.{Core, IsAway, IsThere, change_end, is_in, lets_go, may_park, moved_all, new_core}
+use Rattle.tds_relay.specs.Core.{Core, IsThereAndAway, IsEndThere, change_end, is_in, lets_go, may_park, moved_all, new_core}
 use Rattle.tds_relay.specs.Giving.{moves_in}
 use Rattle.tds_relay.specs.Machine.{Machine, IsLedTo, new_machine}
 use Rattle.tds_relay.specs.Promises.{Each}
-use Rattle.tds_relay.specs.Ties.{Causes, GoesOn, Leaving, Neither, Reaches}
+use Rattle.tds_relay.specs.Ties.{Causes, LedOn, Leaving, Neither, Reaches}
 use Rattle.tds_relay.proofs.ends.Keeping.{pool_along}
 use Rattle.tds_relay.proofs.ends.Standing.{AtPool}
 use Rattle.tds_relay.proofs.ends.Stopping.{quits_gone}
@@ -36,7 +36,7 @@ gone_along : (key : ℕ) (d : Pool) (events : List Event) → Each (Causes Neith
 gone_along key d [] caused gone = gone
 gone_along key d (event ∷ events) caused gone = gone_along key (turn d event).pool events caused.1 (stays_gone d key gone event (no_wait key event caused.0))
 
-gone_on : (key : ℕ) (d e : Pool) → GoesOn d e → Gone key d → Gone key e
+gone_on : (key : ℕ) (d e : Pool) → LedOn d e → Gone key d → Gone key e
 gone_on key d e goes gone =
     let r : Reaches Neither d e = goes Neither d (record { events = []; are = refl; caused = tt }) in
     subst (Gone key) r.are (gone_along key d r.events r.caused gone)
@@ -55,13 +55,13 @@ at_machine sharing key h (steps, are, may) =
     subst (λ (x : Core). Sound x.pool × AtPool key x.pool) is (pool_along sharing key (moves_in steps) (may_moves (new_machine sharing) steps may))
 
 pub parked_away : (sharing : Sharing) (key : ℕ) (old : Machine) (mid new : Core) → IsLedTo sharing old → may_park old.core key ≡ true → mid.ends ≡ change_end key lets_go old.core.ends → Leaving key old.core.pool mid.pool
-    → GoesOn mid.pool new.pool → UnlessServed mid new → IsAway new key
+    → LedOn mid.pool new.pool → UnlessServed mid new → IsThereAndAway new key
 parked_away sharing key old mid new led parks is leaving goes served =
     let at = at_machine sharing key old led in
     let left : Gone key mid.pool = gone_on key (turn old.core.pool (pool.Leaves key leaving.0 leaving.1)).pool mid.pool leaving.2 (quits_gone old.core.pool key leaving.0 leaving.1 at.0 at.1) in
     let gone : Gone key new.pool = gone_on key mid.pool new.pool goes left in
     record {
-      there = subst IsThere (sym (served key (out_of key mid.pool.line left.waits) ∙ ends_stay old.core key mid.ends parks is key ∙ (rested old.core key parks).end)) tt;
+      there = subst IsEndThere (sym (served key (out_of key mid.pool.line left.waits) ∙ ends_stay old.core key mid.ends parks is key ∙ (rested old.core key parks).end)) tt;
       holds = theirs_none key new.pool.holds gone.holds;
       waits = out_of key new.pool.line gone.waits;
     }

@@ -7,13 +7,13 @@ use Rattle.tds_front.specs.declared.front.Front.{Front}
 use Rattle.tds_front.specs.declared.stage.Stage.{Stage}
 use Rattle.tds_front.specs.declared.stage.Stage.TheVariants as stages
 use Rattle.tds_front.specs.Bytes.{fed}
-use Rattle.tds_front.specs.Passing.{Event as Passed, SaysOf, judged, stage_fed}
-use Rattle.tds_front.specs.Serving.{Place, Ready}
+use Rattle.tds_front.specs.Passing.{FrontEvent, SaysOf, judged, stage_fed}
+use Rattle.tds_front.specs.Serving.{ServerIsAt, Ready}
 use Rattle.tds_front.specs.declared.fault.FrontFault.{FrontFault}
 use Rattle.tds_service.specs.Service.{Seat, seat_numbered}
 use Rattle.tds_relay.specs.Behind.{StaysIn, events_along, passes}
 use Rattle.tds_relay.specs.Pool.{Pool, Event, Sharing, new_pool}
-use Rattle.tds_relay.specs.Core.{End, Open, Over, Ends, Enters, Core, HasEntered, IsThere, MayMove, MayMoveAll, Move, end_at, events_of, moved, moved_all, new_core}
+use Rattle.tds_relay.specs.Core.{End, Open, Over, EndList, Enters, Core, HasEntered, IsEndThere, MayMove, MayMoveAll, Move, end_at, events_of, moved, moved_all, new_core}
 use Rattle.tds_relay.proofs.ends.Ending.{end_behind_is, passes_by}
 use Rattle.tds_relay.proofs.ends.Folding.{Alone, ByHistory, IsAt, append_more, known_at, leaves_at, next_at, outs_of, passes_is, sits_at, sound_at, stays_there, step_story}
 use Rattle.tds_relay.proofs.ends.Fronting.{out_of}
@@ -33,11 +33,11 @@ pub record Stands (sharing : Sharing) (key : ℕ) (events : List Event) (h : Cor
   pub is : IsAt sharing events h
   pub asks : Option Reset
   pub end_is : end_at h.ends key ≡ Some (Open front w asks)
-  pub place : Place
+  pub place : ServerIsAt
   pub standing : Standing (outs_of sharing events) h.pool key front.stage w place
 
 -- Behind what passed it is so again, where that leads, or over.
-pub data Then (sharing : Sharing) (key : ℕ) (events : List Event) (h : Core) (stage : Stage) (p : Place) (es : List Passed) : Type 0 where
+pub data Then (sharing : Sharing) (key : ℕ) (events : List Event) (h : Core) (stage : Stage) (p : ServerIsAt) (es : List FrontEvent) : Type 0 where
   Goes : (front : Front) (w : Bool) → (s : Stands sharing key events h front w) → Leads stage p es front.stage s.place → Then sharing key events h stage p es
   IsOver : (why : Option FrontFault) → end_at h.ends key ≡ Some (Over why) → Then sharing key events h stage p es
 
@@ -53,13 +53,13 @@ module _ (sharing : Sharing) (key : ℕ) (alone : Alone) (by : ByHistory) (judge
   pub known_of : (events : List Event) (h : Core) → IsAt sharing events h → (n : ℕ) (c : Seat) → seat_numbered n h.pool.service.seats ≡ Some c → out_of c.line.stage (outs_of sharing events n) ≡ outs_of sharing events n
   known_of events h is n c there = known_at alone by sharing events n c (ap (λ (d : Pool). seat_numbered n d.service.seats) (sym is) ∙ there)
 
-  abbrev Tale : List Event → Core → Place → Type 0
+  abbrev Tale : List Event → Core → ServerIsAt → Type 0
   Tale events h p = StoryOf (outs_of sharing events) h.pool key p (end_at h.ends key)
 
-  abbrev Steps : List Event → Core → Move → Place → Option End → Option End → Type 0
+  abbrev Steps : List Event → Core → Move → ServerIsAt → Option End → Option End → Type 0
   Steps events h move p o o2 = StepOf (outs_of sharing (events ++ events_of h move)) (moved h move).pool key p (passes_by key h move o) o o2
 
-  steps : (events : List Event) (h : Core) (move : Move) (p : Place) → IsAt sharing events h → MayMove h move → Tale events h p → Steps events h move p (end_at h.ends key) (end_at (moved h move).ends key)
+  steps : (events : List Event) (h : Core) (move : Move) (p : ServerIsAt) → IsAt sharing events h → MayMove h move → Tale events h p → Steps events h move p (end_at h.ends key) (end_at (moved h move).ends key)
   steps events h move p is may tale =
       let outs = outs_of sharing events in
       let outs2 = outs_of sharing (events ++ events_of h move) in
@@ -71,7 +71,7 @@ module _ (sharing : Sharing) (key : ℕ) (alone : Alone) (by : ByHistory) (judge
   -- a core that was reached, and what is told there
   record At (events : List Event) (h : Core) : Type 0 where
     is : IsAt sharing events h
-    place : Place
+    place : ServerIsAt
     tale : Tale events h place
 
   at_next : (events : List Event) (h : Core) (move : Move) → MayMove h move → At events h → At (events ++ events_of h move) (moved h move)
@@ -103,7 +103,7 @@ module _ (sharing : Sharing) (key : ℕ) (alone : Alone) (by : ByHistory) (judge
       let at : At events h = at_all [] (new_core sharing) moves may at_first in
       record { is = at.is; gone = subst (λ (o : Option End). StoryOf (outs_of sharing events) h.pool key at.place o) free at.tale }
 
-  entered_by : (events : List Event) (h : Core) (o o2 : Option End) (p : Place) (es : List Passed) → IsAt sharing events h → end_at h.ends key ≡ o2 → o ≡ None → IsThere o2
+  entered_by : (events : List Event) (h : Core) (o o2 : Option End) (p : ServerIsAt) (es : List FrontEvent) → IsAt sharing events h → end_at h.ends key ≡ o2 → o ≡ None → IsEndThere o2
       → StepOf (outs_of sharing events) h.pool key p es o o2 → Entered sharing key events h
   entered_by events h None None p es is same e there s = absurd there
   entered_by events h None (Some (Open front w asks)) p es is same e there s =
@@ -111,20 +111,20 @@ module _ (sharing : Sharing) (key : ℕ) (alone : Alone) (by : ByHistory) (judge
   entered_by events h None (Some (Over why)) p es is same e there s = absurd s
   entered_by events h (Some end) o2 p es is same e there s = absurd (let u : ⊥ = cc in u)
 
-  pub enters : (moves : List Move) (ends : Ends) → MayMoveAll (new_core sharing) moves → HasEntered key (moved_all (new_core sharing) moves).ends ends
+  pub enters : (moves : List Move) (ends : EndList) → MayMoveAll (new_core sharing) moves → HasEntered key (moved_all (new_core sharing) moves).ends ends
       → Entered sharing key (events_along (new_core sharing) moves ++ []) (moved (moved_all (new_core sharing) moves) (Enters key ends))
   enters moves ends may entered =
       let h = moved_all (new_core sharing) moves in
       let move : Move = Enters key ends in
       let events = events_along (new_core sharing) moves in
       let at : At events h = at_all [] (new_core sharing) moves may at_first in
-      let there : IsThere (end_at ends key) = subst IsThere (sym entered.begins) tt in
+      let there : IsEndThere (end_at ends key) = subst IsEndThere (sym entered.begins) tt in
       entered_by (events ++ []) (moved h move) (end_at h.ends key) (end_at ends key) at.place [] (next_at sharing events h move at.is) refl entered.was_free there
       (steps events h move at.place at.is entered at.tale)
 
   -- ---- Behind one more
 
-  then_by : (events : List Event) (h : Core) (p : Place) (es : List Passed) (front : Front) (w : Bool) (asks : Option Reset) (o2 : Option End) → IsAt sharing events h → end_at h.ends key ≡ o2 → IsThere o2
+  then_by : (events : List Event) (h : Core) (p : ServerIsAt) (es : List FrontEvent) (front : Front) (w : Bool) (asks : Option Reset) (o2 : Option End) → IsAt sharing events h → end_at h.ends key ≡ o2 → IsEndThere o2
       → StepOf (outs_of sharing events) h.pool key p es (Some (Open front w asks)) o2 → Then sharing key events h front.stage p es
   then_by events h p es front w asks None is same there s = absurd there
   then_by events h p es front w asks (Some (Open next v then)) is same there s = Goes next v (record { is = is; asks = then; end_is = same; place = s.place; standing = s.standing }) s.leads
@@ -135,11 +135,11 @@ module _ (sharing : Sharing) (key : ℕ) (alone : Alone) (by : ByHistory) (judge
   behind events h move front w s may stays =
       let h2 = moved h move in
       let events2 = events ++ events_of h move in
-      let there : IsThere (end_at h2.ends key) = subst IsThere (sym (end_behind_is key h move)) (stays_there key h move may stays (subst IsThere (sym s.end_is) tt)) in
+      let there : IsEndThere (end_at h2.ends key) = subst IsEndThere (sym (end_behind_is key h move)) (stays_there key h move may stays (subst IsEndThere (sym s.end_is) tt)) in
       let tale : Tale events h s.place = subst (λ (o : Option End). StoryOf (outs_of sharing events) h.pool key s.place o) (sym s.end_is) s.standing in
       let one : Steps events h move s.place (end_at h.ends key) (end_at h2.ends key) = steps events h move s.place s.is may tale in
       let two : StepOf (outs_of sharing events2) h2.pool key s.place (passes key h move) (end_at h.ends key) (end_at h2.ends key) =
-      subst (λ (es : List Passed). StepOf (outs_of sharing events2) h2.pool key s.place es (end_at h.ends key) (end_at h2.ends key)) (passes_is key h move) one in
+      subst (λ (es : List FrontEvent). StepOf (outs_of sharing events2) h2.pool key s.place es (end_at h.ends key) (end_at h2.ends key)) (passes_is key h move) one in
       let three : StepOf (outs_of sharing events2) h2.pool key s.place (passes key h move) (Some (Open front w s.asks)) (end_at h2.ends key) =
       subst (λ (o : Option End). StepOf (outs_of sharing events2) h2.pool key s.place (passes key h move) o (end_at h2.ends key)) s.end_is two in
       then_by events2 h2 s.place (passes key h move) front w s.asks (end_at h2.ends key) (next_at sharing events h move s.is) refl there three

@@ -5,15 +5,15 @@ use Rattle.std.proofs.lemmas.Bool.{eqb-true}
 use Rattle.tds_front.specs.declared.front.Front.{Front}
 use Rattle.tds_front.specs.declared.stage.Stage.{Stage}
 use Rattle.tds_front.specs.declared.stage.Stage.TheVariants as stages
-use Rattle.tds_front.specs.Passing.{Event as Passed, towards}
-use Rattle.tds_front.specs.Serving.{Place}
+use Rattle.tds_front.specs.Passing.{FrontEvent, towards}
+use Rattle.tds_front.specs.Serving.{ServerIsAt}
 use Rattle.tds_packet.specs.declared.header.Header.{Header}
 use Rattle.tds_front.specs.declared.fault.FrontFault.{FrontFault}
 use Rattle.tds_relay.specs.Behind.{Stays, events_along, passed, passes}
 use Rattle.tds_relay.specs.Pool.{Event, Sharing, whose}
-use Rattle.tds_relay.specs.Giving.{AreSaid, Given, StaysAll, Visit, given, given_all, given_in, happens_in, machine_in, if_its, moves_in}
+use Rattle.tds_relay.specs.Giving.{AreSaid, Given, StaysAll, Visit, given, given_all, given_in, happens_in, machine_at_visit, if_its, moves_in}
 use Rattle.tds_relay.specs.Core as core
-use Rattle.tds_relay.specs.Core.{End, Over, Enters, Core, MayMoveAll, Move, done_by, end_at, events_of, moved, moved_all, new_core, what_in}
+use Rattle.tds_relay.specs.Core.{End, Over, Enters, Core, MayMoveAll, Move, dones_of_part, end_at, events_of, moved, moved_all, new_core, what_in}
 use Rattle.tds_relay.specs.Machine.{Machine, Step, Makes, Hands, Takes, Writes, Admits, Removes, IsHanded, Manner, MayAll, MayStep, after, after_all, end_whose, handed, is_said, moves_of, new_machine, owed}
 use Rattle.tds_relay.proofs.ends.Ending.{end_behind_is}
 use Rattle.tds_relay.proofs.ends.Folding.{Alone, ByHistory, over_silent, stays_over}
@@ -45,7 +45,7 @@ hands_nothing why key h number header content manner what (Some other) e on =
 over_given : (why : Option FrontFault) (key : ℕ) (h : Machine) (step : Step) → MayStep h step → end_at h.core.ends key ≡ Some (Over why) → given key h step ≡ []
 over_given why key h (Makes move) may e = refl
 over_given why key h (Hands number header content part way manner) may e =
-    hands_nothing why key h number header content manner (what_in (done_by h.core.pool number part)) (whose h.core.pool number) e may.handed_on
+    hands_nothing why key h number header content manner (what_in (dones_of_part h.core.pool number part)) (whose h.core.pool number) e may.handed_on
 over_given why key h (Takes other bytes) may e =
     its_nothing key other (owed bytes (end_at h.core.ends other)) (other == key) refl (λ is. ap (owed bytes) (ap (end_at h.core.ends) is ∙ e))
 over_given why key h (Writes other count) may e = refl
@@ -68,19 +68,19 @@ over_all why key h (step ∷ steps) may stays e =
 
 module _ (sharing : Sharing) (key : ℕ) (alone : Alone) (by : ByHistory) (judges : Judging) where
   -- behind one move
-  said_next : (events : List Event) (h2 : Machine) (stage : Stage) (p : Place) (es : List Passed) (all : List Given) (steps : List Step) → MayAll h2 steps → StaysAll key steps → Said stage es all
+  said_next : (events : List Event) (h2 : Machine) (stage : Stage) (p : ServerIsAt) (es : List FrontEvent) (all : List Given) (steps : List Step) → MayAll h2 steps → StaysAll key steps → Said stage es all
       → ((front : Front) (w : Bool) → Stands sharing key events h2.core front w → Said front.stage (passed key h2.core (moves_in steps)) (given_all key h2 steps))
       → Then sharing key events h2.core stage p es → Said stage (es ++ passed key h2.core (moves_in steps)) (all ++ given_all key h2 steps)
   said_next events h2 stage p es all steps may stays first rest (Goes front w stands leads) =
-      let more : List Passed = passed key h2.core (moves_in steps) in
+      let more : List FrontEvent = passed key h2.core (moves_in steps) in
       said_both stage es more all (given_all key h2 steps) first
       (subst (λ (s : Stage). Said s more (given_all key h2 steps)) (sym leads.stage_is) (rest front w stands))
   said_next events h2 stage p es all steps may stays first rest (IsOver why e) =
-      let more : List Passed = passed key h2.core (moves_in steps) in
+      let more : List FrontEvent = passed key h2.core (moves_in steps) in
       let silent : more ≡ [] = over_silent why key h2.core (moves_in steps) e (may_moves h2 steps may) (stays_moves key h2 steps may stays) in
       let nothing : given_all key h2 steps ≡ [] = over_all why key h2 steps may stays e in
       said_both stage es more all (given_all key h2 steps) first
-      (subst (λ (gs : List Given). Said (stage_along stage es) more gs) (sym nothing) (subst (λ (xs : List Passed). Said (stage_along stage es) xs []) (sym silent) (λ begun. refl)))
+      (subst (λ (gs : List Given). Said (stage_along stage es) more gs) (sym nothing) (subst (λ (xs : List FrontEvent). Said (stage_along stage es) xs []) (sym silent) (λ begun. refl)))
 
   said_along : (events : List Event) (h : Machine) (steps : List Step) (front : Front) (w : Bool) → Stands sharing key events h.core front w → MayAll h steps → StaysAll key steps
       → Said front.stage (passed key h.core (moves_in steps)) (given_all key h steps)
@@ -140,6 +140,6 @@ module _ (sharing : Sharing) (key : ℕ) (alone : Alone) (by : ByHistory) (judge
       let events : List Event = events_along (new_core sharing) before ++ [] in
       let entered : Entered sharing key events (moved (moved_all (new_core sharing) before) (Enters key v.ends)) =
       enters sharing key alone by judges before v.ends (may_moves (new_machine sharing) v.before c.may_before) (subst (λ (x : Core). core.HasEntered key x.ends v.ends) is c.may_come.0) in
-      let came_is : moved (moved_all (new_core sharing) before) (Enters key v.ends) ≡ (machine_in v).core =
+      let came_is : moved (moved_all (new_core sharing) before) (Enters key v.ends) ≡ (machine_at_visit v).core =
       ap (λ (x : Core). moved x (Enters key v.ends)) (sym is) ∙ ap (λ (x : Machine). x.core) (sym c.machine_is) in
-      said_entered events (machine_in v) v.since (subst (Entered sharing key events) came_is entered) c.may_since v.stays
+      said_entered events (machine_at_visit v) v.since (subst (Entered sharing key events) came_is entered) c.may_since v.stays

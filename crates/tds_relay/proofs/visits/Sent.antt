@@ -5,11 +5,11 @@ use Rattle.std.proofs.lemmas.List.{append-nil}
 use Rattle.tds_packet.specs.Reading.{joined}
 use Rattle.tds_relay.specs.Pool.{Sharing, whose}
 use Rattle.tds_relay.specs.Giving as giving
-use Rattle.tds_relay.specs.Giving.{Given, Gives, IsFrontOf, StaysAll, StaysBy, Visit, bytes_at, given, given_all, given_in, machine_in, if_its, pieces_of, sent, sent_all, sent_in, waits_in}
+use Rattle.tds_relay.specs.Giving.{Given, Gives, IsFrontOf, StaysAll, StaysBy, Visit, bytes_at, given, given_all, given_in, machine_at_visit, if_its, pieces_of, sent, sent_all, sent_in_visit, waits_in}
 use Rattle.tds_relay.specs.Core.{end_at}
-use Rattle.tds_relay.specs.Machine.{Machine, Step, Makes, Hands, Takes, Writes, Admits, Removes, MayAll, MayStep, Steps, after, after_all, change_whose, handed, owed, put_all, put_some}
+use Rattle.tds_relay.specs.Machine.{Machine, Step, Makes, Hands, Takes, Writes, Admits, Removes, MayAll, MayStep, Steps, after, after_all, change_whose_queue, handed, owed, put_all, put_some}
 use Rattle.tds_relay.specs.Ties.{Cause}
-use Rattle.tds_relay.specs.Queues.{Queue, Queues, tagged, change, nothing, queue_at, without_first}
+use Rattle.tds_relay.specs.Queues.{Queue, Queues, tagged, change, empty_queue, queue_at, without_first}
 use Rattle.tds_relay.proofs.steps.Slots.{changed_at, cleared_at}
 use Rattle.tds_relay.proofs.visits.Replies.{gives, its, not_its}
 use Rattle.tds_relay.proofs.visits.Stays.{came}
@@ -39,7 +39,7 @@ goes_to key other o queues p is =
     ∙ put_if key other o p (other == key) refl)
 
 goes_whose : (key : ℕ) (who : Option ℕ) (o : Option Given) (queues : Queues) (p : Queue) → queue_at queues key ≡ Some p
-    → Goes (pieces_of (if_its key who o)) [] p (queue_at (change_whose who (put_some o) queues) key)
+    → Goes (pieces_of (if_its key who o)) [] p (queue_at (change_whose_queue who (put_some o) queues) key)
 goes_whose key None o queues p is = goes_same p (queue_at queues key) is
 goes_whose key (Some other) o queues p is = goes_to key other o queues p is
 
@@ -99,8 +99,8 @@ gives_by by old new s = record { steps = s.steps; are = s.are; may = s.may; caus
 
 -- ---- Since it came
 
-pub sent_visit : (sharing : Sharing) (key : ℕ) (v : Visit sharing key) → IsFrontOf (joined (pieces_of (given_in v))) (sent_in v) (waits_in v)
+pub sent_visit : (sharing : Sharing) (key : ℕ) (v : Visit sharing key) → IsFrontOf (joined (pieces_of (given_in v))) (sent_in_visit v) (waits_in v)
 sent_visit sharing key v =
     let c = came sharing key v in
-    let is : queue_at (machine_in v).queues key ≡ Some (tagged c.may_come.2 (nothing c.may_come.1)) = ap (λ (h : Machine). queue_at h.queues key) c.machine_is ∙ c.may_come.3.nothing_waits in
-    kept_along key (machine_in v) v.since (tagged c.may_come.2 (nothing c.may_come.1)) c.may_since v.stays is
+    let is : queue_at (machine_at_visit v).queues key ≡ Some (tagged c.may_come.2 (empty_queue c.may_come.1)) = ap (λ (h : Machine). queue_at h.queues key) c.machine_is ∙ c.may_come.3.nothing_waits in
+    kept_along key (machine_at_visit v) v.since (tagged c.may_come.2 (empty_queue c.may_come.1)) c.may_since v.stays is

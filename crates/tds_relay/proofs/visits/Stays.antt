@@ -11,7 +11,7 @@ use Rattle.tds_relay.specs.Core as core
 use Rattle.tds_relay.specs.Core.{Enters, Core, IsQuiet, MayMoveAll, Move, moved_all, new_core}
 use Rattle.tds_relay.specs.Machine.{Machine, Step, Makes, Hands, Takes, Writes, Admits, Removes, MayAll, MayStep, after, after_all, moves_of, new_machine}
 use Rattle.tds_relay.specs.Giving as visits
-use Rattle.tds_relay.specs.Giving.{StaysAll, StaysBy, Visit, happens_in, machine_in, moves_in}
+use Rattle.tds_relay.specs.Giving.{StaysAll, StaysBy, Visit, happens_in, machine_at_visit, moves_in}
 use Rattle.tds_relay.proofs.ends.Folding.{may_both, moved_both}
 use Rattle.tds_relay.proofs.steps.Stepping.{after_both}
 use Rattle.tds_relay.specs.Pool.{Sharing}
@@ -83,14 +83,14 @@ stays_moves key h (step ∷ steps) may stays =
 pub record Came (sharing : Sharing) (key : ℕ) (v : Visit sharing key) : Type 0 where
   pub may_before : MayAll (new_machine sharing) v.before
   pub may_come : MayStep (after_all (new_machine sharing) v.before) (Admits key v.ends v.queues)
-  pub machine_is : machine_in v ≡ after (after_all (new_machine sharing) v.before) (Admits key v.ends v.queues)
-  pub may_since : MayAll (machine_in v) v.since
+  pub machine_is : machine_at_visit v ≡ after (after_all (new_machine sharing) v.before) (Admits key v.ends v.queues)
+  pub may_since : MayAll (machine_at_visit v) v.since
 
 pub came : (sharing : Sharing) (key : ℕ) (v : Visit sharing key) → Came sharing key v
 came sharing key v =
     let h = new_machine sharing in
     let rest = may_behind h v.before (Admits key v.ends v.queues ∷ v.since) v.may in
-    let is : machine_in v ≡ after (after_all h v.before) (Admits key v.ends v.queues) = after_both h v.before (Admits key v.ends v.queues ∷ []) in
+    let is : machine_at_visit v ≡ after (after_all h v.before) (Admits key v.ends v.queues) = after_both h v.before (Admits key v.ends v.queues ∷ []) in
     record {
       may_before = may_before h v.before (Admits key v.ends v.queues ∷ v.since) v.may;
       may_come = rest.0;
@@ -107,7 +107,7 @@ stay_of sharing key v =
       ends = v.ends;
       since = moves_in v.since;
       may = subst (MayMoveAll (new_core sharing)) (moves_both v.before (Admits key v.ends v.queues ∷ v.since)) all;
-      stays = stays_moves key (machine_in v) v.since behind.may_since v.stays;
+      stays = stays_moves key (machine_at_visit v) v.since behind.may_since v.stays;
     }
 
 -- what passes in it, and what is done
@@ -116,7 +116,7 @@ unfolding stay_of
 happens_so sharing key v =
     let come : List Step = Admits key v.ends v.queues ∷ [] in
     let moves : moves_in (v.before ++ come) ≡ moves_in v.before ++ Enters key v.ends ∷ [] = moves_both v.before come in
-    let is : moved_all (new_core sharing) (moves_in v.before ++ Enters key v.ends ∷ []) ≡ (machine_in v).core =
+    let is : moved_all (new_core sharing) (moves_in v.before ++ Enters key v.ends ∷ []) ≡ (machine_at_visit v).core =
     ap (moved_all (new_core sharing)) (sym moves) ∙ sym (core_after (new_machine sharing) (v.before ++ come)) in
     ap (λ (h : Core). towards None stages.Quiet (passed key h (moves_in v.since))) is
 

@@ -16,21 +16,21 @@ use Rattle.tds_relay.specs.declared.pool.coming.What.{What}
 use Rattle.tds_relay.specs.declared.pool.coming.What.TheVariants as whats
 use Rattle.tds_relay.specs.Pool as pool
 use Rattle.tds_relay.specs.Pool.{Sharing, owes_reset, whose}
-use Rattle.tds_relay.specs.Giving.{StaysAll, StaysBy, Visit, machine_in}
+use Rattle.tds_relay.specs.Giving.{StaysAll, StaysBy, Visit, machine_at_visit}
 use Rattle.tds_relay.specs.Core as core
-use Rattle.tds_relay.specs.Core.{End, Open, Over, Core, HasEntered, IsQuiet, Move, asks_by, closes, done_by, end_at, end_behind, ends_behind, feeds, goes_on, holder, lets_go, moved, sent_by, told, what_in}
+use Rattle.tds_relay.specs.Core.{End, Open, Over, Core, HasEntered, IsQuiet, Move, asks_by, closes, dones_of_part, end_at, end_behind, ends_behind, feeds, end_goes_on, holder, lets_go, moved, sent_by, end_told, what_in}
 use Rattle.tds_relay.specs.Machine as machine
 use Rattle.tds_relay.specs.Machine.{Machine, IsHanded, IsTold, Manner, MayAll, MayHand, MayStep, Step, Makes, Hands, Takes, Writes, Admits, Removes, Whole, Without, Withheld, after, after_all, end_whose, hears_of_reset, is_said, new_machine}
 use Rattle.tds_relay.specs.Promises.{one_if}
-use Rattle.tds_relay.specs.Telling.{Asks, AsksJust, Event, Hears, IsToldOnce, TakesBack, asked, asked_by, asked_in, happen, happens, happens_to, heard_in, if_its, wants}
+use Rattle.tds_relay.specs.Telling.{Asks, AsksJust, ResetEvent, Hears, IsToldOnce, TakesBack, reset_asked, asked_by, asked_in, happen, happens, happens_to, heard_in, if_its, wants}
 use Rattle.tds_relay.proofs.ends.Ending.{end_behind_is, end_by, whose_by}
 use Rattle.tds_relay.proofs.visits.Stays.{came}
 
 -- ---- Where it is at
 
 -- What happens leads there.
-pub record Leads (asks : Option Reset) (events : List Event) (o : Option End) : Type 0 where
-  pub once : (later : List Event) → IsToldOnce (is_some (wants asks events)) later → IsToldOnce (is_some asks) (events ++ later)
+pub record Leads (asks : Option Reset) (events : List ResetEvent) (o : Option End) : Type 0 where
+  pub once : (later : List ResetEvent) → IsToldOnce (is_some (wants asks events)) later → IsToldOnce (is_some asks) (events ++ later)
   pub at : AsksJust (wants asks events) o
 
 nothing : (asks : Option Reset) (o : Option End) → AsksJust asks o → Leads asks [] o
@@ -41,7 +41,7 @@ nothing asks o at = record { once = λ later told. told; at = at }
 abbrev Keeps : (End → End) → Type 0
 Keeps by = (asks : Option Reset) (end : End) → AsksJust asks (Some end) → AsksJust asks (Some (by end))
 
-goes_keeps : (packets : List Packet) → Keeps (goes_on packets)
+goes_keeps : (packets : List Packet) → Keeps (end_goes_on packets)
 goes_keeps [] asks end at = at
 goes_keeps (packet ∷ packets) asks (Open front withdrawn is) at = at
 goes_keeps (packet ∷ packets) asks (Over why) at = tt
@@ -68,7 +68,7 @@ whose_keeps by keeps key (Some other) asks o at = if_keeps by keeps (other == ke
 
 quiet_at : (key : ℕ) (h : Core) (move : Move) → IsQuiet move → (asks : Option Reset) (o : Option End) → AsksJust asks o → AsksJust asks (end_by key h move o)
 quiet_at key h (core.Does event) quiet asks o at = at
-quiet_at key h (core.Sends k action) quiet asks o at = if_keeps (goes_on (sent_by h.pool (pool.Does k action))) (goes_keeps (sent_by h.pool (pool.Does k action))) (k == key) asks o at
+quiet_at key h (core.Sends k action) quiet asks o at = if_keeps (end_goes_on (sent_by h.pool (pool.Does k action))) (goes_keeps (sent_by h.pool (pool.Does k action))) (k == key) asks o at
 quiet_at key h (core.LetsGo k parks gives way) quiet asks o at = if_keeps lets_go lets_keeps (k == key) asks o at
 quiet_at key h (core.Loses number) quiet asks o at = whose_keeps closes closes_keeps key (holder h.pool number) asks o at
 quiet_at key h (core.Replaces number) quiet asks o at = whose_keeps lets_go lets_keeps key (holder h.pool number) asks o at
@@ -81,7 +81,7 @@ quiet_at key h (core.Quits k gives way) quiet asks o at = absurd quiet
 -- ---- A packet
 
 -- nothing is handed on where its end doesn't say it
-withheld_leads : (what : What) (asks : Option Reset) (withdrawn : Bool) (is : Option Reset) (front : Front) → is_said what (Some (Open front withdrawn is)) ≡ false → is ≡ asks → AsksJust asks (Some (told what (Open front withdrawn is)))
+withheld_leads : (what : What) (asks : Option Reset) (withdrawn : Bool) (is : Option Reset) (front : Front) → is_said what (Some (Open front withdrawn is)) ≡ false → is ≡ asks → AsksJust asks (Some (end_told what (Open front withdrawn is)))
 withheld_leads whats.Goes asks true is front said at = at
 withheld_leads whats.Finished asks true is front said at = at
 withheld_leads whats.Acknowledged asks true is front said at = at
@@ -91,7 +91,7 @@ withheld_leads whats.Finished asks false is front said at = absurd (let u : ⊥ 
 withheld_leads whats.Acknowledged asks false is front said at = absurd (let u : ⊥ = cc in u)
 
 -- it has heard one
-heard_at : (what : What) (withdrawn : Bool) (is : Option Reset) (front : Front) → is_said what (Some (Open front withdrawn is)) ≡ true → AsksJust None (Some (told what (Open front withdrawn is)))
+heard_at : (what : What) (withdrawn : Bool) (is : Option Reset) (front : Front) → is_said what (Some (Open front withdrawn is)) ≡ true → AsksJust None (Some (end_told what (Open front withdrawn is)))
 heard_at whats.Goes false is front said = refl
 heard_at whats.Finished false is front said = refl
 heard_at whats.Acknowledged false is front said = refl
@@ -106,10 +106,10 @@ one_leads : (asks : Option Reset) (acknowledges : Bool) (times : ℕ) (o : Optio
 one_leads asks acknowledges times o is at = record { once = λ later told. (is, told); at = at }
 
 abbrev Handed : Bool → Option Reset → What → Manner → Part Token → Option End → Type 0
-Handed owed asks what manner part o = IsHanded (is_said what o) manner → IsTold owed (hears_of_reset what o) manner part → AsksJust asks o → Leads asks (heard_in owed what manner part) (option_map (told what) o)
+Handed owed asks what manner part o = IsHanded (is_said what o) manner → IsTold owed (hears_of_reset what o) manner part → AsksJust asks o → Leads asks (heard_in owed what manner part) (option_map (end_told what) o)
 
 handed_by : (owed : Bool) (asks : Option Reset) (said withdrawn : Bool) (is : Option Reset) (what : What) (manner : Manner) (part : Part Token) (front : Front) → is_said what (Some (Open front withdrawn is)) ≡ said → IsHanded said manner
-    → IsTold owed (hears_of_reset what (Some (Open front withdrawn is))) manner part → is ≡ asks → Leads asks (heard_in owed what manner part) (Some (told what (Open front withdrawn is)))
+    → IsTold owed (hears_of_reset what (Some (Open front withdrawn is))) manner part → is ≡ asks → Leads asks (heard_in owed what manner part) (Some (end_told what (Open front withdrawn is)))
 handed_by owed asks true withdrawn is what (Whole tells) part front e on times at =
     one_leads asks (machine.acknowledges what) _ _ (times ∙ ap (λ (r : Option Reset). one_of (is_some r) (machine.acknowledges what)) at) (heard_at what withdrawn is front e)
 handed_by owed asks true withdrawn is what (Without tells bytes) part front e on times at =
@@ -117,9 +117,9 @@ handed_by owed asks true withdrawn is what (Without tells bytes) part front e on
 handed_by owed asks true withdrawn is what Withheld part front e on times at = absurd on
 handed_by owed asks false withdrawn is what (Whole tells) part front e on times at = absurd (let u : ⊥ = cc in u)
 handed_by owed asks false withdrawn is what (Without tells bytes) part front e on times at = absurd (let u : ⊥ = cc in u)
-handed_by owed asks false withdrawn is what Withheld part front e on times at = nothing asks (Some (told what (Open front withdrawn is))) (withheld_leads what asks withdrawn is front e at)
+handed_by owed asks false withdrawn is what Withheld part front e on times at = nothing asks (Some (end_told what (Open front withdrawn is))) (withheld_leads what asks withdrawn is front e at)
 
-told_over : (why : Option FrontFault) (what : What) → told what (Over why) ≡ Over why
+told_over : (why : Option FrontFault) (what : What) → end_told what (Over why) ≡ Over why
 told_over why whats.Goes = refl
 told_over why whats.Finished = refl
 told_over why whats.Acknowledged = refl
@@ -131,22 +131,22 @@ handed_leads owed asks what (Without tells bytes) part None on times at = absurd
 handed_leads owed asks what Withheld part None on times at = nothing asks None tt
 handed_leads owed asks what (Whole tells) part (Some (Over why)) on times at = absurd (let u : ⊥ = cc in u)
 handed_leads owed asks what (Without tells bytes) part (Some (Over why)) on times at = absurd (let u : ⊥ = cc in u)
-handed_leads owed asks what Withheld part (Some (Over why)) on times at = nothing asks (Some (told what (Over why))) (subst (λ (e : End). AsksJust asks (Some e)) (sym (told_over why what)) tt)
+handed_leads owed asks what Withheld part (Some (Over why)) on times at = nothing asks (Some (end_told what (Over why))) (subst (λ (e : End). AsksJust asks (Some e)) (sym (told_over why what)) tt)
 handed_leads owed asks what manner part (Some (Open front withdrawn is)) on times at = handed_by owed asks (is_said what (Some (Open front withdrawn is))) withdrawn is what manner part front refl on times at
 
 handed_if : (owed : Bool) (key k : ℕ) (b : Bool) (asks : Option Reset) (what : What) (manner : Manner) (part : Part Token) (o : Option End) → (k == key) ≡ b → (k ≡ key → Handed owed asks what manner part o) → AsksJust asks o
     → (k ≡ key → IsHanded (is_said what o) manner × IsTold owed (hears_of_reset what o) manner part)
-    → Leads asks (if b then heard_in owed what manner part else []) (if b then option_map (told what) o else o)
+    → Leads asks (if b then heard_in owed what manner part else []) (if b then option_map (end_told what) o else o)
 handed_if owed key k true asks what manner part o e leads at may = let is = eqb-true k key e in leads is (may is).0 (may is).1 at
 handed_if owed key k false asks what manner part o e leads at may = nothing asks o at
 
 handed_whose : (key : ℕ) (h : Machine) (number : ℕ) (asks : Option Reset) (manner : Manner) (part : Part Token) (who : Option ℕ) → AsksJust asks (end_at h.core.ends key)
-    → IsHanded (is_said (what_in (done_by h.core.pool number part)) (end_whose who h.core.ends)) manner
-    → IsTold (owes_reset number h.core.pool) (hears_of_reset (what_in (done_by h.core.pool number part)) (end_whose who h.core.ends)) manner part
-    → Leads asks (if_its key who (heard_in (owes_reset number h.core.pool) (what_in (done_by h.core.pool number part)) manner part)) (whose_by key who (told (what_in (done_by h.core.pool number part))) (end_at h.core.ends key))
+    → IsHanded (is_said (what_in (dones_of_part h.core.pool number part)) (end_whose who h.core.ends)) manner
+    → IsTold (owes_reset number h.core.pool) (hears_of_reset (what_in (dones_of_part h.core.pool number part)) (end_whose who h.core.ends)) manner part
+    → Leads asks (if_its key who (heard_in (owes_reset number h.core.pool) (what_in (dones_of_part h.core.pool number part)) manner part)) (whose_by key who (end_told (what_in (dones_of_part h.core.pool number part))) (end_at h.core.ends key))
 handed_whose key h number asks manner part None at on times = nothing asks (end_at h.core.ends key) at
 handed_whose key h number asks manner part (Some k) at on times =
-    let what = what_in (done_by h.core.pool number part) in
+    let what = what_in (dones_of_part h.core.pool number part) in
     handed_if (owes_reset number h.core.pool) key k (k == key) asks what manner part (end_at h.core.ends key) refl (λ is. handed_leads (owes_reset number h.core.pool) asks what manner part (end_at h.core.ends key)) at
     (λ is. (subst (λ (x : ℕ). IsHanded (is_said what (end_at h.core.ends x)) manner) is on, subst (λ (x : ℕ). IsTold (owes_reset number h.core.pool) (hears_of_reset what (end_at h.core.ends x)) manner part) is times))
 
@@ -161,7 +161,7 @@ said_leads asks taken is front (said.Forget gone) at = record { once = λ later 
 said_leads asks taken is front said.Acknowledge at = record { once = λ later told. told; at = refl }
 said_leads asks taken is front said.HandOn at = nothing asks (Some (Open front taken is)) at
 
-fed_leads : (asks : Option Reset) (withdrawn : Bool) (is : Option Reset) (front : Front) (brings : Result Fed FrontFault) → is ≡ asks → Leads asks (asked brings) (Some (end_behind front withdrawn is brings))
+fed_leads : (asks : Option Reset) (withdrawn : Bool) (is : Option Reset) (front : Front) (brings : Result Fed FrontFault) → is ≡ asks → Leads asks (reset_asked brings) (Some (end_behind front withdrawn is brings))
 fed_leads asks withdrawn is front (Ok fed) at = said_leads asks _ is front fed.said at
 fed_leads asks withdrawn is front (Err fault) at = nothing asks (Some (Over (Some fault))) tt
 
@@ -176,7 +176,7 @@ fed_if asks false bytes o at = nothing asks o at
 
 -- ---- A step
 
-leads_at : (key : ℕ) (h : Core) (move : Move) (asks : Option Reset) (events : List Event) → Leads asks events (end_by key h move (end_at h.ends key)) → Leads asks events (end_at (moved h move).ends key)
+leads_at : (key : ℕ) (h : Core) (move : Move) (asks : Option Reset) (events : List ResetEvent) → Leads asks events (end_by key h move (end_at h.ends key)) → Leads asks events (end_at (moved h move).ends key)
 leads_at key h move asks events leads = subst (λ (o : Option End). Leads asks events o) (sym (end_behind_is key h move)) leads
 
 quits_if : (k key : ℕ) (b : Bool) (asks : Option Reset) (o : Option End) → (k == key) ≡ b → key ≢ k → AsksJust asks o → AsksJust asks (if b then None else o)
@@ -198,7 +198,7 @@ step_leads key h (Removes other gives way) asks may stays at =
 
 -- ---- Along steps
 
-wants_both : (asks : Option Reset) (xs ys : List Event) → wants asks (xs ++ ys) ≡ wants (wants asks xs) ys
+wants_both : (asks : Option Reset) (xs ys : List ResetEvent) → wants asks (xs ++ ys) ≡ wants (wants asks xs) ys
 wants_both asks [] ys = refl
 wants_both asks (Asks reset ∷ xs) ys = wants_both reset xs ys
 wants_both asks (TakesBack ∷ xs) ys = wants_both None xs ys
@@ -218,16 +218,16 @@ told_along key h (step ∷ steps) asks may stays at =
     let one = step_leads key h step asks may.0 stays.0 at in
     one.once (happen key (after h step) steps) (told_along key (after h step) steps (wants asks (happens key h step)) may.1 stays.1 one.at)
 
-begun : (sharing : Sharing) (key : ℕ) (v : Visit sharing key) → MayAll (machine_in v) v.since × AsksJust None (end_at (machine_in v).core.ends key)
+begun : (sharing : Sharing) (key : ℕ) (v : Visit sharing key) → MayAll (machine_at_visit v) v.since × AsksJust None (end_at (machine_at_visit v).core.ends key)
 begun sharing key v =
     let c = came sharing key v in
     let entered : HasEntered key (after_all (new_machine sharing) v.before).core.ends v.ends = c.may_come.0 in
-    let begins : end_at (machine_in v).core.ends key ≡ Some (Open (new_front entered.size) false None) = ap (λ (h : Machine). end_at h.core.ends key) c.machine_is ∙ entered.begins in
+    let begins : end_at (machine_at_visit v).core.ends key ≡ Some (Open (new_front entered.size) false None) = ap (λ (h : Machine). end_at h.core.ends key) c.machine_is ∙ entered.begins in
     (c.may_since, subst (AsksJust None) (sym begins) refl)
 
 pub told_visit : (sharing : Sharing) (key : ℕ) (v : Visit sharing key) → IsToldOnce false (happens_to v)
-told_visit sharing key v = let at = begun sharing key v in told_along key (machine_in v) v.since None at.0 v.stays at.1
+told_visit sharing key v = let at = begun sharing key v in told_along key (machine_at_visit v) v.since None at.0 v.stays at.1
 
 -- its end has it as its bytes have said
-pub wants_in : (sharing : Sharing) (key : ℕ) (v : Visit sharing key) → AsksJust (wants None (happens_to v)) (end_at (after_all (machine_in v) v.since).core.ends key)
-wants_in sharing key v = let at = begun sharing key v in wants_along key (machine_in v) v.since None at.0 v.stays at.1
+pub wants_in : (sharing : Sharing) (key : ℕ) (v : Visit sharing key) → AsksJust (wants None (happens_to v)) (end_at (after_all (machine_at_visit v) v.since).core.ends key)
+wants_in sharing key v = let at = begun sharing key v in wants_along key (machine_at_visit v) v.since None at.0 v.stays at.1

@@ -5,7 +5,7 @@ use Rattle.std.proofs.lemmas.List.{append-nil, take-append-drop}
 use Rattle.tds_packet.specs.Reading.{joined}
 use Rattle.tds_relay.specs.Giving.{IsFrontOf}
 use Rattle.tds_relay.specs.Machine.{put_all}
-use Rattle.tds_relay.specs.Queues.{Queue, fits, put, without_first}
+use Rattle.tds_relay.specs.Queues.{Queue, fits, put_behind, without_first}
 
 pub joined_both : (xs ys : List (List ℕ)) → joined (xs ++ ys) ≡ joined xs ++ joined ys
 joined_both [] ys = refl
@@ -25,18 +25,18 @@ kept_queue p full = record { tag = p.tag; size = p.size; bytes = p.bytes; is_ful
 abbrev put_queue : List ℕ → Queue → Queue
 put_queue bytes p = record { tag = p.tag; size = p.size; bytes = p.bytes ++ bytes; is_full = false }
 
-pub put_fits : (bytes : List ℕ) (p : Queue) → fits p bytes ≡ true → put bytes p ≡ put_queue bytes p
-unfolding put
+pub put_fits : (bytes : List ℕ) (p : Queue) → fits p bytes ≡ true → put_behind bytes p ≡ put_queue bytes p
+unfolding put_behind
 put_fits bytes p e = subst (λ (b : Bool). (if b then put_queue bytes p else kept_queue p true) ≡ put_queue bytes p) (sym e) refl
 
-pub put_fills : (bytes : List ℕ) (p : Queue) → fits p bytes ≡ false → put bytes p ≡ kept_queue p true
-unfolding put
+pub put_fills : (bytes : List ℕ) (p : Queue) → fits p bytes ≡ false → put_behind bytes p ≡ kept_queue p true
+unfolding put_behind
 put_fills bytes p e = subst (λ (b : Bool). (if b then put_queue bytes p else kept_queue p true) ≡ kept_queue p true) (sym e) refl
 
-full_put : (bytes : List ℕ) (p : Queue) → p.is_full ≡ true → put bytes p ≡ p
+full_put : (bytes : List ℕ) (p : Queue) → p.is_full ≡ true → put_behind bytes p ≡ p
 full_put bytes p full =
     let same : p ≡ kept_queue p true = ap (kept_queue p) full in
-    ap (put bytes) same ∙ put_fills bytes (kept_queue p true) refl ∙ sym same
+    ap (put_behind bytes) same ∙ put_fills bytes (kept_queue p true) refl ∙ sym same
 
 full_all : (pieces : List (List ℕ)) (p : Queue) → p.is_full ≡ true → put_all pieces p ≡ p
 full_all [] p full = refl
@@ -44,15 +44,15 @@ full_all (x ∷ xs) p full = ap (put_all xs) (full_put x p full) ∙ full_all xs
 
 put_by : (pieces : List (List ℕ)) (x : List ℕ) (p : Queue) (fit : Bool) → fits p x ≡ fit → ((q : Queue) → IsPut pieces q (put_all pieces q)) → IsPut (x ∷ pieces) p (put_all (x ∷ pieces) p)
 put_by pieces x p true e later =
-    let is : put x p ≡ put_queue x p = put_fits x p e in
-    let l : IsPut pieces (put x p) (put_all pieces (put x p)) = later (put x p) in
+    let is : put_behind x p ≡ put_queue x p = put_fits x p e in
+    let l : IsPut pieces (put_behind x p) (put_all pieces (put_behind x p)) = later (put_behind x p) in
     record {
       rest = l.rest;
       front = l.front ∙ ap (λ (r : Queue). r.bytes ++ joined pieces) is ∙ append_assoc p.bytes x (joined pieces);
       whole = l.whole;
     }
 put_by pieces x p false e later =
-    let all : put_all pieces (put x p) ≡ kept_queue p true = ap (put_all pieces) (put_fills x p e) ∙ full_all pieces (kept_queue p true) refl in
+    let all : put_all pieces (put_behind x p) ≡ kept_queue p true = ap (put_all pieces) (put_fills x p e) ∙ full_all pieces (kept_queue p true) refl in
     record {
       rest = joined (x ∷ pieces);
       front = ap (λ (r : Queue). r.bytes ++ joined (x ∷ pieces)) all;

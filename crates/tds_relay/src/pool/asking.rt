@@ -2,7 +2,7 @@
 ghost use Rattle.std.specs.Prelude.{◌≡◌, ℕ, [], Some, IfErr, IfOk, OnErr, OnOk, false, true};
 ghost use Rattle.tds_client.specs.Session.{ClientSession};
 ghost use Rattle.tds_client.specs.Streams.{finished, put};
-ghost use Rattle.tds_service.specs.Table.{Answers, DoesAt, KeepsClients, Opens, Refuses, service_in};
+ghost use Rattle.tds_service.specs.Table.{Answers, DoesAt, KeepsClients, BeginsMessage, Denies, service_in};
 ghost use Rattle.tds_service.specs.Service as calls;
 ghost use Rattle.tds_service.specs.Ties.{cancel_answer};
 ghost use Rattle.tds_relay.specs.Asking.{SendsOn};
@@ -26,7 +26,7 @@ impl Pool {
         ensures sends { IfOk result (λ hold. SendsOn false (pool_in self.new) key) }
         ensures whose { IfOk result (λ hold. find_key key (pool_in self.old).holds ≡ Some hold) }
         ensures opened { IfOk result (λ hold.
-            Opens kind hold.lease self.old.service self.new.service) }
+            BeginsMessage kind hold.lease self.old.service self.new.service) }
         ensures clients { IfOk result (λ hold.
             KeepsClients hold.lease self.old.service self.new.service) }
         ensures err { OnErr result (pool_in self.new ≡ pool_in self.old) }
@@ -34,7 +34,7 @@ impl Pool {
         ensures others { OthersHold key self.old self.new }
         ensures refused { IfErr result (λ refusal. (hold : Hold)
             → find_key key (pool_in self.old).holds ≡ Some hold
-            → Refuses (calls.Ask hold.lease) (service_in self.old.service) refusal) }
+            → Denies (calls.Ask hold.lease) (service_in self.old.service) refusal) }
     {
         let Some(hold) = find_key(&self.holds, key) else {
             return Err(Refusal::Unknown);
@@ -65,7 +65,7 @@ impl Pool {
         ensures nothing { OnErr result (out.new.items ≡ out.old.items) }
         ensures refused { IfErr result (λ refusal. (hold : Hold)
             → find_key key (pool_in self.old).holds ≡ Some hold → (count : ℕ)
-            → Refuses (calls.Put hold.lease count) (service_in self.old.service) refusal) }
+            → Denies (calls.Put hold.lease count) (service_in self.old.service) refusal) }
     {
         let Some(hold) = find_key(&self.holds, key) else {
             return Err(Refusal::Unknown);
@@ -93,7 +93,7 @@ impl Pool {
         ensures nothing { OnErr result (out.new.items ≡ out.old.items) }
         ensures refused { IfErr result (λ refusal. (hold : Hold)
             → find_key key (pool_in self.old).holds ≡ Some hold → (count : ℕ)
-            → Refuses (calls.Finish hold.lease count) (service_in self.old.service) refusal) }
+            → Denies (calls.Finish hold.lease count) (service_in self.old.service) refusal) }
     {
         let Some(hold) = find_key(&self.holds, key) else {
             return Err(Refusal::Unknown);
@@ -120,7 +120,7 @@ impl Pool {
         ensures nothing { OnErr result (out.new.items ≡ out.old.items) }
         ensures refused { IfErr result (λ refusal. (hold : Hold)
             → find_key key (pool_in self.old).holds ≡ Some hold
-            → Refuses (calls.Cancel hold.lease) (service_in self.old.service) refusal) }
+            → Denies (calls.Cancel hold.lease) (service_in self.old.service) refusal) }
     {
         let Some(hold) = find_key(&self.holds, key) else {
             return Err(Refusal::Unknown);

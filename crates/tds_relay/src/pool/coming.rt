@@ -4,7 +4,7 @@ ghost use Rattle.tds_service.specs.Table.{reading_on, service_in};
 ghost use Rattle.tds_relay.specs.Cleaning.{MayClean};
 ghost use Rattle.tds_relay.specs.Pool.{Comes, Way, cleaned_by, settles, whose, whose_by};
 ghost use Rattle.tds_relay.specs.Fronts.{IsWhat};
-ghost use Rattle.tds_relay.specs.Core.{done_by};
+ghost use Rattle.tds_relay.specs.Core.{dones_of_part};
 ghost use Rattle.tds_relay.specs.Sparing.{AsideHeld, AsideStay, OffHold};
 ghost use Rattle.tds_relay.specs.Ties.{IsReached, Makes, Settles, Turns, pool_in, part_on};
 ghost use Rattle.tds_relay.specs.TokenParsers.{AllRead, AllStand, IsLed};
@@ -110,7 +110,7 @@ impl Pool {
             (pool_in self.old) (pool_in self.new) out.old.items out.new.items) }
         ensures whose { IfOk result (λ heard. heard.key ≡ whose (pool_in self.old) number) }
         ensures heard { IfOk result (λ heard. IsWhat heard.key heard.what
-            (done_by (pool_in self.old) number
+            (dones_of_part (pool_in self.old) number
             (part_on (reading_on number self.old.service) bytes.now ends))) }
         ensures read { OnOk result (AllRead number ends bytes.now self.old.service
             self.new.service) }

@@ -2,7 +2,7 @@
 ghost use Rattle.std.specs.Prelude.{◌≡◌, ◌≤◌, [], Bool, None, IfOk, IsSome, OnOk, Some};
 ghost use Rattle.std.specs.Prelude.{drop, false, length, true};
 ghost use Rattle.slab.specs.Slab.{get};
-ghost use Rattle.tds_relay.specs.Asking.{Asks, AsksOn, IfAsks, IsUnderway, waits_of};
+ghost use Rattle.tds_relay.specs.Asking.{AsksByBytes, AsksOn, IfAsks, IsUnderway, waits_of};
 ghost use Rattle.tds_relay.specs.Bodies.{Body, HeedsAll, HeedsOn, HeedsServed, CancelsSaid, Carries};
 ghost use Rattle.tds_relay.specs.Bodies.{CarriesOn, Grows, GrowsFrom, Obeys, PutsSaid, Starts, GoesFrom, body_of};
 ghost use Rattle.tds_relay.specs.Bodies.{last_of, standing_in, standing_open};
@@ -14,10 +14,10 @@ ghost use Rattle.tds_relay.specs.Core.{IfOpen, IsBegun, end_at, holder};
 ghost use Rattle.tds_relay.specs.Machine.{Steps};
 ghost use Rattle.tds_relay.specs.Lent.{OthersKeepAt, PutsOnly};
 ghost use Rattle.tds_relay.specs.Queues.{names_in, queues_in};
-ghost use Rattle.tds_relay.specs.Reads.{Opens, Stays};
+ghost use Rattle.tds_relay.specs.Reads.{Opens, LinksStay};
 ghost use Rattle.tds_relay.specs.Reasons.{CannotGoOnAt, GivesReason, IsTurnedAwayAt, ItselfFor, MayCloseAt};
 ghost use Rattle.tds_relay.specs.Taking.{Tells, TellsOn};
-ghost use Rattle.tds_relay.specs.Ties.{Application, Goes, IsReached, pool_in};
+ghost use Rattle.tds_relay.specs.Ties.{Application, LedTo, IsReached, pool_in};
 ghost use Rattle.tds_relay.specs.Waiting.{KeepsInLine, KeepsSaid, ForReasonOrWaiting, HasReason, IsRightlyKept};
 ghost use Rattle.tds_relay.specs.TokenParsers.{AllStand};
 ghost use Rattle.tds_relay.specs.Ordering.{GrowsByOrders, OpensNew, opens_in};
@@ -32,7 +32,7 @@ use tds_front::laws::bytes_are_packets;
 impl Relay {
     /// These bytes of an application came. At most as many as `room` says are to be handed in.
     pub fn said(&mut self, key: usize, piece: &[u8]) -> Result<(), NoMemory>
-        ensures goes { OnOk result (Goes (Application key)
+        ensures goes { OnOk result (LedTo (Application key)
             (pool_in self.old.pool) (pool_in self.new.pool)) }
         ensures names { OnOk result (names_in self.new.applications
             ≡ names_in self.old.applications) }
@@ -40,7 +40,7 @@ impl Relay {
             (machine_in self.new)) }
         ensures tells { OnOk result (Tells key (machine_in self.old) piece.now []
             (machine_in self.new)) }
-        ensures asks { OnOk result (Asks key (machine_in self.old) piece.now []
+        ensures asks { OnOk result (AsksByBytes key (machine_in self.old) piece.now []
             self.new.links.items (machine_in self.new)) }
         ensures served { OnOk result (NobodyWaits self.new) }
         ensures few { OnOk result (Few self.old.most self.old.links.items
@@ -69,15 +69,15 @@ impl Relay {
 
     /// Takes them, one packet's header or data behind another: a byte at least in each turn.
     fn take_all(&mut self, key: usize, piece: &[u8]) -> Result<(), NoMemory>
-        ensures goes { OnOk result (Goes (Application key)
+        ensures goes { OnOk result (LedTo (Application key)
             (pool_in self.old.pool) (pool_in self.new.pool)) }
         ensures names { OnOk result (names_in self.new.applications
             ≡ names_in self.old.applications) }
         ensures tells { OnOk result (Tells key (machine_in self.old) piece.now []
             (machine_in self.new)) }
-        ensures asks { OnOk result (Asks key (machine_in self.old) piece.now []
+        ensures asks { OnOk result (AsksByBytes key (machine_in self.old) piece.now []
             self.new.links.items (machine_in self.new)) }
-        ensures read { OnOk result (Stays self.old.links.items self.new.links.items) }
+        ensures read { OnOk result (LinksStay self.old.links.items self.new.links.items) }
         ensures stand { OnOk result (AllStand self.old.pool.service
             self.new.pool.service) }
         ensures carries { OnOk result (Carries key (machine_in self.old) piece.now []
@@ -108,7 +108,7 @@ impl Relay {
     /// Takes some of them, and answers how many.
     #[tactic(auto, using(crate::proofs::steps::Staying::stays_refl))]
     fn take(&mut self, key: usize, piece: &[u8]) -> Result<usize, NoMemory>
-        ensures goes { OnOk result (Goes (Application key)
+        ensures goes { OnOk result (LedTo (Application key)
             (pool_in self.old.pool) (pool_in self.new.pool)) }
         ensures names { OnOk result (names_in self.new.applications
             ≡ names_in self.old.applications) }
@@ -116,7 +116,7 @@ impl Relay {
             (machine_in self.old) (machine_in self.new)) }
         ensures asks { IfOk result (λ count. AsksOn key piece.now (drop count piece.now)
             self.old.links.items self.new.links.items (machine_in self.old) (machine_in self.new)) }
-        ensures read { OnOk result (Stays self.old.links.items self.new.links.items) }
+        ensures read { OnOk result (LinksStay self.old.links.items self.new.links.items) }
         ensures stand { OnOk result (AllStand self.old.pool.service
             self.new.pool.service) }
         ensures carries { IfOk result (λ count. CarriesOn key piece.now (drop count piece.now)
@@ -156,7 +156,7 @@ impl Relay {
 
     /// Does what is to be done with these bytes.
     fn obey(&mut self, key: usize, bytes: &[u8], said: Said) -> Result<(), NoMemory>
-        ensures goes { OnOk result (Goes (Application key)
+        ensures goes { OnOk result (LedTo (Application key)
             (pool_in self.old.pool) (pool_in self.new.pool)) }
         ensures given { OnOk result (queues_in self.new.applications
             ≡ given_by key said (queues_in self.old.applications)) }
@@ -164,7 +164,7 @@ impl Relay {
             (ends_in self.old.applications) (core_in self.new)) }
         ensures underway { OnOk result (IfAsks (λ whole. IsUnderway whole
             self.new.links.items key (core_in self.new)) said) }
-        ensures read { OnOk result (Stays self.old.links.items self.new.links.items) }
+        ensures read { OnOk result (LinksStay self.old.links.items self.new.links.items) }
         ensures stand { OnOk result (AllStand self.old.pool.service
             self.new.pool.service) }
         ensures body { OnOk result (Obeys said bytes.now (body_of key self.old)
@@ -206,7 +206,7 @@ impl Relay {
     /// A request that waits is asked where its application holds a connection that can take it, and stands
     /// in the line where it holds none.
     fn seek(&mut self, key: usize) -> Result<(), NoMemory>
-        ensures goes { OnOk result (Goes (Application key)
+        ensures goes { OnOk result (LedTo (Application key)
             (pool_in self.old.pool) (pool_in self.new.pool)) }
         ensures kept { OnOk result (queues_in self.new.applications
             ≡ queues_in self.old.applications) }
@@ -214,7 +214,7 @@ impl Relay {
             → Moved (Application key) (core_in self.old) (core_in self.new)) }
         ensures underway { (whole : Bool) → waits_of (get self.old.applications key) ≡ Some whole
             → OnOk result (IsUnderway whole self.new.links.items key (core_in self.new)) }
-        ensures read { OnOk result (Stays self.old.links.items self.new.links.items) }
+        ensures read { OnOk result (LinksStay self.old.links.items self.new.links.items) }
         ensures stand { OnOk result (AllStand self.old.pool.service
             self.new.pool.service) }
         ensures body { OnOk result (Starts (body_of key self.old) (body_of key self.new)) }
@@ -241,7 +241,7 @@ impl Relay {
     /// The next bytes of its request's body, with which it is whole or not.
     #[tactic(auto, using(crate::proofs::steps::Queueing::kept_more, crate::proofs::steps::Queueing::queues_kept, crate::proofs::steps::Fronts::ends_more, crate::proofs::steps::Fronts::ends_kept, crate::proofs::steps::Staying::stays_refl, crate::proofs::steps::Underway::of_none))]
     fn go_on(&mut self, key: usize, bytes: &[u8], whole: bool) -> Result<(), NoMemory>
-        ensures goes { OnOk result (Goes (Application key)
+        ensures goes { OnOk result (LedTo (Application key)
             (pool_in self.old.pool) (pool_in self.new.pool)) }
         ensures kept { OnOk result (queues_in self.new.applications
             ≡ queues_in self.old.applications) }
@@ -249,7 +249,7 @@ impl Relay {
             (core_in self.new)) }
         ensures underway { OnOk result (IsUnderway whole self.new.links.items key
             (core_in self.new)) }
-        ensures read { OnOk result (Stays self.old.links.items self.new.links.items) }
+        ensures read { OnOk result (LinksStay self.old.links.items self.new.links.items) }
         ensures stand { OnOk result (AllStand self.old.pool.service
             self.new.pool.service) }
         ensures body { OnOk result ((mid : Body)

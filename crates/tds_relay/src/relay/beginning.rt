@@ -5,7 +5,7 @@ ghost use Rattle.slab.specs.Slab.{get};
 ghost use Rattle.tds_relay.specs.Asking.{IsTakenBack, IsUnderway, waits_of};
 ghost use Rattle.tds_client.specs.Streams.{packets_are};
 ghost use Rattle.tds_packet.specs.declared.status.Reset.TheVariants.{KeepTransaction};
-ghost use Rattle.tds_relay.specs.Bodies.{Begins, BeginsFrom, Body, Starts};
+ghost use Rattle.tds_relay.specs.Bodies.{BeginsBody, BeginsFrom, Body, Starts};
 ghost use Rattle.tds_relay.specs.Bodies.{body_of, standing_in};
 ghost use Rattle.tds_relay.specs.Closings.{ClosesOnly, IsNoRequest, register_in};
 ghost use Rattle.tds_relay.specs.Few.{IsSeated};
@@ -16,10 +16,10 @@ ghost use Rattle.tds_relay.specs.Waiting.{IsRightlyKept};
 ghost use Rattle.tds_relay.specs.Ordering.{opens_in};
 ghost use Rattle.tds_relay.specs.Places.{HasNoTransaction};
 ghost use Rattle.tds_relay.specs.Queues.{queues_in};
-ghost use Rattle.tds_relay.specs.Reads.{Stays};
+ghost use Rattle.tds_relay.specs.Reads.{LinksStay};
 ghost use Rattle.tds_relay.specs.Reasons.{CannotBegin, CannotPart, HasTransaction};
 ghost use Rattle.tds_relay.specs.Reasons.{IsUnrenewed, ItselfFor};
-ghost use Rattle.tds_relay.specs.Ties.{Application, Goes, IsReached, pool_in};
+ghost use Rattle.tds_relay.specs.Ties.{Application, LedTo, IsReached, pool_in};
 ghost use Rattle.tds_relay.specs.TokenParsers.{AllStand};
 ghost use Rattle.tds_relay.specs.Sparing.{OthersRest};
 
@@ -41,7 +41,7 @@ impl Relay {
         kind: Kind,
         reset: Option<Reset>,
     ) -> Result<(), NoMemory>
-        ensures goes { OnOk result (Goes (Application key)
+        ensures goes { OnOk result (LedTo (Application key)
             (pool_in self.old.pool) (pool_in self.new.pool)) }
         ensures kept { OnOk result (queues_in self.new.applications
             ≡ queues_in self.old.applications) }
@@ -50,10 +50,10 @@ impl Relay {
             → Moved (Application key) (core_in self.old) (core_in self.new)) }
         ensures underway { OnOk result (IsUnderway false self.new.links.items key
             (core_in self.new)) }
-        ensures read { OnOk result (Stays self.old.links.items self.new.links.items) }
+        ensures read { OnOk result (LinksStay self.old.links.items self.new.links.items) }
         ensures stand { OnOk result (AllStand self.old.pool.service
             self.new.pool.service) }
-        ensures body { OnOk result ((mid : Body) × Begins kind mid
+        ensures body { OnOk result ((mid : Body) × BeginsBody kind mid
             × Starts mid (body_of key self.new)) }
         ensures closes { OnOk result (ClosesOnly (ItselfFor key (CannotBegin kind reset key
             (end_at (ends_in self.old.applications) key) self.old.pool self.old.links.items))
@@ -116,7 +116,7 @@ impl Relay {
     /// The application lets its connection go, and waits for one like who has come.
     #[tactic(auto, using(crate::proofs::steps::Reaching::reaches_turn, crate::proofs::steps::Reaching::reaches_left))]
     fn change(&mut self, key: usize) -> Result<(), NoMemory>
-        ensures goes { OnOk result (Goes (Application key)
+        ensures goes { OnOk result (LedTo (Application key)
             (pool_in self.old.pool) (pool_in self.new.pool)) }
         ensures kept { OnOk result (queues_in self.new.applications
             ≡ queues_in self.old.applications) }
@@ -125,7 +125,7 @@ impl Relay {
             → Moved (Application key) (core_in self.old) (core_in self.new)) }
         ensures underway { OnOk result ((whole : Bool)
             → IsUnderway whole self.new.links.items key (core_in self.new)) }
-        ensures read { OnOk result (Stays self.old.links.items self.new.links.items) }
+        ensures read { OnOk result (LinksStay self.old.links.items self.new.links.items) }
         ensures stand { OnOk result (AllStand self.old.pool.service
             self.new.pool.service) }
         ensures body { (whole : Bool) → waits_of (get self.old.applications key) ≡ Some whole
@@ -154,7 +154,7 @@ impl Relay {
     /// The application keeps its connection with its transaction, and its next request resets the rest.
     #[tactic(auto, using(crate::proofs::steps::Reaching::reaches_turn, crate::proofs::steps::Reaching::reaches_left))]
     fn renew(&mut self, key: usize) -> Result<(), NoMemory>
-        ensures goes { OnOk result (Goes (Application key)
+        ensures goes { OnOk result (LedTo (Application key)
             (pool_in self.old.pool) (pool_in self.new.pool)) }
         ensures kept { OnOk result (queues_in self.new.applications
             ≡ queues_in self.old.applications) }
@@ -164,7 +164,7 @@ impl Relay {
             → Moved (Application key) (core_in self.old) (core_in self.new)) }
         ensures underway { (whole : Bool) → waits_of (get self.old.applications key) ≡ Some whole
             → OnOk result (IsUnderway whole self.new.links.items key (core_in self.new)) }
-        ensures read { OnOk result (Stays self.old.links.items self.new.links.items) }
+        ensures read { OnOk result (LinksStay self.old.links.items self.new.links.items) }
         ensures stand { OnOk result (AllStand self.old.pool.service
             self.new.pool.service) }
         ensures body { (whole : Bool) → waits_of (get self.old.applications key) ≡ Some whole

@@ -14,7 +14,7 @@ ghost use Rattle.tds_relay.specs.Reads.{IsCalled, OpensFirst};
 ghost use Rattle.tds_relay.specs.Reads.{open_waits, seen_at};
 ghost use Rattle.tds_relay.specs.Ordering.{OpensAbove, OpensNew, StayOrdered};
 ghost use Rattle.tds_relay.specs.Sparing.{AllGo};
-ghost use Rattle.tds_relay.specs.Ties.{Goes, IsReached, Neither};
+ghost use Rattle.tds_relay.specs.Ties.{LedTo, IsReached, Neither};
 ghost use Rattle.tds_relay.specs.Ties.{pool_in};
 ghost use Rattle.tds_relay.specs.TokenParsers.{AllStand};
 ghost use Rattle.tds_relay.specs.Few.{IsSeated};
@@ -28,7 +28,7 @@ impl Relay {
     /// all. It is cleaned first. Answers its number, or none where it isn't wanted.
     #[tactic(auto, using(crate::proofs::steps::Reaching::reaches_turn, crate::proofs::steps::Reaching::reaches_turned, crate::proofs::spared::Resting::go_refl, crate::proofs::spared::Ordered::ordered_refl))]
     pub fn bring(&mut self, tag: usize) -> Result<Option<u64>, NoMemory>
-        ensures goes { OnOk result (Goes Neither (pool_in self.old.pool) (pool_in self.new.pool)) }
+        ensures goes { OnOk result (LedTo Neither (pool_in self.old.pool) (pool_in self.new.pool)) }
         ensures steps { OnOk result (Steps Neither (machine_in self.old) (machine_in self.new)) }
         ensures kept { OnOk result (queues_in self.new.applications
             ≡ queues_in self.old.applications) }

@@ -11,22 +11,22 @@ ghost use Rattle.tds_relay.specs.Coming.{AllAlong, ComesAnew, ContinuesAnew, Str
 ghost use Rattle.tds_relay.specs.Pool.{whose};
 ghost use Rattle.tds_relay.specs.Faults.{IsHeaderOf, IsRefusedOn};
 ghost use Rattle.tds_relay.specs.Few.{Few, HearsSeat, IsSeated, IsSeatedBehind, NobodyWaits, NoneNew};
-ghost use Rattle.tds_relay.specs.Fronts.{end_of, ends_in, core_in, told_by, machine_in, machine_of};
+ghost use Rattle.tds_relay.specs.Fronts.{own_end, ends_in, core_in, told_by, machine_in, machine_of};
 ghost use Rattle.tds_relay.specs.Fronts.{machine_with};
-ghost use Rattle.tds_relay.specs.Core.{holder, told};
-ghost use Rattle.tds_relay.specs.Handing.{Brings, HearsBy, IsKnown, KnowsOn, Passes, news_for, fed};
+ghost use Rattle.tds_relay.specs.Core.{holder, end_told};
+ghost use Rattle.tds_relay.specs.Handing.{BringsPacket, HearsBy, IsKnown, KnowsOn, Passes, news_for, filled};
 ghost use Rattle.tds_relay.specs.Machine.{Steps};
 ghost use Rattle.tds_relay.specs.Reasons.{Cleans, IsHeardAs, IsIdle, HearsNothing};
 ghost use Rattle.tds_relay.specs.Queues.{names_in, queue_of, queues_in};
 ghost use Rattle.tds_packet.specs.Stream.{IsLess};
-ghost use Rattle.tds_relay.specs.Reads.{Comes, IsLessAt, OpensOthers, StreamsAll};
+ghost use Rattle.tds_relay.specs.Reads.{BytesCome, IsLessAt, OpensOthers, StreamsAll};
 ghost use Rattle.tds_relay.specs.Reads.{answer_at, if_heard, open_at, open_waits, waits_on};
 ghost use Rattle.tds_relay.specs.Reads.{queue_on, seen_at};
 ghost use Rattle.tds_relay.specs.Bounds.{IsRoom};
 ghost use Rattle.tds_relay.specs.Ordering.{GrowsByOrders, OpensNew, StayOrdered, opens_in};
 ghost use Rattle.tds_relay.specs.Sending.{sending_at};
 ghost use Rattle.tds_relay.specs.Sparing.{OffGo, OffHold};
-ghost use Rattle.tds_relay.specs.Ties.{Connection, Goes, IsReached, pool_in};
+ghost use Rattle.tds_relay.specs.Ties.{Connection, LedTo, IsReached, pool_in};
 ghost use Rattle.tds_relay.specs.Waiting.{IsNotAcknowledged, KeepsQueues, HeardFor};
 ghost use Rattle.tds_relay.specs.Waking.{HandsTo, IsWoken, PutsFor, Wakes};
 ghost use Rattle.tds_relay.specs.TokenParsers.{AllStand, HasRead, ReadsBy};
@@ -46,7 +46,7 @@ use tds_packet::PacketRef;
 impl Relay {
     /// These bytes came on the connection of this number, behind its login.
     pub fn came(&mut self, number: u64, piece: &[u8]) -> Result<(), NoMemory>
-        ensures goes { OnOk result (Goes (Connection number)
+        ensures goes { OnOk result (LedTo (Connection number)
             (pool_in self.old.pool) (pool_in self.new.pool)) }
         ensures names { OnOk result (names_in self.new.applications
             ≡ names_in self.old.applications) }
@@ -55,7 +55,7 @@ impl Relay {
         ensures served { OnOk result (NobodyWaits self.new) }
         ensures few { OnOk result (Few self.old.most self.old.links.items
             self.new.links.items) }
-        ensures comes { OnOk result (Comes number (open_at number self.old.links.items)
+        ensures comes { OnOk result (BytesCome number (open_at number self.old.links.items)
             (machine_in self.old) self.old.pool.service piece.now
             (open_at number self.new.links.items) (machine_in self.new) self.new.pool.service) }
         ensures anew { OnOk result (ComesAnew number piece.now self.old self.new) }
@@ -88,7 +88,7 @@ impl Relay {
     /// Hears them, packet by packet, each of them. But in the first turn, a byte is heard in each at least.
     fn hear_all(&mut self, number: u64, piece: &[u8]) -> Result<(), NoMemory>
         ensures none { OnOk result (NoneNew self.old.links.items self.new.links.items) }
-        ensures goes { OnOk result (Goes (Connection number)
+        ensures goes { OnOk result (LedTo (Connection number)
             (pool_in self.old.pool) (pool_in self.new.pool)) }
         ensures names { OnOk result (names_in self.new.applications
             ≡ names_in self.old.applications) }
@@ -136,7 +136,7 @@ impl Relay {
     /// are no packet of an answer. What comes on a connection that isn't open is nothing.
     fn hear(&mut self, number: u64, piece: &[u8]) -> Result<(usize, Option<Heard>), NoMemory>
         ensures settings { settings_in self.new ≡ settings_in self.old }
-        ensures goes { OnOk result (Goes (Connection number)
+        ensures goes { OnOk result (LedTo (Connection number)
             (pool_in self.old.pool) (pool_in self.new.pool)) }
         ensures names { OnOk result (names_in self.new.applications
             ≡ names_in self.old.applications) }
@@ -213,14 +213,14 @@ fn hear_on(
     piece: &[u8],
 ) -> Result<(usize, Option<Heard>), NoMemory>
     requires { link.old.is_open ≡ true }
-    ensures goes { OnOk result (Goes (Connection number) (pool_in pool.old)
+    ensures goes { OnOk result (LedTo (Connection number) (pool_in pool.old)
         (pool_in pool.new)) }
     ensures names { OnOk result (names_in applications.new ≡ names_in applications.old) }
     ensures hears { IfOk result (λ heard. HearsBy number (reading_on number pool.old.service)
         link.old link.new piece.now heard.0 heard.1 (machine_of pool.old applications.old)
         (machine_with (pool_in pool.new) (told_by heard.1 (ends_in applications.old))
         (queues_in applications.new))) }
-    ensures read { IfOk result (λ heard. ReadsBy number (fed link.old.reader piece.now) heard.1
+    ensures read { IfOk result (λ heard. ReadsBy number (filled link.old.reader piece.now) heard.1
         pool.old.service pool.new.service) }
     ensures takes { IfOk result (λ heard. IsLess link.old.reader link.old.reader.taken
         → 1 ≤ length piece.now → 1 ≤ heard.0) }
@@ -233,8 +233,8 @@ fn hear_on(
     ensures puts { IfOk result (λ heard. PutsFor heard.1 (ends_in applications.old)
         (queues_in applications.old) (queues_in applications.new)) }
     ensures refused { IfOk result (λ heard. IsHeaderOf number
-        (fed link.old.reader piece.now) heard.1 refused.old refused.new) }
-    ensures known { OnOk result (KnowsOn (fed link.old.reader piece.now) link.old.answer
+        (filled link.old.reader piece.now) heard.1 refused.old refused.new) }
+    ensures known { OnOk result (KnowsOn (filled link.old.reader piece.now) link.old.answer
         link.new.answer) }
     ensures cleans { IsReached (pool_in pool.old) → IfOk result (λ heard.
         Cleans (whose (pool_in pool.old) number) heard.1 outbox.old.items outbox.new.items) }
@@ -263,10 +263,10 @@ fn hear_packet(
     number: u64,
     outbox: &mut Vec<u8>,
 ) -> Result<Heard, NoMemory>
-    ensures goes { OnOk result (Goes (Connection number) (pool_in pool.old)
+    ensures goes { OnOk result (LedTo (Connection number) (pool_in pool.old)
         (pool_in pool.new)) }
     ensures names { OnOk result (names_in applications.new ≡ names_in applications.old) }
-    ensures brings { IfOk result (λ heard. Brings number (reading_on number pool.old.service)
+    ensures brings { IfOk result (λ heard. BringsPacket number (reading_on number pool.old.service)
         link.old.answer link.new.answer link.old.reader heard (machine_of pool.old applications.old)
         (machine_with (pool_in pool.new) (told_by (Some heard) (ends_in applications.old))
         (queues_in applications.new))) }
@@ -336,7 +336,7 @@ fn hand_on(
         packet.entry.«data».now (queue_of application.old) (queue_of application.new)) }
     ensures known { OnOk result (IsKnown news answer.old packet.entry.header
         packet.entry.«data».now answer.new) }
-    ensures end { OnOk result (end_of application.new ≡ end_of application.old) }
+    ensures end { OnOk result (own_end application.new ≡ own_end application.old) }
     ensures body { OnOk result ((goes : Body)
         → body_in (Some application.new) goes ≡ body_in (Some application.old) goes) }
     ensures fits { IsRoom news application.old.out packet.entry.header.length

@@ -8,10 +8,10 @@ ghost use Rattle.tds_relay.specs.Core.{change_end, closes, closes_for, end_at};
 ghost use Rattle.tds_relay.specs.Closings.{ClosesOnly, Itself, register_in};
 ghost use Rattle.tds_relay.specs.Queues.{queues_in};
 ghost use Rattle.tds_relay.specs.Ordering.{opens_in};
-ghost use Rattle.tds_relay.specs.Reads.{Stays};
+ghost use Rattle.tds_relay.specs.Reads.{LinksStay};
 ghost use Rattle.tds_relay.specs.Sparing.{OthersRest};
 ghost use Rattle.tds_relay.specs.Taking.{IsDeaf};
-ghost use Rattle.tds_relay.specs.Ties.{Application, Goes, IsReached, pool_in};
+ghost use Rattle.tds_relay.specs.Ties.{Application, LedTo, IsReached, pool_in};
 ghost use Rattle.tds_relay.specs.TokenParsers.{AllStand};
 
 use super::Relay;
@@ -21,14 +21,14 @@ use tds_front::FrontFault;
 impl Relay {
     /// Nothing more of an application is taken, and it is to be closed. Its connection is given back.
     pub(super) fn expel(&mut self, key: usize) -> Result<(), NoMemory>
-        ensures goes { OnOk result (Goes (Application key)
+        ensures goes { OnOk result (LedTo (Application key)
             (pool_in self.old.pool) (pool_in self.new.pool)) }
         ensures kept { OnOk result (queues_in self.new.applications
             ≡ queues_in self.old.applications) }
         ensures moves { OnOk result (Moved (Application key) (core_of_ends (pool_in self.old.pool)
             (change_end key closes (ends_in self.old.applications))) (core_in self.new)) }
         ensures over { OnOk result (IsDeaf (end_at (ends_in self.new.applications) key)) }
-        ensures read { OnOk result (Stays self.old.links.items self.new.links.items) }
+        ensures read { OnOk result (LinksStay self.old.links.items self.new.links.items) }
         ensures stand { OnOk result (AllStand self.old.pool.service
             self.new.pool.service) }
         ensures asks { OnOk result (AskOn self.old.applications self.new.applications) }
@@ -47,7 +47,7 @@ impl Relay {
     /// The same of one that did what the protocol doesn't allow, or of any other.
     #[tactic(auto, using(crate::proofs::steps::Reaching::reaches_left))]
     pub(super) fn expel_for(&mut self, key: usize, why: Option<FrontFault>) -> Result<(), NoMemory>
-        ensures goes { OnOk result (Goes (Application key)
+        ensures goes { OnOk result (LedTo (Application key)
             (pool_in self.old.pool) (pool_in self.new.pool)) }
         ensures kept { OnOk result (queues_in self.new.applications
             ≡ queues_in self.old.applications) }
@@ -55,7 +55,7 @@ impl Relay {
             (change_end key (closes_for why) (ends_in self.old.applications)))
             (core_in self.new)) }
         ensures over { OnOk result (IsDeaf (end_at (ends_in self.new.applications) key)) }
-        ensures read { OnOk result (Stays self.old.links.items self.new.links.items) }
+        ensures read { OnOk result (LinksStay self.old.links.items self.new.links.items) }
         ensures stand { OnOk result (AllStand self.old.pool.service
             self.new.pool.service) }
         ensures asks { OnOk result (AskOn self.old.applications self.new.applications) }

@@ -10,11 +10,11 @@ ghost use Rattle.tds_relay.specs.Few.{IsSeated, IsSeatedBehind};
 ghost use Rattle.tds_relay.specs.Fronts.{Moved, ends_in, core_in, core_of_ends, told_by};
 ghost use Rattle.tds_relay.specs.Handing.{heard_key};
 ghost use Rattle.tds_relay.specs.Queues.{queues_in};
-ghost use Rattle.tds_relay.specs.Reads.{Stays};
+ghost use Rattle.tds_relay.specs.Reads.{LinksStay};
 ghost use Rattle.tds_relay.specs.Reads.{FillsBy, reader_at, waits_on};
 ghost use Rattle.tds_relay.specs.Ordering.{StayOrdered, opens_in};
 ghost use Rattle.tds_relay.specs.Sparing.{OffGo};
-ghost use Rattle.tds_relay.specs.Ties.{Connection, Goes, IsReached, pool_in};
+ghost use Rattle.tds_relay.specs.Ties.{Connection, LedTo, IsReached, pool_in};
 ghost use Rattle.tds_relay.specs.Waiting.{IsNotAcknowledged, LosesAt};
 ghost use Rattle.tds_relay.specs.Waking.{HandsTo, IsWoken};
 ghost use Rattle.tds_relay.specs.TokenParsers.{AllStand};
@@ -26,14 +26,14 @@ use crate::pool::{Heard, What};
 impl Relay {
     /// What came of a packet is done; a header that isn't one loses its connection.
     pub(super) fn heard(&mut self, number: u64, heard: Option<Heard>) -> Result<(), NoMemory>
-        ensures goes { OnOk result (Goes (Connection number)
+        ensures goes { OnOk result (LedTo (Connection number)
             (pool_in self.old.pool) (pool_in self.new.pool)) }
         ensures kept { OnOk result (queues_in self.new.applications
             ≡ queues_in self.old.applications) }
         ensures moves { OnOk result (Moved (Connection number) (core_of_ends
             (pool_in self.old.pool) (told_by heard (ends_in self.old.applications)))
             (core_in self.new)) }
-        ensures read { OnOk result (Stays self.old.links.items self.new.links.items) }
+        ensures read { OnOk result (LinksStay self.old.links.items self.new.links.items) }
         ensures gone { IsNone heard → OnOk result (reader_at number self.new.links.items ≡ None) }
         ensures stand { OnOk result (AllStand self.old.pool.service
             self.new.pool.service) }
@@ -66,14 +66,14 @@ impl Relay {
 
     /// What came of a packet is done.
     fn heard_packet(&mut self, number: u64, heard: Heard) -> Result<(), NoMemory>
-        ensures goes { OnOk result (Goes (Connection number)
+        ensures goes { OnOk result (LedTo (Connection number)
             (pool_in self.old.pool) (pool_in self.new.pool)) }
         ensures kept { OnOk result (queues_in self.new.applications
             ≡ queues_in self.old.applications) }
         ensures moves { OnOk result (Moved (Connection number) (core_of_ends
             (pool_in self.old.pool) (told_by (Some heard) (ends_in self.old.applications)))
             (core_in self.new)) }
-        ensures read { OnOk result (Stays self.old.links.items self.new.links.items) }
+        ensures read { OnOk result (LinksStay self.old.links.items self.new.links.items) }
         ensures stand { OnOk result (AllStand self.old.pool.service
             self.new.pool.service) }
         ensures bodies { IsReached (pool_in self.old.pool)

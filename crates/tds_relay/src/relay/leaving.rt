@@ -10,15 +10,15 @@ ghost use Rattle.tds_relay.specs.Few.{Few, IsSeated, IsSeatedOff, NobodyWaits};
 ghost use Rattle.tds_relay.specs.Fronts.{LetsGoFirst, MovedOn, ends_in, core_in, machine_in};
 ghost use Rattle.tds_relay.specs.Core.{change_end, change_whose, closes, closes_for, holder, lets_go};
 ghost use Rattle.tds_relay.specs.Machine.{Steps, StepsOn};
-ghost use Rattle.tds_relay.specs.Closings.{ClosesOnly, IsWaiting, IsWho, Itself, Nobody, register_in, without_key};
+ghost use Rattle.tds_relay.specs.Closings.{ClosesOnly, IsWaiting, IsWho, Itself, NoKey, register_in, without_key};
 ghost use Rattle.tds_relay.specs.Waiting.{IsLentByParting, LosesOrLends};
 ghost use Rattle.tds_relay.specs.Law.{closing};
 ghost use Rattle.tds_relay.specs.Places.{held_by};
 ghost use Rattle.tds_relay.specs.Queues.{names_in, queues_in};
 ghost use Rattle.tds_relay.specs.Ordering.{GrowsByOrders, OpensNew, StayOrdered, opens_in};
-ghost use Rattle.tds_relay.specs.Reads.{Opens, Stays, queue_on, reader_at, waits_on};
+ghost use Rattle.tds_relay.specs.Reads.{Opens, LinksStay, queue_on, reader_at, waits_on};
 ghost use Rattle.tds_relay.specs.Sparing.{AllGo, AllRest, OthersRest};
-ghost use Rattle.tds_relay.specs.Ties.{Application, GoesOn, IsReached, Leaving, pool_in};
+ghost use Rattle.tds_relay.specs.Ties.{Application, LedOn, IsReached, Leaving, pool_in};
 ghost use Rattle.tds_relay.specs.TokenParsers.{AllStand};
 
 use super::Relay;
@@ -74,7 +74,7 @@ impl Relay {
     /// The connection of this number has ended, or couldn't be opened: its application is closed.
     #[tactic(auto, using(crate::proofs::steps::Reaching::reaches_turn, crate::proofs::steps::Reaching::reaches_turned))]
     pub fn lost(&mut self, number: u64) -> Result<(), NoMemory>
-        ensures lost { OnOk result (GoesOn (turn (pool_in self.old.pool) (Loses number)).pool
+        ensures lost { OnOk result (LedOn (turn (pool_in self.old.pool) (Loses number)).pool
             (pool_in self.new.pool)) }
         ensures steps { OnOk result (StepsOn (machine_in self.old) (machine_in self.new)) }
         ensures names { OnOk result (names_in self.new.applications
@@ -171,14 +171,14 @@ impl Relay {
             ≡ change_end key lets_go (ends_in self.old.applications)) }
         ensures line { OnOk result ((pool_in self.new.pool).line
             ≡ without key (pool_in self.old.pool).line) }
-        ensures read { OnOk result (Stays self.old.links.items self.new.links.items) }
+        ensures read { OnOk result (LinksStay self.old.links.items self.new.links.items) }
         ensures stand { OnOk result (AllStand self.old.pool.service
             self.new.pool.service) }
         ensures asks { OnOk result (AskOn self.old.applications self.new.applications) }
         ensures others { IsReached (pool_in self.old.pool)
             → OnOk result (OthersRest key self.old self.new) }
         ensures ordered { OnOk result (StayOrdered self.old.orders.items self.new.orders.items) }
-        ensures closes { OnOk result (ClosesOnly Nobody
+        ensures closes { OnOk result (ClosesOnly NoKey
             (register_in self.old) (register_in self.new)) }
         ensures ends { IsReached (pool_in self.old.pool) → OnOk result (OfItsHold WaitsAtEnd key
             self.old (λ number. waits_on number self.new.links.items)) }
@@ -213,13 +213,13 @@ impl Relay {
     /// A connection is of no use any more: it is closed, and its application with it.
     #[tactic(auto, using(crate::proofs::steps::Reaching::reaches_turn, crate::proofs::steps::Reaching::reaches_turned))]
     pub(super) fn lose(&mut self, number: u64) -> Result<(), NoMemory>
-        ensures lost { OnOk result (GoesOn (turn (pool_in self.old.pool) (Loses number)).pool
+        ensures lost { OnOk result (LedOn (turn (pool_in self.old.pool) (Loses number)).pool
             (pool_in self.new.pool)) }
-        ensures goes { OnOk result (GoesOn (pool_in self.old.pool) (pool_in self.new.pool)) }
+        ensures goes { OnOk result (LedOn (pool_in self.old.pool) (pool_in self.new.pool)) }
         ensures kept { OnOk result (queues_in self.new.applications
             ≡ queues_in self.old.applications) }
         ensures moves { OnOk result (MovedOn (core_in self.old) (core_in self.new)) }
-        ensures read { OnOk result (Stays self.old.links.items self.new.links.items) }
+        ensures read { OnOk result (LinksStay self.old.links.items self.new.links.items) }
         ensures gone { OnOk result (reader_at number self.new.links.items ≡ None) }
         ensures stand { OnOk result (AllStand self.old.pool.service
             self.new.pool.service) }
@@ -254,11 +254,11 @@ impl Relay {
     /// The same of a connection that this application holds.
     #[tactic(auto, using(crate::proofs::steps::Staying::stays_refl, crate::proofs::spared::Resting::all_refl, crate::proofs::spared::Apart::alone_refl, crate::proofs::spared::Ordered::ordered_refl))]
     pub(super) fn lose_own(&mut self, key: usize, number: u64) -> Result<(), NoMemory>
-        ensures goes { OnOk result (GoesOn (pool_in self.old.pool) (pool_in self.new.pool)) }
+        ensures goes { OnOk result (LedOn (pool_in self.old.pool) (pool_in self.new.pool)) }
         ensures kept { OnOk result (queues_in self.new.applications
             ≡ queues_in self.old.applications) }
         ensures moves { OnOk result (MovedOn (core_in self.old) (core_in self.new)) }
-        ensures read { OnOk result (Stays self.old.links.items self.new.links.items) }
+        ensures read { OnOk result (LinksStay self.old.links.items self.new.links.items) }
         ensures stand { OnOk result (AllStand self.old.pool.service
             self.new.pool.service) }
         ensures rests { IsReached (pool_in self.old.pool)
@@ -293,7 +293,7 @@ impl Relay {
             ≡ queues_in self.old.applications) }
         ensures ends { OnOk result (ends_in self.new.applications
             ≡ ends_in self.old.applications) }
-        ensures read { OnOk result (Stays self.old.links.items self.new.links.items) }
+        ensures read { OnOk result (LinksStay self.old.links.items self.new.links.items) }
         ensures gone { OnOk result (reader_at number self.new.links.items ≡ None) }
         ensures asks { OnOk result (AskAsBefore self.old.applications self.new.applications) }
         ensures others { OnOk result ((other : ℕ) → other ≢ number
@@ -302,7 +302,7 @@ impl Relay {
             → queue_on other self.new.links.items ≡ queue_on other self.old.links.items) }
         ensures ordered { OnOk result (StayOrdered self.old.orders.items self.new.orders.items) }
         ensures answers { OnOk result (KeepsAnswers self.old.links.items self.new.links.items) }
-        ensures closes { OnOk result (ClosesOnly Nobody
+        ensures closes { OnOk result (ClosesOnly NoKey
             (register_in self.old) (register_in self.new)) }
         ensures counts { cleaned_in self.new ≡ cleaned_in self.old }
         ensures opening { opens_in self.new.orders.items ≡ opens_in self.old.orders.items }
@@ -325,7 +325,7 @@ impl Relay {
             ≡ queues_in self.old.applications) }
         ensures ends { OnOk result (ends_in self.new.applications
             ≡ change_whose key closes (ends_in self.old.applications)) }
-        ensures read { OnOk result (Stays self.old.links.items self.new.links.items) }
+        ensures read { OnOk result (LinksStay self.old.links.items self.new.links.items) }
         ensures gone { OnOk result (reader_at number self.new.links.items ≡ None) }
         ensures asks { OnOk result (AskOn self.old.applications self.new.applications) }
         ensures others { OnOk result ((other : ℕ) → other ≢ number

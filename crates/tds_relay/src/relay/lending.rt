@@ -4,7 +4,7 @@ ghost use Rattle.slab.specs.Slab.{get};
 ghost use Rattle.tds_relay.specs.Apart.{Alone, AloneWho, LendsAfter, LendsInTurn, UnlessServed};
 ghost use Rattle.tds_relay.specs.Asking.{HasBegun, IsUnderway, waits_of};
 ghost use Rattle.tds_relay.specs.Bodies.{AskAsBefore, AskOn, Grows, Starts, GoesFrom, body_of, going_of, held_of, standing_in};
-ghost use Rattle.tds_relay.specs.Closings.{ClosesOnly, IsWaiting, IsWho, Itself, Nobody, WhoOrWaiting, register_in};
+ghost use Rattle.tds_relay.specs.Closings.{ClosesOnly, IsWaiting, IsWho, Itself, NoKey, WhoOrWaiting, register_in};
 ghost use Rattle.tds_relay.specs.Pool.{find_number, key_of};
 ghost use Rattle.tds_relay.specs.Lent.{FirstKeeps, IsOnItsOwn, IsWithHolder, LendsInLine, PutsOnly};
 ghost use Rattle.tds_relay.specs.Few.{Few, FewBy, IsSeated, IsSeatedIf, NobodyWaits};
@@ -15,14 +15,14 @@ ghost use Rattle.tds_relay.specs.Lent.{AllLast, BeginsOn, IsMade, IsMadeOn, Keep
 ghost use Rattle.tds_relay.specs.Waiting.{IsUnheldOrTurnedAway, IsLentInVain, OpensOrLends};
 ghost use Rattle.tds_relay.specs.Queues.{names_in, queues_in};
 ghost use Rattle.tds_relay.specs.Cutting.{at_its_beginning};
-ghost use Rattle.tds_relay.specs.Reads.{Opens, OpensOne, Stays, answer_at, named_seen, open_at, bytes_on, link_at, opened_at, opened_seen, queue_on, seen_at, waits_on};
+ghost use Rattle.tds_relay.specs.Reads.{Opens, OpensOne, LinksStay, answer_at, named_seen, open_at, bytes_on, link_at, opened_at, opened_seen, queue_on, seen_at, waits_on};
 ghost use Rattle.tds_relay.specs.Ordering.{GrowsByOrders, OpensNew, StayOrdered, opens_if, opens_in};
 ghost use Rattle.tds_relay.specs.Reasons.{CannotPut, CannotStartAt, HasNoRoom, IsTurnedAwayAt, IsUnheld, ItselfFor};
 ghost use Rattle.tds_relay.specs.Sending.{IsToWrite, called_at};
 ghost use Rattle.tds_relay.specs.Coming.{MayBeginAny};
 ghost use Rattle.tds_relay.specs.Sparing.{AllGo, AllRest, AwayRest, IsHeldBack, IsUnkept, OthersRest, StartsOn, StartsThere};
 ghost use Rattle.tds_relay.specs.Taking.{IsDeaf};
-ghost use Rattle.tds_relay.specs.Ties.{Goes, GoesOn, IsReached, pool_in};
+ghost use Rattle.tds_relay.specs.Ties.{LedTo, LedOn, IsReached, pool_in};
 ghost use Rattle.tds_relay.specs.Told.{TellsTheSame};
 ghost use Rattle.tds_relay.specs.Waiting.{GoesOrWaits};
 ghost use Rattle.tds_relay.specs.TokenParsers.{AllStand};
@@ -72,7 +72,7 @@ impl Relay {
 
     /// The connection of this number is open and logged in.
     pub fn opened(&mut self, number: u64) -> Result<(), NoMemory>
-        ensures goes { OnOk result (GoesOn (pool_in self.old.pool) (pool_in self.new.pool)) }
+        ensures goes { OnOk result (LedOn (pool_in self.old.pool) (pool_in self.new.pool)) }
         ensures steps { OnOk result (StepsOn (machine_in self.old) (machine_in self.new)) }
         ensures served { OnOk result (NobodyWaits self.new) }
         ensures few { OnOk result (Few self.old.most self.old.links.items
@@ -127,7 +127,7 @@ impl Relay {
         ensures orders { self.new.orders.items ≡ self.old.orders.items }
         ensures many { length self.new.links.items ≡ length self.old.links.items }
         ensures counts { cleaned_in self.new ≡ cleaned_in self.old }
-        ensures closes { ClosesOnly Nobody (register_in self.old) (register_in self.new) }
+        ensures closes { ClosesOnly NoKey (register_in self.old) (register_in self.new) }
     {
         set_open(&mut self.links, number);
     }
@@ -135,11 +135,11 @@ impl Relay {
     /// Asks what the application asks that holds a connection.
     #[tactic(auto, using(crate::proofs::steps::Staying::stays_refl, crate::proofs::spared::Resting::go_refl, crate::proofs::spared::Ordered::ordered_refl))]
     fn start_on(&mut self, number: u64) -> Result<(), NoMemory>
-        ensures goes { OnOk result (GoesOn (pool_in self.old.pool) (pool_in self.new.pool)) }
+        ensures goes { OnOk result (LedOn (pool_in self.old.pool) (pool_in self.new.pool)) }
         ensures kept { OnOk result (queues_in self.new.applications
             ≡ queues_in self.old.applications) }
         ensures moves { OnOk result (MovedOn (core_in self.old) (core_in self.new)) }
-        ensures read { OnOk result (Stays self.old.links.items self.new.links.items) }
+        ensures read { OnOk result (LinksStay self.old.links.items self.new.links.items) }
         ensures stand { OnOk result (AllStand self.old.pool.service
             self.new.pool.service) }
         ensures goes_on { OnOk result (AllGo self.old self.new) }
@@ -172,7 +172,7 @@ impl Relay {
     /// Lends connections to those who wait, in order, while there are any.
     #[tactic(auto, using(crate::proofs::steps::Staying::opens_refl, crate::proofs::steps::Reaching::reaches_turn, crate::proofs::steps::Reaching::reaches_turned, crate::proofs::spared::Resting::go_refl, crate::proofs::spared::Ordered::ordered_refl, crate::proofs::spared::Apart::unserved_refl, crate::proofs::spared::Lasting::last_start))]
     pub(super) fn serve_line(&mut self) -> Result<(), NoMemory>
-        ensures goes { OnOk result (GoesOn (pool_in self.old.pool) (pool_in self.new.pool)) }
+        ensures goes { OnOk result (LedOn (pool_in self.old.pool) (pool_in self.new.pool)) }
         ensures kept { OnOk result (queues_in self.new.applications
             ≡ queues_in self.old.applications) }
         ensures moves { OnOk result (MovedOn (core_in self.old) (core_in self.new)) }
@@ -218,7 +218,7 @@ impl Relay {
     /// A connection is lent to an application. One that nobody had is opened.
     #[tactic(auto, using(crate::proofs::steps::Reaching::reaches_turn, crate::proofs::steps::Reaching::reaches_turned))]
     fn lend(&mut self, served: Served) -> Result<(), NoMemory>
-        ensures goes { OnOk result (GoesOn (pool_in self.old.pool) (pool_in self.new.pool)) }
+        ensures goes { OnOk result (LedOn (pool_in self.old.pool) (pool_in self.new.pool)) }
         ensures kept { OnOk result (queues_in self.new.applications
             ≡ queues_in self.old.applications) }
         ensures moves { OnOk result (MovedOn (core_in self.old) (core_in self.new)) }
@@ -274,7 +274,7 @@ impl Relay {
         ensures same { self.new.applications ≡ self.old.applications }
         ensures kept { queues_in self.new.applications ≡ queues_in self.old.applications }
         ensures ends { ends_in self.new.applications ≡ ends_in self.old.applications }
-        ensures read { Stays self.old.links.items self.new.links.items }
+        ensures read { LinksStay self.old.links.items self.new.links.items }
         ensures begins { answer_at number self.new.links.items
             ≡ option_map at_its_beginning (answer_at number self.old.links.items) }
         ensures any { MayBeginAny self.old.links.items self.new.links.items }
@@ -284,7 +284,7 @@ impl Relay {
             ≡ queue_on other self.old.links.items }
         ensures rests { AllRest self.old self.new }
         ensures orders { self.new.orders.items ≡ self.old.orders.items }
-        ensures closes { ClosesOnly Nobody (register_in self.old) (register_in self.new) }
+        ensures closes { ClosesOnly NoKey (register_in self.old) (register_in self.new) }
         ensures lasts { AllLast self.old.links.items self.new.links.items }
         ensures counts { cleaned_in self.new ≡ cleaned_in self.old }
         ensures others { (other : ℕ) → other ≢ number → answer_at other self.new.links.items
@@ -297,7 +297,7 @@ impl Relay {
     /// what it took back.
     #[tactic(auto, using(crate::proofs::steps::Reaching::reaches_turn, crate::proofs::steps::Reaching::reaches_turned, crate::proofs::steps::Underway::of_none, crate::proofs::steps::Underway::of_over, crate::proofs::steps::Underway::drains, crate::proofs::bytes::Calls::stand_on, crate::proofs::spared::Resting::others_refl, crate::proofs::spared::Ordered::ordered_refl, crate::proofs::spared::Apart::alone_refl))]
     pub(super) fn start(&mut self, key: usize) -> Result<(), NoMemory>
-        ensures goes { OnOk result (GoesOn (pool_in self.old.pool) (pool_in self.new.pool)) }
+        ensures goes { OnOk result (LedOn (pool_in self.old.pool) (pool_in self.new.pool)) }
         ensures kept { OnOk result (queues_in self.new.applications
             ≡ queues_in self.old.applications) }
         ensures moves { OnOk result (IsReset (pool_in self.old.pool) key
@@ -306,7 +306,7 @@ impl Relay {
             → MovedOn (core_in self.old) (core_in self.new)) }
         ensures underway { (whole : Bool) → waits_of (get self.old.applications key) ≡ Some whole
             → OnOk result (IsUnderway whole self.new.links.items key (core_in self.new)) }
-        ensures read { OnOk result (Stays self.old.links.items self.new.links.items) }
+        ensures read { OnOk result (LinksStay self.old.links.items self.new.links.items) }
         ensures stand { OnOk result (AllStand self.old.pool.service
             self.new.pool.service) }
         ensures body { OnOk result (Starts (body_of key self.old) (body_of key self.new)) }
@@ -360,12 +360,12 @@ impl Relay {
 
     /// A connection that an application holds doesn't take its request: both are closed.
     pub(super) fn fail(&mut self, key: usize, number: u64) -> Result<(), NoMemory>
-        ensures goes { OnOk result (GoesOn (pool_in self.old.pool) (pool_in self.new.pool)) }
+        ensures goes { OnOk result (LedOn (pool_in self.old.pool) (pool_in self.new.pool)) }
         ensures kept { OnOk result (queues_in self.new.applications
             ≡ queues_in self.old.applications) }
         ensures moves { OnOk result (MovedOn (core_in self.old) (core_in self.new)) }
         ensures over { OnOk result (IsDeaf (end_at (ends_in self.new.applications) key)) }
-        ensures read { OnOk result (Stays self.old.links.items self.new.links.items) }
+        ensures read { OnOk result (LinksStay self.old.links.items self.new.links.items) }
         ensures stand { OnOk result (AllStand self.old.pool.service
             self.new.pool.service) }
         ensures rests { IsReached (pool_in self.old.pool)

@@ -2,7 +2,7 @@
 ghost use Rattle.std.specs.Prelude.{◌≡◌, OnOk, false, true};
 ghost use Rattle.tds_relay.specs.Apart.{LendsInTurn, UnlessServed};
 ghost use Rattle.tds_relay.specs.Cleaning.{cleaned_in};
-ghost use Rattle.tds_relay.specs.Closings.{ClosesOnly, IsWaiting, Nobody};
+ghost use Rattle.tds_relay.specs.Closings.{ClosesOnly, IsWaiting, NoKey};
 ghost use Rattle.tds_relay.specs.Closings.{register_in, with_most};
 ghost use Rattle.tds_relay.specs.Lent.{LastBut, PutsOnly};
 ghost use Rattle.tds_relay.specs.Waiting.{IsLentInVain};
@@ -12,7 +12,7 @@ ghost use Rattle.tds_relay.specs.Ordering.{GrowsByOrders, OpensNew, StayOrdered}
 ghost use Rattle.tds_relay.specs.Queues.{queues_in};
 ghost use Rattle.tds_relay.specs.Reads.{Opens};
 ghost use Rattle.tds_relay.specs.Sparing.{AllGo};
-ghost use Rattle.tds_relay.specs.Ties.{GoesOn, IsReached, pool_in};
+ghost use Rattle.tds_relay.specs.Ties.{LedOn, IsReached, pool_in};
 ghost use Rattle.tds_relay.specs.TokenParsers.{AllStand};
 
 use super::Relay;
@@ -23,7 +23,7 @@ impl Relay {
     /// before, those who wait are lent them; where more are there than may be, none is closed, and none is opened
     /// until fewer are.
     pub fn set_most(&mut self, most: usize) -> Result<(), NoMemory>
-        ensures goes { OnOk result (GoesOn (pool_in self.old.pool) (pool_in self.new.pool)) }
+        ensures goes { OnOk result (LedOn (pool_in self.old.pool) (pool_in self.new.pool)) }
         ensures kept { OnOk result (queues_in self.new.applications
             ≡ queues_in self.old.applications) }
         ensures moves { OnOk result (MovedOn (core_in self.old) (core_in self.new)) }
@@ -46,7 +46,7 @@ impl Relay {
         ensures opening { OnOk result (OpensNew self.old self.new) }
         ensures many { OnOk result (GrowsByOrders self.old self.new) }
         ensures puts { IsReached (pool_in self.old.pool)
-            → OnOk result (PutsOnly Nobody self.old self.new) }
+            → OnOk result (PutsOnly NoKey self.old self.new) }
     {
         self.most = most;
         self.serve_line()

@@ -8,7 +8,7 @@ ghost use Rattle.tds_relay.specs.Lent.{LastBesides, PutsOnly};
 ghost use Rattle.tds_relay.specs.Waiting.{IsLentByParting};
 ghost use Rattle.tds_relay.specs.Few.{Few, IsSeated, NobodyWaits};
 ghost use Rattle.tds_relay.specs.Fronts.{ends_in, core_in, machine_in};
-ghost use Rattle.tds_relay.specs.Core.{IsAway, change_end, holder, lets_go};
+ghost use Rattle.tds_relay.specs.Core.{IsThereAndAway, change_end, holder, lets_go};
 ghost use Rattle.tds_relay.specs.Machine.{IsLedTo, Steps};
 ghost use Rattle.tds_relay.specs.Ordering.{GrowsByOrders, OpensNew, StayOrdered};
 ghost use Rattle.tds_relay.specs.Parking.{may_park_in};
@@ -16,7 +16,7 @@ ghost use Rattle.tds_relay.specs.Places.{held_by};
 ghost use Rattle.tds_relay.specs.Queues.{queues_in};
 ghost use Rattle.tds_relay.specs.Reads.{Opens};
 ghost use Rattle.tds_relay.specs.Sparing.{AllGo};
-ghost use Rattle.tds_relay.specs.Ties.{Application, Goes, IsReached, Leaving, Parking, pool_in};
+ghost use Rattle.tds_relay.specs.Ties.{Application, LedTo, IsReached, Leaving, Parking, pool_in};
 ghost use Rattle.tds_relay.specs.TokenParsers.{AllStand};
 
 use super::Relay;
@@ -38,8 +38,8 @@ impl Relay {
         ensures left { IfOk result (λ is. is ≡ true
             → Leaving key (pool_in self.old.pool) (pool_in self.new.pool)) }
         ensures away { (sharing : Sharing) → IsLedTo sharing (machine_in self.old)
-            → IfOk result (λ is. is ≡ true → IsAway (core_in self.new) key) }
-        ensures goes { OnOk result (Goes (Application key)
+            → IfOk result (λ is. is ≡ true → IsThereAndAway (core_in self.new) key) }
+        ensures goes { OnOk result (LedTo (Application key)
             (pool_in self.old.pool) (pool_in self.new.pool)) }
         ensures steps { OnOk result (Steps (Parking key) (machine_in self.old)
             (machine_in self.new)) }

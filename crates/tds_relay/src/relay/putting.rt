@@ -3,7 +3,7 @@ ghost use Rattle.std.specs.Prelude.{◌≡◌, IfOk, OnOk, Some, false, true};
 ghost use Rattle.tds_relay.specs.Apart.{Alone};
 ghost use Rattle.tds_relay.specs.Asking.{IsUnderway, SendsOn};
 ghost use Rattle.tds_relay.specs.Bodies.{AskAsBefore, ClientPuts, Grows, PutsOn, body_of, going_of, held_of};
-ghost use Rattle.tds_relay.specs.Closings.{ClosesOnly, Nobody, register_in};
+ghost use Rattle.tds_relay.specs.Closings.{ClosesOnly, NoKey, register_in};
 ghost use Rattle.tds_relay.specs.Pool.{find_key};
 ghost use Rattle.tds_relay.specs.declared.pool.Hold.{Hold};
 ghost use Rattle.tds_relay.specs.Lent.{IsOnItsOwn, KeepsAnswers, LastOrDeaf};
@@ -11,10 +11,10 @@ ghost use Rattle.tds_relay.specs.Fronts.{MayPut, MovedOn, ends_in, goes_by, core
 ghost use Rattle.tds_relay.specs.Core.{IfOpen, change_end, end_at};
 ghost use Rattle.tds_relay.specs.Ordering.{StayOrdered, opens_in};
 ghost use Rattle.tds_relay.specs.Queues.{queues_in};
-ghost use Rattle.tds_relay.specs.Reads.{Stays};
+ghost use Rattle.tds_relay.specs.Reads.{LinksStay};
 ghost use Rattle.tds_relay.specs.Reasons.{CannotPut, IsReason, IsUnbegun, IsUntaken, ItselfFor};
 ghost use Rattle.tds_relay.specs.Sparing.{IsUnkept, OthersHold, OthersRest};
-ghost use Rattle.tds_relay.specs.Ties.{GoesOn, IsReached, pool_in};
+ghost use Rattle.tds_relay.specs.Ties.{LedOn, IsReached, pool_in};
 ghost use Rattle.tds_relay.specs.TokenParsers.{AllStand};
 ghost use Rattle.tds_relay.specs.Few.{IsSeated, KeepsSeats};
 ghost use Rattle.tds_relay.specs.Cleaning.{cleaned_in};
@@ -31,13 +31,13 @@ impl Relay {
     /// Puts bytes of a request on its connection, and its end.
     #[tactic(auto, using(crate::proofs::steps::Reaching::reaches_turn, crate::proofs::steps::Reaching::reaches_turned))]
     pub(super) fn put(&mut self, key: usize, bytes: &[u8], whole: bool) -> Result<(), NoMemory>
-        ensures goes { OnOk result (GoesOn (pool_in self.old.pool) (pool_in self.new.pool)) }
+        ensures goes { OnOk result (LedOn (pool_in self.old.pool) (pool_in self.new.pool)) }
         ensures kept { OnOk result (queues_in self.new.applications
             ≡ queues_in self.old.applications) }
         ensures moves { OnOk result (MovedOn (core_in self.old) (core_in self.new)) }
         ensures underway { OnOk result (IsUnderway whole self.new.links.items key
             (core_in self.new)) }
-        ensures read { OnOk result (Stays self.old.links.items self.new.links.items) }
+        ensures read { OnOk result (LinksStay self.old.links.items self.new.links.items) }
         ensures stand { OnOk result (AllStand self.old.pool.service
             self.new.pool.service) }
         ensures body { OnOk result (PutsOn whole bytes.now key self.old self.new) }
@@ -79,13 +79,13 @@ impl Relay {
     /// Puts what is kept of a request on its connection.
     #[tactic(auto, using(crate::proofs::steps::Queueing::kept_more, crate::proofs::steps::Queueing::queues_kept, crate::proofs::steps::Fronts::ends_more, crate::proofs::steps::Fronts::ends_kept, crate::proofs::steps::Underway::of_none, crate::proofs::spared::Resting::others_refl, crate::proofs::spared::Ordered::ordered_refl, crate::proofs::spared::Apart::alone_refl))]
     pub(super) fn put_held(&mut self, key: usize, whole: bool) -> Result<(), NoMemory>
-        ensures goes { OnOk result (GoesOn (pool_in self.old.pool) (pool_in self.new.pool)) }
+        ensures goes { OnOk result (LedOn (pool_in self.old.pool) (pool_in self.new.pool)) }
         ensures kept { OnOk result (queues_in self.new.applications
             ≡ queues_in self.old.applications) }
         ensures moves { OnOk result (MovedOn (core_in self.old) (core_in self.new)) }
         ensures underway { OnOk result (IsUnderway whole self.new.links.items key
             (core_in self.new)) }
-        ensures read { OnOk result (Stays self.old.links.items self.new.links.items) }
+        ensures read { OnOk result (LinksStay self.old.links.items self.new.links.items) }
         ensures stand { OnOk result (AllStand self.old.pool.service
             self.new.pool.service) }
         ensures body { OnOk result (Grows whole (held_of (get self.old.applications key))
@@ -137,7 +137,7 @@ impl Relay {
         ensures asks { AskAsBefore self.old.applications self.new.applications }
         ensures outbox { self.new.outbox.items ≡ self.old.outbox.items }
         ensures orders { self.new.orders.items ≡ self.old.orders.items }
-        ensures closes { ClosesOnly Nobody (register_in self.old) (register_in self.new) }
+        ensures closes { ClosesOnly NoKey (register_in self.old) (register_in self.new) }
         ensures counts { cleaned_in self.new ≡ cleaned_in self.old }
     {
         if self.outbox.is_empty() {
@@ -158,7 +158,7 @@ fn put_on(
     whole: bool,
     out: &mut Vec<u8>,
 ) -> Result<bool, NoMemory>
-    ensures goes { OnOk result (GoesOn (pool_in pool.old) (pool_in pool.new)) }
+    ensures goes { OnOk result (LedOn (pool_in pool.old) (pool_in pool.new)) }
     ensures puts { OnOk result (MayPut key whole (pool_in pool.old) (pool_in pool.new)
         out.old.items out.new.items) }
     ensures sends { IfOk result (λ is. is ≡ true → SendsOn whole (pool_in pool.new) key) }

@@ -10,10 +10,10 @@ ghost use Rattle.tds_relay.specs.Fronts.{Moved, ends_in, core_in};
 ghost use Rattle.tds_relay.specs.Core.{AsksFor, IfOpen, IfWhose, IsBegun, MayPart, end_at, holder};
 ghost use Rattle.tds_relay.specs.Ordering.{StayOrdered, opens_in};
 ghost use Rattle.tds_relay.specs.Queues.{queues_in};
-ghost use Rattle.tds_relay.specs.Reads.{Stays};
+ghost use Rattle.tds_relay.specs.Reads.{LinksStay};
 ghost use Rattle.tds_relay.specs.Reasons.{CannotMove, ResumesNotAt};
 ghost use Rattle.tds_relay.specs.Sparing.{IsKept, OffGo};
-ghost use Rattle.tds_relay.specs.Ties.{Connection, Goes, IsReached, pool_in};
+ghost use Rattle.tds_relay.specs.Ties.{Connection, LedTo, IsReached, pool_in};
 ghost use Rattle.tds_relay.specs.Waiting.{Resumes, StandsInLine};
 ghost use Rattle.tds_relay.specs.TokenParsers.{AllStand};
 ghost use Rattle.tds_relay.specs.Few.{IsSeated};
@@ -25,13 +25,13 @@ use crate::pool::Renewed;
 impl Relay {
     /// The server has acknowledged that an application's request was taken back: its next one goes on.
     pub(super) fn resume(&mut self, number: u64, key: usize) -> Result<(), NoMemory>
-        ensures goes { OnOk result (Goes (Connection number)
+        ensures goes { OnOk result (LedTo (Connection number)
             (pool_in self.old.pool) (pool_in self.new.pool)) }
         ensures kept { OnOk result (queues_in self.new.applications
             ≡ queues_in self.old.applications) }
         ensures moves { OnOk result (Moved (Connection number) (core_in self.old)
             (core_in self.new)) }
-        ensures read { OnOk result (Stays self.old.links.items self.new.links.items) }
+        ensures read { OnOk result (LinksStay self.old.links.items self.new.links.items) }
         ensures stand { OnOk result (AllStand self.old.pool.service
             self.new.pool.service) }
         ensures bodies { IsReached (pool_in self.old.pool)
@@ -71,14 +71,14 @@ impl Relay {
     /// The application keeps its connection with its transaction, for a request that has waited.
     #[tactic(auto, using(crate::proofs::steps::Reaching::reaches_turn))]
     fn keep(&mut self, number: u64, key: usize) -> Result<(), NoMemory>
-        ensures goes { OnOk result (Goes (Connection number)
+        ensures goes { OnOk result (LedTo (Connection number)
             (pool_in self.old.pool) (pool_in self.new.pool)) }
         ensures kept { OnOk result (queues_in self.new.applications
             ≡ queues_in self.old.applications) }
         ensures moves { OnOk result (AsksFor KeepTransaction
             (end_at (ends_in self.old.applications) key)
             → Moved (Connection number) (core_in self.old) (core_in self.new)) }
-        ensures read { OnOk result (Stays self.old.links.items self.new.links.items) }
+        ensures read { OnOk result (LinksStay self.old.links.items self.new.links.items) }
         ensures stand { OnOk result (AllStand self.old.pool.service
             self.new.pool.service) }
         ensures bodies { IsReached (pool_in self.old.pool)
@@ -108,13 +108,13 @@ impl Relay {
     /// for another, if it may be parted from it.
     #[tactic(auto, using(crate::proofs::steps::Reaching::reaches_turn))]
     fn replace(&mut self, number: u64) -> Result<(), NoMemory>
-        ensures goes { OnOk result (Goes (Connection number)
+        ensures goes { OnOk result (LedTo (Connection number)
             (pool_in self.old.pool) (pool_in self.new.pool)) }
         ensures kept { OnOk result (queues_in self.new.applications
             ≡ queues_in self.old.applications) }
         ensures moves { OnOk result (Moved (Connection number) (core_in self.old)
             (core_in self.new)) }
-        ensures read { OnOk result (Stays self.old.links.items self.new.links.items) }
+        ensures read { OnOk result (LinksStay self.old.links.items self.new.links.items) }
         ensures stand { OnOk result (AllStand self.old.pool.service
             self.new.pool.service) }
         ensures bodies { IsReached (pool_in self.old.pool)

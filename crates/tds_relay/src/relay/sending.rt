@@ -5,7 +5,7 @@ ghost use Rattle.slab.specs.Slab.{get};
 ghost use Rattle.tds_relay.specs.Apart.{Alone, SparesOthers};
 ghost use Rattle.tds_relay.specs.Bodies.{AskAsBefore, AskOn};
 ghost use Rattle.tds_relay.specs.Bounds.{most_for};
-ghost use Rattle.tds_relay.specs.Closings.{ClosesOnly, IsWho, Nobody, register_in, times_closed};
+ghost use Rattle.tds_relay.specs.Closings.{ClosesOnly, IsWho, NoKey, register_in, times_closed};
 ghost use Rattle.tds_relay.specs.Pool.{find_number};
 ghost use Rattle.tds_relay.specs.Fronts.{MovedOn, ends_in, core_in, machine_in};
 ghost use Rattle.tds_relay.specs.Core.{holder};
@@ -15,10 +15,10 @@ ghost use Rattle.tds_relay.specs.Ordering.{StayOrdered, opens_in};
 ghost use Rattle.tds_relay.specs.Queues.{change, queue_at, queues_in, unsent_of, without_first};
 ghost use Rattle.tds_relay.specs.Reasons.{HasNoRoom, IsOverfull, ItselfFor};
 ghost use Rattle.tds_relay.specs.Law.{waiting_on};
-ghost use Rattle.tds_relay.specs.Reads.{FillsBy, Sees, Stays, queue_on, waits_on};
+ghost use Rattle.tds_relay.specs.Reads.{FillsBy, HoldsOnLinks, LinksStay, queue_on, waits_on};
 ghost use Rattle.tds_relay.specs.Sending.{IsToWrite, called_at};
 ghost use Rattle.tds_relay.specs.Sparing.{AllRest, SendsOn};
-ghost use Rattle.tds_relay.specs.Ties.{GoesOn, IsReached, Neither, pool_in};
+ghost use Rattle.tds_relay.specs.Ties.{LedOn, IsReached, Neither, pool_in};
 ghost use Rattle.tds_relay.specs.Told.{TellsTheSame, held_name, holder_name, is_there};
 ghost use Rattle.tds_relay.specs.Waking.{IsWoken};
 ghost use Rattle.tds_relay.specs.TokenParsers.{AllStand};
@@ -98,7 +98,7 @@ impl Relay {
         ensures pool { self.new.pool ≡ self.old.pool }
         ensures kept { queues_in self.new.applications ≡ queues_in self.old.applications }
         ensures ends { ends_in self.new.applications ≡ ends_in self.old.applications }
-        ensures read { Sees self.old.links.items self.new.links.items }
+        ensures read { HoldsOnLinks self.old.links.items self.new.links.items }
         ensures answers { KeepsAnswers self.old.links.items self.new.links.items }
         ensures sent { waits_on number self.new.links.items
             ≡ option_map (drop count) (waits_on number self.old.links.items) }
@@ -130,7 +130,7 @@ impl Relay {
             ≡ queues_in self.old.applications) }
         ensures ends { OnOk result (ends_in self.new.applications
             ≡ ends_in self.old.applications) }
-        ensures read { OnOk result (Stays self.old.links.items self.new.links.items) }
+        ensures read { OnOk result (LinksStay self.old.links.items self.new.links.items) }
         ensures asks { OnOk result (AskAsBefore self.old.applications self.new.applications) }
         ensures waits { IfOk result (λ fits. fits ≡ true
             → waits_on number self.new.links.items ≡ option_map
@@ -146,7 +146,7 @@ impl Relay {
             → queue_on other self.new.links.items ≡ queue_on other self.old.links.items) }
         ensures ordered { OnOk result (StayOrdered self.old.orders.items self.new.orders.items) }
         ensures answers { OnOk result (KeepsAnswers self.old.links.items self.new.links.items) }
-        ensures closes { OnOk result (ClosesOnly Nobody
+        ensures closes { OnOk result (ClosesOnly NoKey
             (register_in self.old) (register_in self.new)) }
         ensures lasts { OnOk result (AllLast self.old.links.items self.new.links.items) }
         ensures counts { cleaned_in self.new ≡ cleaned_in self.old }
@@ -168,11 +168,11 @@ impl Relay {
     /// What the pool has to send on a connection waits there. One for which more would wait than may is
     /// closed.
     pub(super) fn send_on(&mut self, number: u64) -> Result<(), NoMemory>
-        ensures goes { OnOk result (GoesOn (pool_in self.old.pool) (pool_in self.new.pool)) }
+        ensures goes { OnOk result (LedOn (pool_in self.old.pool) (pool_in self.new.pool)) }
         ensures kept { OnOk result (queues_in self.new.applications
             ≡ queues_in self.old.applications) }
         ensures moves { OnOk result (MovedOn (core_in self.old) (core_in self.new)) }
-        ensures read { OnOk result (Stays self.old.links.items self.new.links.items) }
+        ensures read { OnOk result (LinksStay self.old.links.items self.new.links.items) }
         ensures stand { OnOk result (AllStand self.old.pool.service
             self.new.pool.service) }
         ensures asks { OnOk result (AskOn self.old.applications self.new.applications) }
@@ -204,13 +204,13 @@ impl Relay {
 
     /// The same of one that nobody holds: it is counted as cleaned, or as closed instead.
     pub(super) fn send_unheld(&mut self, number: u64) -> Result<(), NoMemory>
-        ensures goes { OnOk result (GoesOn (pool_in self.old.pool) (pool_in self.new.pool)) }
+        ensures goes { OnOk result (LedOn (pool_in self.old.pool) (pool_in self.new.pool)) }
         ensures kept { OnOk result (queues_in self.new.applications
             ≡ queues_in self.old.applications) }
         ensures moves { OnOk result (MovedOn (core_in self.old) (core_in self.new)) }
         ensures ends { OnOk result (ends_in self.new.applications
             ≡ ends_in self.old.applications) }
-        ensures read { OnOk result (Stays self.old.links.items self.new.links.items) }
+        ensures read { OnOk result (LinksStay self.old.links.items self.new.links.items) }
         ensures stand { OnOk result (AllStand self.old.pool.service
             self.new.pool.service) }
         ensures asks { OnOk result (AskOn self.old.applications self.new.applications) }
@@ -222,7 +222,7 @@ impl Relay {
         ensures puts { find_number number (pool_in self.old.pool).holds ≡ None
             → OnOk result (FillsBy self.old.outbox.items
             (waits_on number self.old.links.items) (waits_on number self.new.links.items)) }
-        ensures closes { OnOk result (ClosesOnly Nobody
+        ensures closes { OnOk result (ClosesOnly NoKey
             (register_in self.old) (register_in self.new)) }
         ensures seated { IsSeated self.old → OnOk result (IsSeated self.new) }
         ensures others { OnOk result ((other : ℕ) → other ≢ number
@@ -294,7 +294,7 @@ impl Relay {
             self.new.orders.items) }
         ensures times { OnOk result ((tag : ℕ) → times_closed tag self.new.orders.items
             ≡ times_closed tag self.old.orders.items) }
-        ensures closes { OnOk result (ClosesOnly Nobody
+        ensures closes { OnOk result (ClosesOnly NoKey
             (register_in self.old) (register_in self.new)) }
         ensures counts { cleaned_in self.new ≡ cleaned_in self.old }
         ensures opening { opens_in self.new.orders.items ≡ opens_in self.old.orders.items }

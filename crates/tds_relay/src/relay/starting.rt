@@ -12,10 +12,10 @@ ghost use Rattle.tds_relay.specs.Anew.{ResetsFor};
 ghost use Rattle.tds_relay.specs.Core.{IfOpen, IfOpenAsks, IsBegun, IsReset, end_at};
 ghost use Rattle.tds_relay.specs.Ordering.{StayOrdered, opens_in};
 ghost use Rattle.tds_relay.specs.Queues.{queues_in};
-ghost use Rattle.tds_relay.specs.Reads.{Stays, open_at, waits_on};
+ghost use Rattle.tds_relay.specs.Reads.{LinksStay, open_at, waits_on};
 ghost use Rattle.tds_relay.specs.Reasons.{IsReadyThere, IsUnbegun, ItselfFor};
 ghost use Rattle.tds_relay.specs.Sparing.{IsHeldBack, IsKept, IsUnkept, OthersRest, StartsThere};
-ghost use Rattle.tds_relay.specs.Ties.{GoesOn, IsReached, pool_in};
+ghost use Rattle.tds_relay.specs.Ties.{LedOn, IsReached, pool_in};
 ghost use Rattle.tds_relay.specs.Waiting.{GoesOrWaits, IsUnheldOrTurnedAway};
 ghost use Rattle.tds_relay.specs.TokenParsers.{AllStand};
 ghost use Rattle.tds_relay.specs.Few.{IsSeated};
@@ -31,13 +31,13 @@ impl Relay {
     /// acknowledged, the reset that it asks for must be done there with it; else both are closed.
     #[tactic(auto, using(crate::proofs::spared::Ordered::ordered_refl))]
     pub(super) fn start_kept(&mut self, key: usize) -> Result<(), NoMemory>
-        ensures goes { OnOk result (GoesOn (pool_in self.old.pool) (pool_in self.new.pool)) }
+        ensures goes { OnOk result (LedOn (pool_in self.old.pool) (pool_in self.new.pool)) }
         ensures kept { OnOk result (queues_in self.new.applications
             ≡ queues_in self.old.applications) }
         ensures moves { OnOk result (MovedOn (core_in self.old) (core_in self.new)) }
         ensures underway { (whole : Bool) → waits_of (get self.old.applications key) ≡ Some whole
             → OnOk result (IsUnderway whole self.new.links.items key (core_in self.new)) }
-        ensures read { OnOk result (Stays self.old.links.items self.new.links.items) }
+        ensures read { OnOk result (LinksStay self.old.links.items self.new.links.items) }
         ensures stand { OnOk result (AllStand self.old.pool.service
             self.new.pool.service) }
         ensures body { OnOk result (Starts (body_of key self.old) (body_of key self.new)) }

@@ -7,19 +7,19 @@ ghost use Rattle.tds_relay.specs.Anew.{AsksNothing};
 ghost use Rattle.tds_relay.specs.Bodies.{AskAsBefore, AskOn, Body, Halts, IsStoppedOnce, IsHalting, IsUnsent};
 ghost use Rattle.tds_relay.specs.Bodies.{Nowhere, Spared, Starts, StopsOn, body_in, body_of};
 ghost use Rattle.tds_relay.specs.Bodies.{PutsNothing, going_of, standing_in};
-ghost use Rattle.tds_relay.specs.Closings.{ClosesOnly, Nobody, register_in};
+ghost use Rattle.tds_relay.specs.Closings.{ClosesOnly, NoKey, register_in};
 ghost use Rattle.tds_relay.specs.Pool.{Does, Stops, Unwaits, find_key};
 ghost use Rattle.tds_relay.specs.declared.pool.Hold.{Hold};
 ghost use Rattle.tds_relay.specs.Fronts.{FedOn, Moved, MovedOn, ends_in, core_in, core_of_ends, withdraws};
-ghost use Rattle.tds_relay.specs.Core.{Ends, IfOpen, IsHere, change_end, end_at};
+ghost use Rattle.tds_relay.specs.Core.{EndList, IfOpen, IsHere, change_end, end_at};
 ghost use Rattle.tds_relay.specs.Lent.{OthersKeepAt};
 ghost use Rattle.tds_relay.specs.Waiting.{IsRightlyKept};
 ghost use Rattle.tds_relay.specs.Queues.{acknowledgement, give, queue_at, queues_in};
-ghost use Rattle.tds_relay.specs.Reads.{Stays};
+ghost use Rattle.tds_relay.specs.Reads.{LinksStay};
 ghost use Rattle.tds_relay.specs.Reasons.{CannotForget, CannotStop, CannotUnask, HasNoRoom};
 ghost use Rattle.tds_relay.specs.Reasons.{IsOverfull, IsUnheld, IsUnstopped, ItselfFor};
 ghost use Rattle.tds_relay.specs.Sparing.{OthersRest};
-ghost use Rattle.tds_relay.specs.Ties.{Application, Goes, GoesOn, IsReached, Turns, pool_in};
+ghost use Rattle.tds_relay.specs.Ties.{Application, LedTo, LedOn, IsReached, Turns, pool_in};
 ghost use Rattle.tds_relay.specs.TokenParsers.{AllStand};
 ghost use Rattle.tds_relay.specs.Few.{IsSeated};
 ghost use Rattle.tds_relay.specs.Ordering.{opens_in};
@@ -38,13 +38,13 @@ const ACKNOWLEDGED: [u8; 21] = [
 impl Relay {
     /// What has come of its request is forgotten. Nothing of it has gone on.
     pub(super) fn forget(&mut self, key: usize) -> Result<(), NoMemory>
-        ensures goes { OnOk result (Goes (Application key)
+        ensures goes { OnOk result (LedTo (Application key)
             (pool_in self.old.pool) (pool_in self.new.pool)) }
         ensures kept { OnOk result (queues_in self.new.applications
             ≡ queues_in self.old.applications) }
         ensures moves { OnOk result (IfOpen AsksNothing (end_at (ends_in self.old.applications) key)
             → Moved (Application key) (core_in self.old) (core_in self.new)) }
-        ensures read { OnOk result (Stays self.old.links.items self.new.links.items) }
+        ensures read { OnOk result (LinksStay self.old.links.items self.new.links.items) }
         ensures stand { OnOk result (AllStand self.old.pool.service
             self.new.pool.service) }
         ensures body { OnOk result ((goes : Body)
@@ -69,7 +69,7 @@ impl Relay {
 
     /// What has come of its request is forgotten. Answers whether that was asked on a connection.
     fn forget_request(&mut self, key: usize) -> bool
-        ensures goes { Goes (Application key) (pool_in self.old.pool) (pool_in self.new.pool) }
+        ensures goes { LedTo (Application key) (pool_in self.old.pool) (pool_in self.new.pool) }
         ensures kept { queues_in self.new.applications ≡ queues_in self.old.applications }
         ensures ends { ends_in self.new.applications ≡ ends_in self.old.applications }
         ensures turns { Turns (Unwaits key) (pool_in self.old.pool) (pool_in self.new.pool) [] [] }
@@ -79,7 +79,7 @@ impl Relay {
         ensures stand { AllStand self.old.pool.service self.new.pool.service }
         ensures body { (goes : Body)
             → Starts Nowhere (body_in (get self.new.applications key) goes) }
-        ensures closes { ClosesOnly Nobody (register_in self.old) (register_in self.new) }
+        ensures closes { ClosesOnly NoKey (register_in self.old) (register_in self.new) }
         ensures others { OthersRest key self.old self.new }
         ensures asked { result ≡ true
             → (goes : Body) → Spared goes (body_in (get self.old.applications key) goes) }
@@ -98,13 +98,13 @@ impl Relay {
 
     /// A request that was asked, and of which nothing has gone on, isn't asked any more.
     fn unask(&mut self, key: usize) -> Result<(), NoMemory>
-        ensures goes { OnOk result (Goes (Application key)
+        ensures goes { OnOk result (LedTo (Application key)
             (pool_in self.old.pool) (pool_in self.new.pool)) }
         ensures kept { OnOk result (queues_in self.new.applications
             ≡ queues_in self.old.applications) }
         ensures moves { OnOk result (Moved (Application key) (core_in self.old)
             (core_in self.new)) }
-        ensures read { OnOk result (Stays self.old.links.items self.new.links.items) }
+        ensures read { OnOk result (LinksStay self.old.links.items self.new.links.items) }
         ensures stand { OnOk result (AllStand self.old.pool.service
             self.new.pool.service) }
         ensures asks { OnOk result (AskOn self.old.applications self.new.applications) }
@@ -136,14 +136,14 @@ impl Relay {
     /// What has come of its request is forgotten, of which something has gone on: the server is to forget it
     /// too, and its acknowledgement is nobody's.
     pub(super) fn take_back(&mut self, key: usize) -> Result<(), NoMemory>
-        ensures goes { OnOk result (Goes (Application key)
+        ensures goes { OnOk result (LedTo (Application key)
             (pool_in self.old.pool) (pool_in self.new.pool)) }
         ensures kept { OnOk result (queues_in self.new.applications
             ≡ queues_in self.old.applications) }
         ensures moves { OnOk result (IfOpen AsksNothing (end_at (ends_in self.old.applications) key)
             → FedOn key (Forget true) (pool_in self.old.pool) (ends_in self.old.applications)
             (core_in self.new)) }
-        ensures read { OnOk result (Stays self.old.links.items self.new.links.items) }
+        ensures read { OnOk result (LinksStay self.old.links.items self.new.links.items) }
         ensures stand { OnOk result (AllStand self.old.pool.service
             self.new.pool.service) }
         ensures body { OnOk result ((goes : Body)
@@ -172,13 +172,13 @@ impl Relay {
 
     /// An attention goes out for what an application has asked. Answers on which connection, if it does.
     fn stop(&mut self, key: usize) -> Result<Option<u64>, NoMemory>
-        ensures goes { Goes (Application key) (pool_in self.old.pool) (pool_in self.new.pool) }
+        ensures goes { LedTo (Application key) (pool_in self.old.pool) (pool_in self.new.pool) }
         ensures kept { queues_in self.new.applications ≡ queues_in self.old.applications }
         ensures ends { ends_in self.new.applications ≡ ends_in self.old.applications }
         ensures some { IfOk result (λ stopped. IfSome stopped (λ number. (before after : List ℕ)
             × Turns (Does key Stops) (pool_in self.old.pool) (pool_in self.new.pool) before
             after)) }
-        ensures moves { (ends : Ends) → IfOpen IsHere (end_at ends key) → Moved (Application key)
+        ensures moves { (ends : EndList) → IfOpen IsHere (end_at ends key) → Moved (Application key)
             (core_of_ends (pool_in self.old.pool) ends)
             (core_of_ends (pool_in self.new.pool) ends) }
         ensures links { self.new.links.items ≡ self.old.links.items }
@@ -188,7 +188,7 @@ impl Relay {
             IsHalting number key self.old self.new)) }
         ensures none { IfOk result (λ stopped. IfNone stopped
             (IsUnstopped key self.old.pool)) }
-        ensures closes { ClosesOnly Nobody (register_in self.old) (register_in self.new) }
+        ensures closes { ClosesOnly NoKey (register_in self.old) (register_in self.new) }
         ensures others { IsReached (pool_in self.old.pool)
             → OthersRest key self.old self.new }
         ensures seated { IsSeated self.old → IsSeated self.new }
@@ -220,7 +220,7 @@ impl Relay {
         ensures links { self.new.links.items ≡ self.old.links.items }
         ensures outbox { self.new.outbox.items ≡ self.old.outbox.items }
         ensures asks { AskAsBefore self.old.applications self.new.applications }
-        ensures closes { ClosesOnly Nobody (register_in self.old) (register_in self.new) }
+        ensures closes { ClosesOnly NoKey (register_in self.old) (register_in self.new) }
         ensures opening { opens_in self.new.orders.items ≡ opens_in self.old.orders.items }
     {
         match self.applications.get_mut(key) {
@@ -253,13 +253,13 @@ impl Relay {
 
     /// The server acknowledges an attention.
     pub(super) fn hand_on(&mut self, key: usize) -> Result<(), NoMemory>
-        ensures goes { OnOk result (Goes (Application key)
+        ensures goes { OnOk result (LedTo (Application key)
             (pool_in self.old.pool) (pool_in self.new.pool)) }
         ensures kept { OnOk result (queues_in self.new.applications
             ≡ queues_in self.old.applications) }
         ensures moves { OnOk result (FedOn key HandOn (pool_in self.old.pool)
             (ends_in self.old.applications) (core_in self.new)) }
-        ensures read { OnOk result (Stays self.old.links.items self.new.links.items) }
+        ensures read { OnOk result (LinksStay self.old.links.items self.new.links.items) }
         ensures stand { OnOk result (AllStand self.old.pool.service
             self.new.pool.service) }
         ensures body { OnOk result (Halts (body_of key self.old) (body_of key self.new)) }
@@ -283,11 +283,11 @@ impl Relay {
     /// What a cancel puts out waits on the connection of this number, which the application holds. Where more
     /// would wait than may, both are closed.
     fn send_stop(&mut self, key: usize, number: u64) -> Result<(), NoMemory>
-        ensures goes { OnOk result (GoesOn (pool_in self.old.pool) (pool_in self.new.pool)) }
+        ensures goes { OnOk result (LedOn (pool_in self.old.pool) (pool_in self.new.pool)) }
         ensures kept { OnOk result (queues_in self.new.applications
             ≡ queues_in self.old.applications) }
         ensures moves { OnOk result (MovedOn (core_in self.old) (core_in self.new)) }
-        ensures read { OnOk result (Stays self.old.links.items self.new.links.items) }
+        ensures read { OnOk result (LinksStay self.old.links.items self.new.links.items) }
         ensures stand { OnOk result (AllStand self.old.pool.service
             self.new.pool.service) }
         ensures sends { OnOk result (StopsOn number key self.old self.new) }

@@ -3,15 +3,15 @@ ghost use Rattle.std.specs.Prelude.{◌≡◌, ◌≢◌, ℕ, None, Some, false
 ghost use Rattle.std.specs.Prelude.{IfOk, OnOk};
 ghost use Rattle.slab.specs.Slab.{get};
 ghost use Rattle.tds_relay.specs.Bodies.{AskAsBefore, Body, Spared, body_in};
-ghost use Rattle.tds_relay.specs.Closings.{ClosesOnly, Nobody, register_in};
+ghost use Rattle.tds_relay.specs.Closings.{ClosesOnly, NoKey, register_in};
 ghost use Rattle.tds_relay.specs.Cleaning.{cleaned_in};
 ghost use Rattle.tds_relay.specs.Coming.{MayBeDone};
 ghost use Rattle.tds_relay.specs.Fronts.{ends_in};
-ghost use Rattle.tds_relay.specs.Core.{change_end, change_whose, end_at, told};
+ghost use Rattle.tds_relay.specs.Core.{change_end, change_whose, end_at, end_told};
 ghost use Rattle.tds_relay.specs.Machine.{is_said};
 ghost use Rattle.tds_relay.specs.Reasons.{HasTakenBack};
 ghost use Rattle.tds_relay.specs.Queues.{queues_in};
-ghost use Rattle.tds_relay.specs.Reads.{Stays};
+ghost use Rattle.tds_relay.specs.Reads.{LinksStay};
 ghost use Rattle.tds_relay.specs.Ordering.{StayOrdered, opens_in};
 ghost use Rattle.tds_relay.specs.Waking.{HandsTo};
 ghost use Rattle.tds_relay.specs.declared.pool.coming.What.TheVariants as whats;
@@ -28,8 +28,8 @@ impl Relay {
         ensures kept { OnOk result (queues_in self.new.applications
             ≡ queues_in self.old.applications) }
         ensures ends { OnOk result (ends_in self.new.applications
-            ≡ change_whose heard.key (told heard.what) (ends_in self.old.applications)) }
-        ensures read { OnOk result (Stays self.old.links.items self.new.links.items) }
+            ≡ change_whose heard.key (end_told heard.what) (ends_in self.old.applications)) }
+        ensures read { OnOk result (LinksStay self.old.links.items self.new.links.items) }
         ensures asks { OnOk result (MayBeDone self.old.applications self.new.applications) }
         ensures ordered { OnOk result (StayOrdered self.old.orders.items self.new.orders.items) }
         ensures silent { IfOk result (λ resumes. resumes ≡ true → (key : ℕ)
@@ -72,13 +72,13 @@ impl Relay {
         ensures pool { self.new.pool ≡ self.old.pool }
         ensures kept { queues_in self.new.applications ≡ queues_in self.old.applications }
         ensures ends { ends_in self.new.applications
-            ≡ change_end key (told whats.Goes) (ends_in self.old.applications) }
+            ≡ change_end key (end_told whats.Goes) (ends_in self.old.applications) }
         ensures links { self.new.links.items ≡ self.old.links.items }
         ensures orders { self.new.orders.items ≡ self.old.orders.items }
         ensures outbox { self.new.outbox.items ≡ self.old.outbox.items }
         ensures asks { AskAsBefore self.old.applications self.new.applications }
         ensures counts { cleaned_in self.new ≡ cleaned_in self.old }
-        ensures closes { ClosesOnly Nobody (register_in self.old) (register_in self.new) }
+        ensures closes { ClosesOnly NoKey (register_in self.old) (register_in self.new) }
     {
         match self.applications.get_mut(key) {
             Some(application) => application.goes_on(),
@@ -91,13 +91,13 @@ impl Relay {
         ensures pool { self.new.pool ≡ self.old.pool }
         ensures kept { queues_in self.new.applications ≡ queues_in self.old.applications }
         ensures ends { ends_in self.new.applications
-            ≡ change_end key (told whats.Finished) (ends_in self.old.applications) }
+            ≡ change_end key (end_told whats.Finished) (ends_in self.old.applications) }
         ensures links { self.new.links.items ≡ self.old.links.items }
         ensures orders { self.new.orders.items ≡ self.old.orders.items }
         ensures outbox { self.new.outbox.items ≡ self.old.outbox.items }
         ensures asks { MayBeDone self.old.applications self.new.applications }
         ensures counts { cleaned_in self.new ≡ cleaned_in self.old }
-        ensures closes { ClosesOnly Nobody (register_in self.old) (register_in self.new) }
+        ensures closes { ClosesOnly NoKey (register_in self.old) (register_in self.new) }
         ensures others { (other : ℕ) → other ≢ key
             → get self.new.applications other ≡ get self.old.applications other }
     {
@@ -112,7 +112,7 @@ impl Relay {
         ensures pool { self.new.pool ≡ self.old.pool }
         ensures kept { queues_in self.new.applications ≡ queues_in self.old.applications }
         ensures ends { ends_in self.new.applications
-            ≡ change_end key (told whats.Acknowledged) (ends_in self.old.applications) }
+            ≡ change_end key (end_told whats.Acknowledged) (ends_in self.old.applications) }
         ensures links { self.new.links.items ≡ self.old.links.items }
         ensures orders { self.new.orders.items ≡ self.old.orders.items }
         ensures outbox { self.new.outbox.items ≡ self.old.outbox.items }
@@ -122,7 +122,7 @@ impl Relay {
         ensures resumes { result ≡ true
             → HasTakenBack (Some key) (ends_in self.old.applications) }
         ensures counts { cleaned_in self.new ≡ cleaned_in self.old }
-        ensures closes { ClosesOnly Nobody (register_in self.old) (register_in self.new) }
+        ensures closes { ClosesOnly NoKey (register_in self.old) (register_in self.new) }
         ensures others { (other : ℕ) → other ≢ key
             → get self.new.applications other ≡ get self.old.applications other }
     {

@@ -2,7 +2,7 @@
 ghost use Rattle.std.specs.Prelude.{◌≡◌, ◌≤◌, ◌<◌, [], IfOk, IfErr, Bool, drop, length};
 ghost use Rattle.tds_wire.specs.Reading.{next_token};
 ghost use Rattle.tds_service.specs.Packets.{awaiting};
-ghost use Rattle.tds_service.specs.Parts.{told};
+ghost use Rattle.tds_service.specs.Parts.{items_told};
 ghost use Rattle.tds_service.specs.Line as line;
 ghost use Rattle.tds_service.specs.Ties.{Hears, Stands, items_of, line_in, part_of};
 
@@ -24,7 +24,7 @@ impl Connection {
             × ((line_in self.old).stage ≡ awaiting cancelling) }
         ensures ok { IfOk result (λ count. 0 < count → Hears
             (part_of (next_token self.old.parser piece.now)) (line_in self.old)
-            (line_in self.new) line.More (told (items_of token.new))) }
+            (line_in self.new) line.More (items_told (items_of token.new))) }
         ensures fault { IfErr result (λ fault. Hears
             (part_of (next_token self.old.parser piece.now)) (line_in self.old)
             (line_in self.new) (line.Fault (ListenFault.Client fault)) []) }

@@ -12,7 +12,7 @@ ghost use Rattle.tds_service.specs.Beginning.{MakesAlike};
 ghost use Rattle.tds_service.specs.Index.{holders_in};
 ghost use Rattle.tds_service.specs.Rising.{numbers_in};
 ghost use Rattle.tds_service.specs.Sizes.{KeepsSize, sizes_in};
-ghost use Rattle.tds_service.specs.Table.{Answers, DoesAt, Keeps, KeepsClients, Opens, Refuses};
+ghost use Rattle.tds_service.specs.Table.{Answers, DoesAt, Keeps, KeepsClients, BeginsMessage, Denies};
 ghost use Rattle.tds_service.specs.Table.{RefusedBy, Steps, CancelsOut};
 ghost use Rattle.tds_service.specs.Table.{puts_on, reading_by, service_in};
 ghost use Rattle.tds_service.specs.Ties.{Does, DoesAll, answer_to, asked_answer, cancel_answer, finishing};
@@ -159,9 +159,9 @@ impl Service {
             (service_in self.new) calls.Did done.number [] []) }
         ensures names { IfOk result (λ done. (descriptor : ℕ) × Answers (calls.Ask lease)
             (service_in self.old) (line.Asked done.request descriptor)) }
-        ensures opened { OnOk result (Opens kind lease self.old self.new) }
+        ensures opened { OnOk result (BeginsMessage kind lease self.old self.new) }
         ensures clients { OnOk result (KeepsClients lease self.old self.new) }
-        ensures refused { IfErr result (Refuses (calls.Ask lease) (service_in self.old)) }
+        ensures refused { IfErr result (Denies (calls.Ask lease) (service_in self.old)) }
         ensures err { OnErr result (self.new ≡ self.old) }
         ensures keeps { Keeps self.old self.new }
         ensures sizes { KeepsSize self.old self.new }
@@ -184,7 +184,7 @@ impl Service {
             self.old self.new out.old.items out.new.items) }
         ensures clients { OnOk result (KeepsClients lease self.old self.new) }
         ensures refused { IfErr result (λ refusal. (count : ℕ)
-            → Refuses (calls.Put lease count) (service_in self.old) refusal) }
+            → Denies (calls.Put lease count) (service_in self.old) refusal) }
         ensures err { OnErr result (self.new ≡ self.old) }
         ensures nothing { OnErr result (out.new.items ≡ out.old.items) }
         ensures keeps { Keeps self.old self.new }
@@ -206,7 +206,7 @@ impl Service {
             out.old.items out.new.items) }
         ensures clients { OnOk result (KeepsClients lease self.old self.new) }
         ensures refused { IfErr result (λ refusal. (count : ℕ)
-            → Refuses (calls.Finish lease count) (service_in self.old) refusal) }
+            → Denies (calls.Finish lease count) (service_in self.old) refusal) }
         ensures err { OnErr result (self.new ≡ self.old) }
         ensures nothing { OnErr result (out.new.items ≡ out.old.items) }
         ensures keeps { Keeps self.old self.new }
@@ -229,7 +229,7 @@ impl Service {
         // Of a request that is out in part an end of its type, with the next number, goes before.
         ensures stops { OnOk result (CancelsOut lease self.old out.old.items out.new.items) }
         ensures clients { OnOk result (KeepsClients lease self.old self.new) }
-        ensures refused { IfErr result (Refuses (calls.Cancel lease) (service_in self.old)) }
+        ensures refused { IfErr result (Denies (calls.Cancel lease) (service_in self.old)) }
         ensures err { OnErr result (self.new ≡ self.old) }
         ensures nothing { OnErr result (out.new.items ≡ out.old.items) }
         ensures keeps { Keeps self.old self.new }

@@ -2,7 +2,7 @@
 ghost use Rattle.std.specs.Prelude.{◌≡◌, ◌≢◌, ◌<◌, ◌≤◌, ◌+◌, ◌++◌, ℕ, List, [], true, false, length, Some, slice_index_or, slice_set, vec_len};
 ghost use Rattle.std.specs.Prelude.{vec_capacity, IfOk, IfErr, OnOk, OnErr};
 ghost use Rattle.tds_listen.specs.Hearing.{tokens_in};
-ghost use Rattle.tds_wire.specs.Reading.{Reading};
+ghost use Rattle.tds_wire.specs.Reading.{Parser};
 ghost use Rattle.tds_wire.specs.declared.told.Token.{Token};
 ghost use Rattle.tds_service.specs.declared.seat.Seat.{Seat as CodeSeat};
 ghost use Rattle.tds_service.specs.Line as line;
@@ -15,7 +15,7 @@ ghost use Rattle.tds_service.specs.Rising.{numbers_in};
 ghost use Rattle.tds_service.specs.Sizes.{KeepsSize, sizes_in};
 ghost use Rattle.tds_service.specs.Table.{Comes, ComesUntold, IsNewest, KeepsClientsOff, KeepsOthers};
 ghost use Rattle.tds_service.specs.Table.{ReadsAt};
-ghost use Rattle.tds_service.specs.Table.{Refuses, place_of};
+ghost use Rattle.tds_service.specs.Table.{Denies, place_of};
 ghost use Rattle.tds_service.specs.Table.{reading_by, reading_on, service_in};
 ghost use Rattle.tds_service.specs.Ties.{Hears, line_in};
 
@@ -115,19 +115,19 @@ impl Service {
         tells: bool,
         told: &mut Vec<Token>,
     ) -> Result<Came, Refusal>
-        ensures ok { IfOk result (λ came. (r : Reading) × (reading_on number self.old ≡ Some r)
+        ensures ok { IfOk result (λ came. (r : Parser) × (reading_on number self.old ≡ Some r)
             × (tokens : List Token) × Comes (service_in self.old) (service_in self.new) number
             (packet_part r bytes.now ends) came.lease came.request
             (outcome_answer came.request came.outcome) [] tokens
             × (told.new.items ≡ told.old.items ++ noted tells tokens)) }
-        ensures reads { IfOk result (λ came. (r : Reading) → reading_on number self.old ≡ Some r
-            → (next : Reading) × (reading_on number self.new ≡ Some next)
+        ensures reads { IfOk result (λ came. (r : Parser) → reading_on number self.old ≡ Some r
+            → (next : Parser) × (reading_on number self.new ≡ Some next)
             × Reads came.outcome ends (tokens_in r bytes.now).stop next) }
         ensures asked { IfOk result (λ came. IsNewest number came.request (service_in self.old)) }
         ensures others { KeepsOthers number self.old self.new }
         ensures clients { OnOk result (KeepsClientsOff number self.old self.new) }
-        ensures refused { IfErr result (λ refusal. (r : Reading)
-            → Refuses (calls.Came number (packet_part r bytes.now ends)) (service_in self.old)
+        ensures refused { IfErr result (λ refusal. (r : Parser)
+            → Denies (calls.Came number (packet_part r bytes.now ends)) (service_in self.old)
             refusal) }
         ensures unknown { IfErr result (λ refusal. tells ≡ false → refusal ≡ Refusal.Unknown) }
         ensures memory { IfErr result (λ refusal. refusal ≡ Refusal.Memory
@@ -159,18 +159,18 @@ impl Service {
         ends: bool,
         told: &mut Vec<Token>,
     ) -> Result<Came, Refusal>
-        ensures ok { IfOk result (λ came. (r : Reading) × (reading_on number self.old ≡ Some r)
+        ensures ok { IfOk result (λ came. (r : Parser) × (reading_on number self.old ≡ Some r)
             × Comes (service_in self.old) (service_in self.new) number
             (packet_part r bytes.now ends) came.lease came.request
             (outcome_answer came.request came.outcome) told.old.items told.new.items) }
-        ensures reads { IfOk result (λ came. (r : Reading) → reading_on number self.old ≡ Some r
-            → (next : Reading) × (reading_on number self.new ≡ Some next)
+        ensures reads { IfOk result (λ came. (r : Parser) → reading_on number self.old ≡ Some r
+            → (next : Parser) × (reading_on number self.new ≡ Some next)
             × Reads came.outcome ends (tokens_in r bytes.now).stop next) }
         ensures asked { IfOk result (λ came. IsNewest number came.request (service_in self.old)) }
         ensures others { KeepsOthers number self.old self.new }
         ensures clients { OnOk result (KeepsClientsOff number self.old self.new) }
-        ensures refused { IfErr result (λ refusal. (r : Reading)
-            → Refuses (calls.Came number (packet_part r bytes.now ends)) (service_in self.old)
+        ensures refused { IfErr result (λ refusal. (r : Parser)
+            → Denies (calls.Came number (packet_part r bytes.now ends)) (service_in self.old)
             refusal) }
         ensures memory { IfErr result (λ refusal. refusal ≡ Refusal.Memory
             → ReadsAt (find_by (has_number number) (service_in self.old).seats)) }
@@ -185,18 +185,18 @@ impl Service {
     /// The same for a caller that wants no tokens: of what comes it is told the outcome, and whose it
     /// is. It takes no memory, and only a number that isn't known is refused.
     pub fn heard(&mut self, number: u64, bytes: &[u8], ends: bool) -> Result<Came, Refusal>
-        ensures ok { IfOk result (λ came. (r : Reading) × (reading_on number self.old ≡ Some r)
+        ensures ok { IfOk result (λ came. (r : Parser) × (reading_on number self.old ≡ Some r)
             × ComesUntold (service_in self.old) (service_in self.new) number
             (packet_part r bytes.now ends) came.lease came.request
             (outcome_answer came.request came.outcome)) }
-        ensures reads { IfOk result (λ came. (r : Reading) → reading_on number self.old ≡ Some r
-            → (next : Reading) × (reading_on number self.new ≡ Some next)
+        ensures reads { IfOk result (λ came. (r : Parser) → reading_on number self.old ≡ Some r
+            → (next : Parser) × (reading_on number self.new ≡ Some next)
             × Reads came.outcome ends (tokens_in r bytes.now).stop next) }
         ensures asked { IfOk result (λ came. IsNewest number came.request (service_in self.old)) }
         ensures others { KeepsOthers number self.old self.new }
         ensures clients { OnOk result (KeepsClientsOff number self.old self.new) }
-        ensures refused { IfErr result (λ refusal. (r : Reading)
-            → Refuses (calls.Came number (packet_part r bytes.now ends)) (service_in self.old)
+        ensures refused { IfErr result (λ refusal. (r : Parser)
+            → Denies (calls.Came number (packet_part r bytes.now ends)) (service_in self.old)
             refusal) }
         ensures unknown { IfErr result (λ refusal. refusal ≡ Refusal.Unknown) }
         ensures err { OnErr result (self.new ≡ self.old) }

@@ -9,7 +9,7 @@ ghost use Rattle.tds_service.specs.Beginning.{MakesAlike};
 ghost use Rattle.tds_service.specs.Rising.{RiseFrom, numbers_in};
 ghost use Rattle.tds_service.specs.Sizes.{KeepsSize, sizes_in};
 ghost use Rattle.tds_service.specs.Table.{IsAt, Keeps, KeepsBy, KeepsClients, KeepsClientsOff};
-ghost use Rattle.tds_service.specs.Table.{KeepsOthers, Refuses, Steps, CancelsOut, client_of};
+ghost use Rattle.tds_service.specs.Table.{KeepsOthers, Denies, Steps, CancelsOut, client_of};
 ghost use Rattle.tds_service.specs.Table.{reading_by, rest_of, seat_in, service_in, without_closed};
 ghost use Rattle.tds_service.specs.Ties.{DoesAll, answer_to, line_in, cancel_out};
 
@@ -182,7 +182,7 @@ impl Service {
             (service_in self.new) (calls.Back (rest_of done.1)) done.0
             out.old.items out.new.items) }
         ensures stops { OnOk result (CancelsOut lease self.old out.old.items out.new.items) }
-        ensures refused { IfErr result (Refuses (calls.GiveBack lease) (service_in self.old)) }
+        ensures refused { IfErr result (Denies (calls.GiveBack lease) (service_in self.old)) }
         ensures err { OnErr result (service_in self.new ≡ service_in self.old) }
         ensures same { OnErr result (self.new ≡ self.old) }
         ensures nothing { OnErr result (out.new.items ≡ out.old.items) }
@@ -211,7 +211,7 @@ impl Service {
     pub fn cleaned(&mut self, lease: u64) -> Result<(u64, Rest), Refusal>
         ensures ok { IfOk result (λ done. Steps (calls.Cleaned lease) (service_in self.old)
             (service_in self.new) (calls.Back (rest_of done.1)) done.0 [] []) }
-        ensures refused { IfErr result (Refuses (calls.Cleaned lease) (service_in self.old)) }
+        ensures refused { IfErr result (Denies (calls.Cleaned lease) (service_in self.old)) }
         ensures err { OnErr result (service_in self.new ≡ service_in self.old) }
         ensures same { OnErr result (self.new ≡ self.old) }
         ensures keeps { IfOk result (λ done. KeepsBy done.1 done.0 self.old self.new) }
@@ -237,7 +237,7 @@ impl Service {
     pub fn keep(&mut self, lease: u64) -> Result<u64, Refusal>
         ensures ok { IfOk result (λ ticket. (number : ℕ) × Steps (calls.Keep lease)
             (service_in self.old) (service_in self.new) (calls.Ticket ticket) number [] []) }
-        ensures refused { IfErr result (Refuses (calls.Keep lease) (service_in self.old)) }
+        ensures refused { IfErr result (Denies (calls.Keep lease) (service_in self.old)) }
         ensures err { OnErr result (service_in self.new ≡ service_in self.old) }
         ensures same { OnErr result (self.new ≡ self.old) }
         ensures keeps { Keeps self.old self.new }
@@ -263,7 +263,7 @@ impl Service {
     pub fn abandon(&mut self, ticket: u64) -> Result<(u64, Rest), Refusal>
         ensures ok { IfOk result (λ done. Steps (calls.Abandon ticket) (service_in self.old)
             (service_in self.new) (calls.Back (rest_of done.1)) done.0 [] []) }
-        ensures refused { IfErr result (Refuses (calls.Abandon ticket) (service_in self.old)) }
+        ensures refused { IfErr result (Denies (calls.Abandon ticket) (service_in self.old)) }
         ensures err { OnErr result (service_in self.new ≡ service_in self.old) }
         ensures same { OnErr result (self.new ≡ self.old) }
         ensures keeps { IfOk result (λ done. KeepsBy done.1 done.0 self.old self.new) }
@@ -287,7 +287,7 @@ impl Service {
     pub fn lost(&mut self, number: u64) -> Result<(), Refusal>
         ensures ok { OnOk result (Steps (calls.Lost number) (service_in self.old)
             (service_in self.new) (calls.Back None) number [] []) }
-        ensures refused { IfErr result (Refuses (calls.Lost number) (service_in self.old)) }
+        ensures refused { IfErr result (Denies (calls.Lost number) (service_in self.old)) }
         ensures err { OnErr result (service_in self.new ≡ service_in self.old) }
         ensures same { OnErr result (self.new ≡ self.old) }
         ensures unknown { IfErr result (λ refusal. refusal ≡ Refusal.Unknown) }

@@ -8,7 +8,7 @@ ghost use Rattle.tds_service.specs.Service.{has_number, is_lendable, opens};
 ghost use Rattle.tds_service.specs.Beginning.{BeginsAt, MakesAlike};
 ghost use Rattle.tds_service.specs.Rising.{numbers_in};
 ghost use Rattle.tds_service.specs.Sizes.{KeepsSize, sizes_in};
-ghost use Rattle.tds_service.specs.Table.{Keeps, KeepsClients, Opened, Refuses, RefusesIn};
+ghost use Rattle.tds_service.specs.Table.{Keeps, KeepsClients, Opened, Denies, RefusesIn};
 ghost use Rattle.tds_service.specs.Table.{Steps, reading_by, seat_in, service_in};
 ghost use Rattle.tds_service.specs.Ties.{Does, answer_to, line_in};
 
@@ -157,7 +157,7 @@ impl Service {
         ensures ok { IfOk result (λ lent. Steps calls.Lease (service_in self.old)
             (service_in self.new) (calls.Lent lent.lease lent.number lent.had)
             (if lent.had then lent.number else 0) [] []) }
-        ensures refused { IfErr result (Refuses calls.Lease (service_in self.old)) }
+        ensures refused { IfErr result (Denies calls.Lease (service_in self.old)) }
         ensures err { OnErr result (service_in self.new ≡ service_in self.old) }
         ensures keeps { Keeps self.old self.new }
         ensures clients { KeepsClients (self.old.given + 1) self.old self.new }
@@ -190,7 +190,7 @@ impl Service {
     pub fn resume(&mut self, ticket: u64) -> Result<Lent, Refusal>
         ensures ok { IfOk result (λ lent. Steps (calls.Resume ticket) (service_in self.old)
             (service_in self.new) (calls.Lent lent.lease lent.number lent.had) lent.number [] []) }
-        ensures refused { IfErr result (Refuses (calls.Resume ticket) (service_in self.old)) }
+        ensures refused { IfErr result (Denies (calls.Resume ticket) (service_in self.old)) }
         ensures err { OnErr result (service_in self.new ≡ service_in self.old) }
         ensures same { OnErr result (self.new ≡ self.old) }
         ensures keeps { Keeps self.old self.new }
@@ -221,7 +221,7 @@ impl Service {
     pub fn clean(&mut self, number: u64) -> Result<Lent, Refusal>
         ensures ok { IfOk result (λ lent. Steps (calls.Clean number) (service_in self.old)
             (service_in self.new) (calls.Lent lent.lease lent.number lent.had) lent.number [] []) }
-        ensures refused { IfErr result (Refuses (calls.Clean number) (service_in self.old)) }
+        ensures refused { IfErr result (Denies (calls.Clean number) (service_in self.old)) }
         ensures err { OnErr result (service_in self.new ≡ service_in self.old) }
         ensures same { OnErr result (self.new ≡ self.old) }
         ensures keeps { Keeps self.old self.new }

@@ -3,8 +3,8 @@ use Rattle.std.proofs.Common.{◌≡◌, ℕ, zero, suc, ◌+◌, pos, Bool, tru
 use Rattle.std.specs.List.{All}
 use Rattle.std.proofs.lemmas.Bool.Decides.{nat_tests}
 use Rattle.std.proofs.lemmas.List.Elements.{All-nil, All-cons}
-use Rattle.tds_session.specs.Session.{SessionState, value_of, begun, ended, last_descriptor}
-use Rattle.tds_session.specs.Effects.{message, error, done, begin_by, end_by}
+use Rattle.tds_session.specs.Session.{SessionState, value_of, transacting, out_of_transaction, last_descriptor}
+use Rattle.tds_session.specs.Effects.{message, error_token, done, begin_by, end_by}
 use Rattle.tds_session.specs.Script.{with_more, rows_from, result_set, row_column, step_of}
 use Rattle.tds_session.specs.Lawful.{IsEffect, IsStatementDone, IsNoReset}
 use Rattle.tds_session.specs.declared.statement.Statement.{Statement}
@@ -25,8 +25,8 @@ done_more : IsStatementDone (done 1)
 done_more = (refl, refl)
 
 -- an ERROR alone
-error_is : (number : ℕ) (text : List ℕ) (s : SessionState) → IsEffect s (record { tokens = error number text ∷ []; after = s })
-error_is number text s = record { some = lit< tt; applies = refl; resets = All-nil IsNoReset; dones = one IsStatementDone (error number text) tt }
+error_is : (number : ℕ) (text : List ℕ) (s : SessionState) → IsEffect s (record { tokens = error_token number text ∷ []; after = s })
+error_is number text s = record { some = lit< tt; applies = refl; resets = All-nil IsNoReset; dones = one IsStatementDone (error_token number text) tt }
 
 -- a change of the transaction and a DONE
 change_is : (s after : SessionState) (change : EnvChange) → IsNoReset change → change_applied no_reset s.descriptor change ≡ Some after.descriptor
@@ -41,18 +41,18 @@ change_is s after change h e = record {
 begin_is : (outside used_up : Bool) (s : SessionState) → (s.descriptor == 0) ≡ outside → IsEffect s (with_more (begin_by outside used_up s))
 begin_is false used_up s e = error_is 50002 (codes "in transaction") s
 begin_is true true s e = error_is 50004 (codes "no descriptor") s
-begin_is true false s e = change_is s (begun s) (change.Begin s.next_descriptor) tt (ap (λ (b : Bool). if b then Some s.next_descriptor else None) e)
+begin_is true false s e = change_is s (transacting s) (change.Begin s.next_descriptor) tt (ap (λ (b : Bool). if b then Some s.next_descriptor else None) e)
 
 found_again : (d : ℕ) → if◌then◌else◌ {A = Option ℕ} (d == d) (Some 0) None ≡ Some 0
 found_again d = let e : (d == d) ≡ true = grind (arith, nat_tests) in ap (λ (b : Bool). if◌then◌else◌ {A = Option ℕ} b (Some 0) None) e
 
 commit_is : (outside : Bool) (s : SessionState) → IsEffect s (with_more (end_by outside change.Commit s))
 commit_is true s = error_is 50003 (codes "no transaction") s
-commit_is false s = change_is s (ended s) (change.Commit s.descriptor) tt (found_again s.descriptor)
+commit_is false s = change_is s (out_of_transaction s) (change.Commit s.descriptor) tt (found_again s.descriptor)
 
 rollback_is : (outside : Bool) (s : SessionState) → IsEffect s (with_more (end_by outside change.Rollback s))
 rollback_is true s = error_is 50003 (codes "no transaction") s
-rollback_is false s = change_is s (ended s) (change.Rollback s.descriptor) tt (found_again s.descriptor)
+rollback_is false s = change_is s (out_of_transaction s) (change.Rollback s.descriptor) tt (found_again s.descriptor)
 
 rows_change_nothing : (first count : ℕ) (others : List Token) → changes_of (rows_from first count ++ others) ≡ changes_of others
 rows_change_nothing first zero others = refl

@@ -4,7 +4,7 @@ use Rattle.std.specs.List.{list_all}
 use Rattle.std.proofs.lemmas.Bool.Decides.{leb_tells}
 use Rattle.std.proofs.lemmas.Str.Parse.{IsDigitsTest, IsNumeralModel, numerals_by_fold}
 use Rattle.std.proofs.lemmas.Fmt.{decimal-digits_value, decimal_is_IsNumeral, first_decimal, decimal_digit}
-use Rattle.tds_session.specs.Words.{is_within, is_digit, is_numeral, digits_value, number_of}
+use Rattle.tds_session.specs.Words.{is_within, is_digit, is_numeral, digits_value, numeral_value}
 use Rattle.tds_session.specs.Laws.Spells.{is_within_is}
 
 pub both : (a b : Bool) → (a && b) ≡ true → (a ≡ true) × (b ≡ true)
@@ -60,7 +60,7 @@ read_as true v n h = (refl, let z : Some v ≡ Some n = h in cc)
 read_as false v n h = absurd (let z : None ≡ Some n = h in cc)
 
 -- units that spell a number are its decimal digits
-pub number_is_decimal : (us : List ℕ) (n : ℕ) → number_of us ≡ Some n → n < 2 ^ 64 → us ≡ decimal n
+pub number_is_decimal : (us : List ℕ) (n : ℕ) → numeral_value us ≡ Some n → n < 2 ^ 64 → us ≡ decimal n
 number_is_decimal us n h small =
     let r = read_as (is_numeral us) (digits_value 0 us) n h in
     let plain = numeral_is_plain us r.0 in
@@ -76,7 +76,7 @@ decimal_is_plain n h =
     record { digits = digits_model.from (decimal n) m.0.1; some = m.0.0; leading = leading_zero n h }
 
 -- and those spell it
-pub decimal_is_number : (n : ℕ) → n < 2 ^ 64 → number_of (decimal n) ≡ Some n
+pub decimal_is_number : (n : ℕ) → n < 2 ^ 64 → numeral_value (decimal n) ≡ Some n
 decimal_is_number n h =
     let m = decimal_is_IsNumeral n h in
     let value : digits_value 0 (decimal n) ≡ n = digits_model.same (decimal n) m.0.1 ∙ m.1 in

@@ -7,8 +7,8 @@ use Rattle.std.proofs.lemmas.List.Elements.{All-nil, All-cons, All-set}
 use Rattle.std.proofs.lemmas.Bool.Decides.{leb_tells, nat_tests}
 use Rattle.std.proofs.lemmas.Grind.{common_steps}
 use Rattle.std.proofs.lemmas.Int.{fits_signed_from_abs}
-use Rattle.tds_session.specs.Session.{SessionState, IsSession, IsSetting, with_value, value_of, begun, ended, last_descriptor}
-use Rattle.tds_session.specs.Effects.{message, error, done, begin_by, end_by}
+use Rattle.tds_session.specs.Session.{SessionState, IsSession, IsSetting, with_value, value_of, transacting, out_of_transaction, last_descriptor}
+use Rattle.tds_session.specs.Effects.{message, error_token, done, begin_by, end_by}
 use Rattle.tds_session.specs.Script.{with_more, rows_from, result_set, row_column, step_of}
 use Rattle.tds_session.specs.Words.{is_within, is_digit, is_letter_or_digit, is_word}
 use Rattle.tds_session.specs.Laws.Spells.{is_within_is}
@@ -116,14 +116,14 @@ info_written columns number text ts size n short w =
     behind columns (token.Info (message number 0 text)) ts 417 size (fits_message number 0 text short.few) (ranged_message number 0 text n (lit< tt) short.units) tt
     (omega (arith, message_short number 0 text short.few)) w
 
-error_written : (number : ℕ) (text : List ℕ) → number < 2 ^ 31 → IsShortText text → Written None (error number text ∷ []) 417
+error_written : (number : ℕ) (text : List ℕ) → number < 2 ^ 31 → IsShortText text → Written None (error_token number text ∷ []) 417
 error_written number text n short =
-    behind None (error number text) [] 417 0 (fits_message number 16 text short.few) (ranged_message number 16 text n (lit< tt) short.units) tt
+    behind None (error_token number text) [] 417 0 (fits_message number 16 text short.few) (ranged_message number 16 text n (lit< tt) short.units) tt
     (omega (arith, message_short number 16 text short.few)) (nothing None)
 
 -- an ERROR alone
-error_fits : (number : ℕ) (text : List ℕ) (s : SessionState) → number < 2 ^ 31 → IsShortText text → IsSession s → FitsPacket (record { tokens = error number text ∷ []; after = s })
-error_fits number text s n short h = fits_by (error number text ∷ []) s 417 (lit≤ tt) (error_written number text n short) h
+error_fits : (number : ℕ) (text : List ℕ) (s : SessionState) → number < 2 ^ 31 → IsShortText text → IsSession s → FitsPacket (record { tokens = error_token number text ∷ []; after = s })
+error_fits number text s n short h = fits_by (error_token number text ∷ []) s 417 (lit≤ tt) (error_written number text n short) h
 
 -- a change of the transaction and a DONE
 change_fits : (change : EnvChange) (after : SessionState) → FitsEnv change → RangedEnv change → length (env_inside change) ≤ 11 → IsSession after
@@ -148,22 +148,22 @@ begin_fits false used_up s e h = error_fits 50002 (codes "in transaction") s (li
 begin_fits true true s e h = error_fits 50004 (codes "no descriptor") s (lit< tt) (short_text (codes "no descriptor") refl (lit≤ tt)) h
 begin_fits true false s e h =
     let left : s.next_descriptor < 18446744073709551615 = grind (arith, nat_tests, h.next_fits) in
-    change_fits (change.Begin s.next_descriptor) (begun s) h.next_some h.next_fits (lit≤ tt) (begun_is_session s h left)
+    change_fits (change.Begin s.next_descriptor) (transacting s) h.next_some h.next_fits (lit≤ tt) (begun_is_session s h left)
 
 some_descriptor : (d : ℕ) → (d == 0) ≡ false → 0 < d
 some_descriptor zero e = absurd (let z : true ≡ false = e in cc)
 some_descriptor (suc d) e = omega arith
 
-no_transaction_fits : (s : SessionState) → IsSession s → FitsPacket (record { tokens = error 50003 (codes "no transaction") ∷ []; after = s })
+no_transaction_fits : (s : SessionState) → IsSession s → FitsPacket (record { tokens = error_token 50003 (codes "no transaction") ∷ []; after = s })
 no_transaction_fits s h = error_fits 50003 (codes "no transaction") s (lit< tt) (short_text (codes "no transaction") refl (lit≤ tt)) h
 
 commit_fits : (outside : Bool) (s : SessionState) → (s.descriptor == 0) ≡ outside → IsSession s → FitsPacket (with_more (end_by outside change.Commit s))
 commit_fits true s e h = no_transaction_fits s h
-commit_fits false s e h = change_fits (change.Commit s.descriptor) (ended s) (some_descriptor s.descriptor e) h.descriptor (lit≤ tt) (ended_is_session s h)
+commit_fits false s e h = change_fits (change.Commit s.descriptor) (out_of_transaction s) (some_descriptor s.descriptor e) h.descriptor (lit≤ tt) (ended_is_session s h)
 
 rollback_fits : (outside : Bool) (s : SessionState) → (s.descriptor == 0) ≡ outside → IsSession s → FitsPacket (with_more (end_by outside change.Rollback s))
 rollback_fits true s e h = no_transaction_fits s h
-rollback_fits false s e h = change_fits (change.Rollback s.descriptor) (ended s) (some_descriptor s.descriptor e) h.descriptor (lit≤ tt) (ended_is_session s h)
+rollback_fits false s e h = change_fits (change.Rollback s.descriptor) (out_of_transaction s) (some_descriptor s.descriptor e) h.descriptor (lit≤ tt) (ended_is_session s h)
 
 row_written : (first : ℕ) (ts : List Token) (size : ℕ) → first < 2 ^ 31 → Written (Some 1) ts size → Written (Some 1) (token.Row (pos first ∷ []) ∷ ts) (5 + size)
 row_written first ts size h w =

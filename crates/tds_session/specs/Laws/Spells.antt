@@ -8,7 +8,7 @@ use Rattle.std.specs.List.{All}
 use Rattle.std.proofs.lemmas.List.Elements.{All-nil, All-cons}
 use Rattle.std.proofs.lemmas.Bool.Decides.{leb_tells}
 use Rattle.tds_session.specs.Within.{IsWithin}
-use Rattle.tds_session.specs.Words.{pieces, such, is_within, is_word, number_of, number_within, signed_of, fits_i32, key_of}
+use Rattle.tds_session.specs.Words.{pieces, such, is_within, is_word, numeral_value, number_within, signed_of, fits_i32, key_of}
 use Rattle.tds_session.specs.Language.{is_name, one_word, two_words, three_words, rows_of, set_of, of_words, statement_of, with_first, each_of, statements_of}
 use Rattle.tds_session.specs.Statements.{IsStatement}
 use Rattle.tds_session.specs.declared.statement.Statement.{Statement}
@@ -61,7 +61,7 @@ key_is (u ∷ []) = mapped (λ k. is_within 97 122 k ≡ true) (λ k. IsWithin 9
 key_is (u ∷ v ∷ us) = tt
 
 pub number_is : (low high : ℕ) (us : List ℕ) → IfSome (number_within low high us) (λ n. IsWithin low high n)
-number_is low high us = mapped (λ k. is_within low high k ≡ true) (λ k. IsWithin low high k) (number_within low high us) (is_within_is low high) (such_passes (is_within low high) (number_of us))
+number_is low high us = mapped (λ k. is_within low high k ≡ true) (λ k. IsWithin low high k) (number_within low high us) (is_within_is low high) (such_passes (is_within low high) (numeral_value us))
 
 rows_are : (a b : Option ℕ) → IfSome a (λ n. IsWithin 0 1000000 n) → IfSome b (λ n. IsWithin 0 64 n) → IfSome (rows_of a b) IsStatement
 rows_are None b h k = tt

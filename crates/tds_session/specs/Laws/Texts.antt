@@ -10,7 +10,7 @@ use Rattle.std.proofs.lemmas.Int.{to_z_pos}
 use Rattle.std.proofs.Math.Facts.{to_z-neg, to_z-of_z, Fits-of_z, Fits-lt-pow}
 use Rattle.std.proofs.Common.{to_z, of_z}
 use Rattle.tds_session.specs.Within.{IsWithin}
-use Rattle.tds_session.specs.Words.{piece_on, pieces, such, is_within, is_digit, is_letter_or_digit, is_word, number_of, number_within, signed_of, minus, fits_i32}
+use Rattle.tds_session.specs.Words.{piece_on, pieces, such, is_within, is_digit, is_letter_or_digit, is_word, numeral_value, number_within, signed_of, minus, fits_i32}
 use Rattle.tds_session.specs.Language.{of_words, rows_of, set_of, statement_of, with_first, each_of, statements_of}
 use Rattle.tds_session.specs.Spelling.{statement_text, Spells}
 use Rattle.tds_session.specs.Statements.{IsStatement}
@@ -109,11 +109,11 @@ fits_by m false e h =
 fits_again : (z : ℤ) → FitsSigned w32 z → fits_i32 z ≡ true
 fits_again z h = ap fits_i32 (sym (to_z-of_z h)) ∙ fits_by (of_z w32 z) (nat_le (of_z w32 z) 2147483647) refl (Fits-lt-pow (Fits-of_z h))
 
-signed_plain : (us : List ℕ) → list_all is_digit us ≡ true → 0 < length us → signed_of us ≡ option_map pos (number_of us)
+signed_plain : (us : List ℕ) → list_all is_digit us ≡ true → 0 < length us → signed_of us ≡ option_map pos (numeral_value us)
 signed_plain [] h k = absurd (omega (arith, k))
 signed_plain (u ∷ us) h k =
     let other : u ≢ 45 = digit_other u 45 (inl (lit< tt)) (both (is_digit u) (list_all is_digit us) h).0 in
-    ap (λ (b : Bool). if b then minus (number_of us) else option_map pos (number_of (u ∷ us))) (not_true (u == 45) (not_unit u 45 other))
+    ap (λ (b : Bool). if b then minus (numeral_value us) else option_map pos (numeral_value (u ∷ us))) (not_true (u == 45) (not_unit u 45 other))
 
 i32_small : (n : ℕ) → nat_le n 2147483647 ≡ true → n < 2 ^ 31
 i32_small n e = grind (arith, leb_tells n 2147483647)

@@ -6,7 +6,7 @@ use Rattle.std.proofs.lemmas.Bool.Decides.{leb_tells, nat_tests}
 use Rattle.std.proofs.lemmas.List.Splits.{join_with_byte-slice_split, length-slice_split}
 use Rattle.std.proofs.lemmas.Slice.Eq.{bytes_eq-Decides}
 use Rattle.tds_session.specs.Within.{IsWithin}
-use Rattle.tds_session.specs.Words.{pieces, such, is_within, is_word, number_of, number_within, signed_of, minus, fits_i32, key_of}
+use Rattle.tds_session.specs.Words.{pieces, such, is_within, is_word, numeral_value, number_within, signed_of, minus, fits_i32, key_of}
 use Rattle.tds_session.specs.Language.{is_name, one_word, two_words, three_words, rows_of, set_of, of_words, statement_of, with_first, each_of, statements_of}
 use Rattle.tds_session.specs.Spelling.{words, statement_text, Spells}
 use Rattle.tds_session.specs.Laws.Pieces.{pieces_are_split}
@@ -42,12 +42,12 @@ key_spelled [] = tt
 key_spelled (u ∷ []) = kept (λ key. u ∷ [] ≡ key ∷ []) (is_within 97 122) (Some u) refl
 key_spelled (u ∷ v ∷ us) = tt
 
-number_spelled_by : (us : List ℕ) (found : Option ℕ) → number_of us ≡ found → IfSome found (λ n. n < 2 ^ 64 → us ≡ decimal n)
+number_spelled_by : (us : List ℕ) (found : Option ℕ) → numeral_value us ≡ found → IfSome found (λ n. n < 2 ^ 64 → us ≡ decimal n)
 number_spelled_by us None e = tt
 number_spelled_by us (Some n) e = λ small. number_is_decimal us n e small
 
-number_spelled : (us : List ℕ) → IfSome (number_of us) (λ n. n < 2 ^ 64 → us ≡ decimal n)
-number_spelled us = number_spelled_by us (number_of us) refl
+number_spelled : (us : List ℕ) → IfSome (numeral_value us) (λ n. n < 2 ^ 64 → us ≡ decimal n)
+number_spelled us = number_spelled_by us (numeral_value us) refl
 
 two_facts : {A : Type 0} (P Q : A → Type 0) (found : Option A) → IfSome found P → IfSome found Q → IfSome found (λ x. P x × Q x)
 two_facts P Q None h k = tt
@@ -58,7 +58,7 @@ within_spelled low high us small =
     mapped (λ n. IsWithin low high n × (n < 2 ^ 64 → us ≡ decimal n)) (λ n. us ≡ decimal n) (number_within low high us)
     (λ n h. h.1 (omega (arith, small, h.0.most)))
     (two_facts (λ n. IsWithin low high n) (λ n. n < 2 ^ 64 → us ≡ decimal n) (number_within low high us) (number_is low high us)
-    (kept (λ n. n < 2 ^ 64 → us ≡ decimal n) (is_within low high) (number_of us) (number_spelled us)))
+    (kept (λ n. n < 2 ^ 64 → us ≡ decimal n) (is_within low high) (numeral_value us) (number_spelled us)))
 
 rows_spelled : (x y : List ℕ) (a b : Option ℕ) → IfSome a (λ n. x ≡ decimal n) → IfSome b (λ n. y ≡ decimal n)
     → IfSome (rows_of a b) (λ s. words (codes "rows" ∷ x ∷ y ∷ []) ≡ statement_text s)
@@ -106,9 +106,9 @@ plus_spelled us None h = tt
 plus_spelled us (Some n) h = λ fits. h (omega (arith, small n fits))
 
 signed_by : (u : ℕ) (us : List ℕ) (b : Bool) → (u == 45) ≡ b
-    → IfSome (if b then minus (number_of us) else option_map pos (number_of (u ∷ us))) (λ z. fits_i32 z ≡ true → u ∷ us ≡ signed_decimal z)
-signed_by u us true e = minus_spelled u us (number_of us) (grind (arith, nat_tests)) (number_spelled us)
-signed_by u us false e = plus_spelled (u ∷ us) (number_of (u ∷ us)) (number_spelled (u ∷ us))
+    → IfSome (if b then minus (numeral_value us) else option_map pos (numeral_value (u ∷ us))) (λ z. fits_i32 z ≡ true → u ∷ us ≡ signed_decimal z)
+signed_by u us true e = minus_spelled u us (numeral_value us) (grind (arith, nat_tests)) (number_spelled us)
+signed_by u us false e = plus_spelled (u ∷ us) (numeral_value (u ∷ us)) (number_spelled (u ∷ us))
 
 signed_spelled : (us : List ℕ) → IfSome (signed_of us) (λ z. fits_i32 z ≡ true → us ≡ signed_decimal z)
 signed_spelled [] = tt

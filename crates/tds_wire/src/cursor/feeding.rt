@@ -1,7 +1,7 @@
 //! Bytes.
 ghost use Rattle.tds_wire.specs.Memory.{walk_of};
 ghost use Rattle.std.specs.Prelude.{◌≡◌, ◌<◌, ◌≤◌, true, false, drop, length};
-ghost use Rattle.tds_wire.specs.Bytes.{Within, onward, standing, step, to_end, went_of};
+ghost use Rattle.tds_wire.specs.Bytes.{Within, onward, standing, walk_step, to_end, went_of};
 ghost use Rattle.tds_wire.specs.Inside.{EndsBetween, IsBetween, IsOn, IsWithin, Moves};
 ghost use Rattle.tds_wire.specs.declared.due.Due.TheVariants.{Run};
 ghost use Rattle.tds_wire.specs.declared.due.Standing.TheVariants.{Between};
@@ -14,7 +14,7 @@ impl Cursor {
     /// Takes a byte.
     #[tactic(auto, unfolding(crate::specs::Bytes::step))]
     fn take(&mut self, memory: &mut Memory, byte: u8)
-        ensures { walk_of self.new memory.new ≡ step (walk_of self.old memory.old) byte }
+        ensures { walk_of self.new memory.new ≡ walk_step (walk_of self.old memory.old) byte }
     {
         match self.at.due {
             Due::Token => self.take_kind(memory, byte),

@@ -8,7 +8,7 @@ use Rattle.tds_session.specs.declared.attention.OnAttention.{OnAttention}
 use Rattle.tds_session.specs.declared.attention.OnAttention.TheVariants as on_attention
 use Rattle.tds_session.specs.Answer as answer
 use Rattle.tds_session.specs.Answer.{Answers}
-use Rattle.tds_session.specs.Session.{SessionState, new_session, begun}
+use Rattle.tds_session.specs.Session.{SessionState, new_session, transacting}
 use Rattle.tds_token.specs.declared.token.Token.{Token}
 use Rattle.tds_token.specs.Told.{told}
 use Rattle.tds_world.specs.declared.event.Event.{Event}
@@ -80,7 +80,7 @@ from_alike : (w : World) (s : SessionState) (o : Option ℕ) → FromOpen w.tick
 from_alike w s None f h = record { settings = h.0; transaction = ap (λ d. not (eqb d 0)) h.1 }
 from_alike w s (Some t) f h = of_ticket (numbered w.tickets t) f h
   where
-    of_ticket : (o : Option Holding) → OfTicket IsOne o → HasKept o s → AreAlike s (begun new_session)
+    of_ticket : (o : Option Holding) → OfTicket IsOne o → HasKept o s → AreAlike s (transacting new_session)
     of_ticket None g k = absurd k
     of_ticket (Some x) g k = record { settings = k.0; transaction = ap (λ d. not (eqb d 0)) k.1 ∙ ap not g }
 
@@ -295,7 +295,7 @@ all_known answers w c [] f g h i = tt
 all_known answers w c (q ∷ qs) f g h i =
     (record { fresh = f.0; own = g.0; transaction = h.0; fits = i.0 }, all_known answers w c qs f.1 g.1 h.1 i.1)
 
-own_left : (o : Option Holding) (qs : List Record) → HasLeft (begun new_session) qs → HasLeft (own_session o) qs
+own_left : (o : Option Holding) (qs : List Record) → HasLeft (transacting new_session) qs → HasLeft (own_session o) qs
 own_left None qs h = new_left qs h
 own_left (Some x) qs h = by_ticket x.resumed
   where
@@ -303,7 +303,7 @@ own_left (Some x) qs h = by_ticket x.resumed
     by_ticket None = new_left qs h
     by_ticket (Some n) = h
 
-alone_on : (attention : OnAttention) (answers : Answers) (w : World) (c : Connection) → Good answers → AllOpen w → HasLeft (begun new_session) (records c) → Shown attention answers w c → (l : ℕ) → RunsAlone attention answers (own_session (numbered w.leases l)) (exchanges_of l c)
+alone_on : (attention : OnAttention) (answers : Answers) (w : World) (c : Connection) → Good answers → AllOpen w → HasLeft (transacting new_session) (records c) → Shown attention answers w c → (l : ℕ) → RunsAlone attention answers (own_session (numbered w.leases l)) (exchanges_of l c)
 alone_on attention answers w c b opens r h l =
     starts attention answers w c l (records c) b opens (all_known answers w c (records c) h.fresh h.own h.transaction h.fits) h.turn new_session c.session (λ number n. n)
     (new_left (records c) r) (own_left (numbered w.leases l) (records c) r) h.thread

@@ -12,7 +12,7 @@ use Rattle.tds_session.specs.declared.transaction.Ending.TheVariants as ending
 use Rattle.tds_session.specs.Effects.{Effect, has_error, is_error, begins, begin_by, ends, end_by, told_by, renew_by, renews, completes, done}
 use Rattle.tds_session.specs.Language.{statements_of}
 use Rattle.tds_session.specs.Script.{step_of, with_more}
-use Rattle.tds_session.specs.Session.{SessionState, begun, ended, last_descriptor, value_of}
+use Rattle.tds_session.specs.Session.{SessionState, transacting, out_of_transaction, last_descriptor, value_of}
 use Rattle.tds_session.specs.declared.statement.Statement.{Statement}
 use Rattle.tds_session.specs.declared.statement.Statement.TheVariants as statement
 use Rattle.tds_token.specs.declared.env_change.EnvChange.{EnvChange}
@@ -65,7 +65,7 @@ none_open s t a = not_same (eqb s.descriptor 0) (eqb t.descriptor 0) a.transacti
 some_number : (n : ℕ) → 1 ≤ n → eqb n 0 ≡ false
 some_number n h = grind (arith, nat_tests)
 
-begun_alike : (s t : SessionState) → AreAlike s t → 1 ≤ s.next_descriptor → 1 ≤ t.next_descriptor → AreAlike (begun s) (begun t)
+begun_alike : (s t : SessionState) → AreAlike s t → 1 ≤ s.next_descriptor → 1 ≤ t.next_descriptor → AreAlike (transacting s) (transacting t)
 begun_alike s t a h k = record {
   settings = a.settings;
   transaction = ap not (some_number s.next_descriptor h ∙ sym (some_number t.next_descriptor k));
@@ -84,7 +84,7 @@ begin_alike true s t a h k = (
   record { told = refl; error = refl; after = begun_alike s t a h k; next_s = less_one s.next_descriptor; most_s = plus_one s.next_descriptor; next_t = less_one t.next_descriptor; most_t = plus_one t.next_descriptor },
 )
 
-ended_alike : (s t : SessionState) → AreAlike s t → AreAlike (ended s) (ended t)
+ended_alike : (s t : SessionState) → AreAlike s t → AreAlike (out_of_transaction s) (out_of_transaction t)
 ended_alike s t a = record { settings = a.settings; transaction = refl }
 
 end_alike : (b : Bool) (x : ℕ → EnvChange) (s t : SessionState) → AreAlike s t → AlikeEffects s t (end_by b x s) (end_by b x t) × AlikeEffects s t (with_more (end_by b x s)) (with_more (end_by b x t))
@@ -116,7 +116,7 @@ renewal_alike true how s t a h k = leaves_same s t _ _ a refl refl
 renewal_alike false how s t a h k = record {
   told = refl;
   error = refl;
-  after = begun_alike (ended s) (ended t) (ended_alike s t a) h k;
+  after = begun_alike (out_of_transaction s) (out_of_transaction t) (ended_alike s t a) h k;
   next_s = less_one s.next_descriptor;
   most_s = plus_one s.next_descriptor;
   next_t = less_one t.next_descriptor;

@@ -8,7 +8,7 @@ use Rattle.tds_packet.specs.declared.status.Reset.TheVariants.{Full, KeepTransac
 use Rattle.tds_request.specs.Layout.{Fits}
 use Rattle.tds_session.specs.Answer as answer
 use Rattle.tds_session.specs.Answer.{Answers}
-use Rattle.tds_session.specs.Session.{SessionState, new_session, begun, last_descriptor}
+use Rattle.tds_session.specs.Session.{SessionState, new_session, transacting, last_descriptor}
 use Rattle.tds_world.specs.declared.event.Event.{Event}
 use Rattle.tds_world.specs.declared.event.Setup.{Setup}
 use Rattle.tds_world.specs.alone.Alone.{HasRoom, Progress, left_by, own_steps, session_after}
@@ -91,7 +91,7 @@ reset_left None s qs h = h
 reset_left (Some Full) s qs h = record { some = h.some; left = h.left }
 reset_left (Some KeepTransaction) s qs h = record { some = h.some; left = h.left }
 
-pub new_left : (qs : List Record) → HasLeft (begun new_session) qs → HasLeft new_session qs
+pub new_left : (qs : List Record) → HasLeft (transacting new_session) qs → HasLeft new_session qs
 new_left qs h = record {
   some = (let z : 1 ≤ 1 = omega arith in z);
   left = (let z : 1 + 1 + all_steps qs ≤ last_descriptor = h.left in let y : 1 + all_steps qs ≤ last_descriptor = omega arith in y);
@@ -101,7 +101,7 @@ steps_count : (qs : List Record) → all_steps qs ≡ most_steps * length qs
 steps_count [] = refl
 steps_count (q ∷ qs) = let z : all_steps qs ≡ most_steps * length qs = steps_count qs in omega arith
 
-pub many_left : (qs : List Record) → length qs ≤ most_events → HasLeft (begun new_session) qs
+pub many_left : (qs : List Record) → length qs ≤ most_events → HasLeft (transacting new_session) qs
 many_left qs h = record {
   some = (let z : 1 ≤ 2 = omega arith in z);
   left = (let z : all_steps qs ≡ most_steps * length qs = steps_count qs in let y : 2 + all_steps qs ≤ last_descriptor = omega arith in y);

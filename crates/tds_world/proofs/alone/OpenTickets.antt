@@ -15,7 +15,7 @@ use Rattle.tds_world.specs.Events.{about, acts, asks_by, cleans_by, sends_in, se
 use Rattle.tds_world.specs.Phase.{Phase, Asked, Sending}
 use Rattle.tds_world.specs.Pool.{is_free, gives_back_at, abandons_at, keeps_by, is_full}
 use Rattle.tds_world.specs.Record.{Record}
-use Rattle.tds_world.specs.World.{World, new_world, Holding, Found, Missing, Here, Opens, numbered, next_number, ended, ended_at, ended_numbered, held, not_cut, by_ticket, put_numbered}
+use Rattle.tds_world.specs.World.{World, new_world, Holding, Found, Missing, Here, Opens, numbered, next_number, holding_ended, ended_at, ended_numbered, held, not_cut, by_ticket, put_numbered}
 use Rattle.tds_world.proofs.events.Adds.{Extends, notes_add, restart_adds}
 use Rattle.tds_world.proofs.events.Happens.{happens_cases}
 use Rattle.tds_world.proofs.requests.Ready.{OfTicket, ticket_grows}
@@ -44,16 +44,16 @@ and_last : (P : Holding → Type 0) (hs : List Holding) (x : Holding) → AllByR
 and_last P [] x h k = (k, tt)
 and_last P (y ∷ ys) x h k = (h.0, and_last P ys x h.1 k)
 
-ended_all_at : (P : Holding → Type 0) (n : ℕ) (hs : List Holding) → ((h : Holding) → P h → P (ended h)) → AllByRecursion P hs → AllByRecursion P (ended_at n hs)
+ended_all_at : (P : Holding → Type 0) (n : ℕ) (hs : List Holding) → ((h : Holding) → P h → P (holding_ended h)) → AllByRecursion P hs → AllByRecursion P (ended_at n hs)
 ended_all_at P n [] f h = tt
 ended_all_at P zero (y ∷ ys) f h = (f y h.0, h.1)
 ended_all_at P (suc n) (y ∷ ys) f h = (h.0, ended_all_at P n ys f h.1)
 
-ended_all : (P : Holding → Type 0) (n : ℕ) (hs : List Holding) → ((h : Holding) → P h → P (ended h)) → AllByRecursion P hs → AllByRecursion P (ended_numbered n hs)
+ended_all : (P : Holding → Type 0) (n : ℕ) (hs : List Holding) → ((h : Holding) → P h → P (holding_ended h)) → AllByRecursion P hs → AllByRecursion P (ended_numbered n hs)
 ended_all P zero hs f h = h
 ended_all P (suc n) hs f h = ended_all_at P n hs f h
 
-map_all : (P : Holding → Type 0) (hs : List Holding) → ((h : Holding) → P h → P (ended h)) → AllByRecursion P hs → AllByRecursion P (map ended hs)
+map_all : (P : Holding → Type 0) (hs : List Holding) → ((h : Holding) → P h → P (holding_ended h)) → AllByRecursion P hs → AllByRecursion P (map holding_ended hs)
 map_all P [] f h = tt
 map_all P (y ∷ ys) f h = (f y h.0, map_all P ys f h.1)
 
@@ -169,7 +169,7 @@ happens_open setup answers e w a =
     happens_cases setup answers w (λ e r. IsOpenIn r.1) a
     (record {
       tickets = map_all (λ (h : Holding). IsOne h.descriptor) w.tickets (λ h x. x) a.tickets;
-      leases = all_from_grow w.tickets (map ended w.tickets) (map ended w.leases) (restart_adds w).tickets (map_all (λ (h : Holding). FromOpen w.tickets h.resumed) w.leases (λ h x. x) a.leases);
+      leases = all_from_grow w.tickets (map holding_ended w.tickets) (map holding_ended w.leases) (restart_adds w).tickets (map_all (λ (h : Holding). FromOpen w.tickets h.resumed) w.leases (λ h x. x) a.leases);
     })
     (λ e. found setup answers e w (about setup w e) refl a) e
 

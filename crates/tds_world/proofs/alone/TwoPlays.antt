@@ -3,7 +3,7 @@ use Rattle.std.proofs.Common.{◌≡◌, ℕ, List, [], ◌∷◌, ◌++◌, inl
 use Rattle.std.specs.List.{AllByRecursion}
 use Rattle.tds_session.specs.declared.attention.OnAttention.{OnAttention}
 use Rattle.tds_session.specs.Answer.{Answers}
-use Rattle.tds_session.specs.Session.{SessionState, new_session, begun}
+use Rattle.tds_session.specs.Session.{SessionState, new_session, transacting}
 use Rattle.tds_token.specs.declared.token.Token.{Token}
 use Rattle.tds_world.specs.declared.event.Event.{Event}
 use Rattle.tds_world.specs.declared.outcome.Opened.{Opened}
@@ -112,7 +112,7 @@ from_same (Some t) (Some u) e = refl
 
 -- The own session by what kind of lease it is.
 abbrev session_by : Bool → SessionState
-session_by true = begun new_session
+session_by true = transacting new_session
 session_by false = new_session
 
 from_is : (o : Option ℕ) → session_from o ≡ session_by (is_from o)

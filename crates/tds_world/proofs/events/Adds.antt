@@ -6,7 +6,7 @@ use Rattle.tds_world.specs.declared.event.Event.{Event}
 use Rattle.tds_world.specs.declared.event.Event.TheVariants as event
 use Rattle.tds_world.specs.Connection.{Connection, cut}
 use Rattle.tds_world.specs.Events.{notes}
-use Rattle.tds_world.specs.World.{World, Holding, next_number, numbered, ended, ended_at, ended_numbered, holding}
+use Rattle.tds_world.specs.World.{World, Holding, next_number, numbered, holding_ended, ended_at, ended_numbered, holding}
 
 -- A lease or ticket that was given so, and may have ended since.
 abbrev pub GivenAs : Holding → Option Holding → Type 0
@@ -47,7 +47,7 @@ extends_ended zero hs l h e = extends_same hs l h e
 extends_ended (suc n) hs zero h e = absurd (cc)
 extends_ended (suc n) hs (suc l) h e = extends_ended_at n hs l h e
 
-extends_all_ended : (hs : List Holding) → Extends hs (map ended hs)
+extends_all_ended : (hs : List Holding) → Extends hs (map holding_ended hs)
 extends_all_ended hs zero h e = absurd (cc)
 extends_all_ended [] (suc l) h e = absurd (cc)
 extends_all_ended (x ∷ xs) (suc zero) h e = given_same (Some x) h e
@@ -95,7 +95,7 @@ notes_add (event.Abandon t) n heard w cs = record {
   asked = same_asked (length w.asked_on);
 }
 notes_add (event.Clean k) n heard w cs = record {
-  leases = extends_more w.leases (ended (holding n heard None) ∷ []);
+  leases = extends_more w.leases (holding_ended (holding n heard None) ∷ []);
   tickets = extends_same w.tickets;
   asked = more_asked w.asked_on n;
 }
@@ -110,8 +110,8 @@ notes_add e n heard w cs = adds_same w cs
 -- A restart of the client ends all leases and tickets.
 pub restart_adds : (w : World) → Adds w (record w {
   connections = map cut w.connections;
-  leases = map ended w.leases;
-  tickets = map ended w.tickets;
+  leases = map holding_ended w.leases;
+  tickets = map holding_ended w.tickets;
 })
 restart_adds w = record {
   leases = extends_all_ended w.leases;
@@ -119,14 +119,14 @@ restart_adds w = record {
   asked = same_asked (length w.asked_on);
 }
 
-last_ended : (xs : List Holding) (h : Holding) → ended_numbered (next_number xs) (xs ++ h ∷ []) ≡ xs ++ ended h ∷ []
+last_ended : (xs : List Holding) (h : Holding) → ended_numbered (next_number xs) (xs ++ h ∷ []) ≡ xs ++ holding_ended h ∷ []
 last_ended [] h = refl
 last_ended (x ∷ xs) h = ap (λ ys. x ∷ ys) (last_ended xs h)
 
 -- What is noted of a cleaning is what is noted of the four moves.
-pub cleaning_adds : (n heard : ℕ) (w : World) (cs ds : List Connection) → Adds (record w { connections = cs; leases = ended_numbered (next_number w.leases) (w.leases ++ holding n heard None ∷ []); asked_on = w.asked_on ++ n ∷ [] }) (record w { connections = ds; leases = w.leases ++ ended (holding n heard None) ∷ []; asked_on = w.asked_on ++ n ∷ [] })
+pub cleaning_adds : (n heard : ℕ) (w : World) (cs ds : List Connection) → Adds (record w { connections = cs; leases = ended_numbered (next_number w.leases) (w.leases ++ holding n heard None ∷ []); asked_on = w.asked_on ++ n ∷ [] }) (record w { connections = ds; leases = w.leases ++ holding_ended (holding n heard None) ∷ []; asked_on = w.asked_on ++ n ∷ [] })
 cleaning_adds n heard w cs ds = record {
-  leases = subst (λ hs. Extends hs (w.leases ++ ended (holding n heard None) ∷ [])) (sym (last_ended w.leases (holding n heard None))) (extends_same (w.leases ++ ended (holding n heard None) ∷ []));
+  leases = subst (λ hs. Extends hs (w.leases ++ holding_ended (holding n heard None) ∷ [])) (sym (last_ended w.leases (holding n heard None))) (extends_same (w.leases ++ holding_ended (holding n heard None) ∷ []));
   tickets = extends_same w.tickets;
   asked = omega arith;
 }

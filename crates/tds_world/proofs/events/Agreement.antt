@@ -10,7 +10,7 @@ use Rattle.tds_world.specs.declared.report.Place.TheVariants as place
 use Rattle.tds_world.specs.Connection.{Connection, new_connection, In, Cut, cut}
 use Rattle.tds_world.specs.Events.{about, acts, settles, happens_at, happens}
 use Rattle.tds_world.specs.Pool.{Acted, Refuses, Does, opens}
-use Rattle.tds_world.specs.World.{World, new_world, Holding, Found, Missing, Here, Opens, numbered, next_number, put_numbered, holding, ended, ended_numbered}
+use Rattle.tds_world.specs.World.{World, new_world, Holding, Found, Missing, Here, Opens, numbered, next_number, put_numbered, holding, holding_ended, ended_numbered}
 use Rattle.tds_world.proofs.events.Happens.{happens_cases}
 use Rattle.tds_world.proofs.events.Places.{StandsAt, Holds, Agrees, StandsFor, FoundWith, about_stands, Moved, moved_holds, here_holds, holds_put, holds_end_at, none_at_end, began, is_over}
 use Rattle.tds_world.proofs.events.Standings.{IsHeld, Still, StandsThen, stands_then}
@@ -135,7 +135,7 @@ did_agree w (event.Abandon t) n old c what a there stood then =
     }
 did_agree w (event.Clean k) n old c what a there stood then =
     let g : Agrees (record w { connections = put_numbered n c w.connections }) = stays_agreed w n c old a there then in record {
-      leases = over_have place.Leased w.leases (ended (holding n c.heard None)) (put_numbered n c w.connections) refl g.leases;
+      leases = over_have place.Leased w.leases (holding_ended (holding n c.heard None)) (put_numbered n c w.connections) refl g.leases;
       tickets = g.tickets;
     }
 did_agree w (event.Ask l q) n old c what a there stood then =
@@ -169,12 +169,12 @@ cut_holds : (p : Place) (cs : List Connection) (k : ℕ) → Holds p (numbered c
 cut_holds p cs zero h = h
 cut_holds p cs (suc k) h = cut_holds_at p cs k h
 
-all_ended : (hs : List Holding) (k : ℕ) (h : Holding) → numbered (map ended hs) (suc k) ≡ Some h → h.over ≡ true
+all_ended : (hs : List Holding) (k : ℕ) (h : Holding) → numbered (map holding_ended hs) (suc k) ≡ Some h → h.over ≡ true
 all_ended [] k h e = absurd (cc)
-all_ended (x ∷ xs) zero h e = let same : ended x ≡ h = cc in sym (ap (λ (y : Holding). y.over) same)
+all_ended (x ∷ xs) zero h e = let same : holding_ended x ≡ h = cc in sym (ap (λ (y : Holding). y.over) same)
 all_ended (x ∷ xs) (suc k) h e = all_ended xs k h e
 
-none_have : (P : ℕ → Place) (hs : List Holding) (cs : List Connection) → HaveAll P (map ended hs) cs
+none_have : (P : ℕ → Place) (hs : List Holding) (cs : List Connection) → HaveAll P (map holding_ended hs) cs
 none_have P hs cs zero h e f = absurd (cc)
 none_have P hs cs (suc k) h e f = let z : true ≡ false = sym (all_ended hs k h e) ∙ f in absurd (cc)
 

@@ -12,7 +12,7 @@ use Rattle.tds_world.specs.declared.report.Place.TheVariants as place
 use Rattle.tds_world.specs.Connection.{Connection, Standing, In, Cut, is_cut}
 use Rattle.tds_world.specs.Events.{about}
 use Rattle.tds_world.specs.Pool.{to_lend_by, lowest_free, first_of, is_free, pool_count}
-use Rattle.tds_world.specs.World.{World, Holding, Found, Missing, Here, Opens, numbered, next_number, put, put_numbered, ended, ended_at, ended_numbered, uncut_in, there, held, not_cut, by_lease, by_ticket}
+use Rattle.tds_world.specs.World.{World, Holding, Found, Missing, Here, Opens, numbered, next_number, put, put_numbered, holding_ended, ended_at, ended_numbered, uncut_in, there, held, not_cut, by_lease, by_ticket}
 use Rattle.tds_world.proofs.events.Words.{by_test}
 
 -- A connection stands at this place, or was cut.
@@ -186,7 +186,7 @@ began hs x h (suc k) e = elim (began_at hs x h k e) [
 is_over_at : (m : ℕ) (hs : List Holding) (k : ℕ) (h : Holding) → slice_get (ended_at m hs) k ≡ Some h → h.over ≡ false → (slice_get hs k ≡ Some h) × (k ≢ m)
 is_over_at m [] k h e f = absurd (cc)
 is_over_at zero (y ∷ ys) zero h e f =
-    let same : ended y ≡ h = cc in
+    let same : holding_ended y ≡ h = cc in
     let z : true ≡ false = ap (λ (x : Holding). x.over) same ∙ f in absurd (cc)
 is_over_at zero (y ∷ ys) (suc k) h e f = (e, λ z. absurd (omega arith))
 is_over_at (suc m) (y ∷ ys) zero h e f = (e, λ z. absurd (omega arith))

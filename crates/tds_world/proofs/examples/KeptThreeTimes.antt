@@ -15,7 +15,7 @@ use Rattle.tds_world.specs.declared.report.Report.{Report}
 use Rattle.tds_world.specs.declared.report.RequestStatus.TheVariants as status
 use Rattle.tds_world.specs.Events.{world_after}
 use Rattle.tds_world.specs.Observed.{observed}
-use Rattle.tds_world.specs.World.{World, new_world, numbered, holding, ended}
+use Rattle.tds_world.specs.World.{World, new_world, numbered, holding, holding_ended}
 use Rattle.tds_world.proofs.examples.Shown.{with_max, Shows, asked, seen, session, value, done}
 
 abbrev events : List Event
@@ -54,5 +54,5 @@ world = world_after (with_max 1) script_answers events new_world
 pub last_lease : numbered world.leases 4 ≡ Some (holding 1 1 (Some 3))
 last_lease = refl
 
-pub third_ticket : numbered world.tickets 3 ≡ Some (ended (holding 1 1 None))
+pub third_ticket : numbered world.tickets 3 ≡ Some (holding_ended (holding 1 1 None))
 third_ticket = refl

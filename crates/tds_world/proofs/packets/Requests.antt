@@ -1,7 +1,7 @@
 -- What is sent to a server is messages that spell requests.
 use Rattle.std.proofs.Common.{◌≡◌, ◌-◌, ◌+◌, ℕ, List, [], ◌∷◌, ◌++◌, Bool, true, false, eqb, take, drop, refl, sym, ap, subst, ◌∙◌, Option, Some, None, option_map}
 use Rattle.std.proofs.lemmas.List.{append_assoc, take-append-drop}
-use Rattle.tds_request.specs.Layout.{spelling}
+use Rattle.tds_request.specs.Layout.{request_spelling}
 use Rattle.tds_session.specs.Answer as answer
 use Rattle.tds_session.specs.Answer.{Answers}
 use Rattle.tds_session.specs.Session.{SessionState}
@@ -30,10 +30,10 @@ use Rattle.tds_world.proofs.flow.Fates.{step_leaves, cancelled_leaves, is_sendin
 
 abbrev OutBy : Phase → Record → Message → Type 0
 OutBy Settled q m = m ≡ Nothing
-OutBy Asked q m = (m ≡ Nothing) × (q.left ≡ spelling q.asking.descriptor q.asking.request)
+OutBy Asked q m = (m ≡ Nothing) × (q.left ≡ request_spelling q.asking.descriptor q.asking.request)
 OutBy Sending q m =
     (content : List ℕ) × (m ≡ Partly q.asking content (packets_of q.out))
-    × (content ++ q.left ≡ spelling q.asking.descriptor q.asking.request)
+    × (content ++ q.left ≡ request_spelling q.asking.descriptor q.asking.request)
 OutBy Reading q m = m ≡ Nothing
 OutBy Cancelling q m = m ≡ Nothing
 

@@ -6,7 +6,7 @@ use Rattle.std.proofs.lemmas.List.{length-append, length-take, length-drop}
 use Rattle.std.specs.Prelude.{◌==◌, nat_le}
 use Rattle.tds_request.specs.declared.request.Request.{Request}
 use Rattle.tds_request.specs.declared.request.Request.TheVariants as request
-use Rattle.tds_request.specs.Layout.{Fits, spelling, all_headers, body_of, text_bytes}
+use Rattle.tds_request.specs.Layout.{Fits, request_spelling, all_headers, body_of, text_bytes}
 use Rattle.tds_session.specs.Answer as answer
 use Rattle.tds_session.specs.Answer.{Answers}
 use Rattle.tds_world.specs.declared.event.Setup.{Setup}
@@ -45,9 +45,9 @@ body_size (request.Commit (Some isolation)) h = omega arith
 body_size (request.Rollback None) h = omega arith
 body_size (request.Rollback (Some isolation)) h = omega arith
 
-pub message_size : (descriptor : ℕ) (q : Request) → Fits q → length (spelling descriptor q) ≤ 4022
+pub message_size : (descriptor : ℕ) (q : Request) → Fits q → length (request_spelling descriptor q) ≤ 4022
 message_size descriptor q h =
-    let parts : length (spelling descriptor q) ≡ 22 + length (body_of q) = length-append (all_headers descriptor) (body_of q) in
+    let parts : length (request_spelling descriptor q) ≡ 22 + length (body_of q) = length-append (all_headers descriptor) (body_of q) in
     let body : length (body_of q) ≤ 4000 = body_size q h in
     omega arith
 

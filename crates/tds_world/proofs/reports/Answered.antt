@@ -15,7 +15,7 @@ use Rattle.tds_world.specs.Laws.{request_in}
 use Rattle.tds_world.specs.Newest.{AreBefore}
 use Rattle.tds_world.specs.Observed.{observed, event_reports, record_on, report_on, request_report, request_reports}
 use Rattle.tds_world.specs.Order.{RequestsInOrder}
-use Rattle.tds_world.specs.Phase.{Cancelling, phase_by, phase_of, is_settled, status_by, status_of}
+use Rattle.tds_world.specs.Phase.{Cancelling, phase_by, phase_of, is_settled, status_by, request_status}
 use Rattle.tds_world.specs.Record.{Record, Out, NotBegun, Begun, Whole, Fate, Open, Finished, Cancelled, Acknowledged, is_cancelled}
 use Rattle.tds_world.specs.Reports.{Ask, asked_in}
 use Rattle.tds_world.specs.rest.Rest.{Became, Finishes}
@@ -114,9 +114,9 @@ became_of d k m fate p b h e n =
     let same : p ≡ h.request = same_is_newest d k m h.request h.newest b p e (n ∙ sym h.same) in
     ap (λ (x : Record). x.fate) same ∙ h.became
 
-answered_on : (setup : Setup) (answers : Answers) (w v : World) (n k : ℕ) (c d : Connection) (q p : Record) (cut : Bool) → Then setup answers w v n c d → record_on k c ≡ Some q → record_on k d ≡ Some p → p.number ≡ q.number → BecomesOf (status_of false q) (status_of cut p)
+answered_on : (setup : Setup) (answers : Answers) (w v : World) (n k : ℕ) (c d : Connection) (q p : Record) (cut : Bool) → Then setup answers w v n c d → record_on k c ≡ Some q → record_on k d ≡ Some p → p.number ≡ q.number → BecomesOf (request_status false q) (request_status cut p)
 answered_on setup answers w v n k c d q p cut t e f m =
-    becomes (status_of false q) (status_of cut p)
+    becomes (request_status false q) (request_status cut p)
     (λ s.
     let o : IsOpen q.fate q.out = shown_open q.fate q.out s in
     let fate : p.fate ≡ Finished = became_of d k q.number Finished p t.before (t.finished q (open_is_newest c k q t.older e o.0) o.1) f m in
@@ -137,7 +137,7 @@ one_answered setup answers w v n k m c d q r s o t e =
     let same : m ≡ n = sym on ∙ e in
     let here : r.on ≡ c = same_some (numbered w.connections n) r.on c (ap (λ i. numbered w.connections i) (sym same) ∙ r.is) t.first in
     let there : s.1.on ≡ d = same_some (numbered v.connections n) s.1.on d (ap (λ i. numbered v.connections i) (sym same) ∙ s.1.is) t.there in
-    subst (λ b. BecomesOf (status_of b q) (status_of (is_cut s.1.on.standing) s.0)) (sym (ap (λ (x : Connection). is_cut x.standing) here ∙ t.whole))
+    subst (λ b. BecomesOf (request_status b q) (request_status (is_cut s.1.on.standing) s.0)) (sym (ap (λ (x : Connection). is_cut x.standing) here ∙ t.whole))
     (answered_on setup answers w v n k c d q s.0 (is_cut s.1.on.standing) t (ap (λ (x : Connection). record_on k x) (sym here) ∙ r.found) (ap (λ (x : Connection). record_on k x) (sym there) ∙ s.1.found) s.2.number)
 
 all_answered : (setup : Setup) (answers : Answers) (w v : World) (n k : ℕ) (c d : Connection) (ns more : List ℕ) (xs : List Ask) → RequestsInOrder w → Then setup answers w v n c d → Grown Follows w.connections v.connections → AreAsked w k ns xs → AreAnswered n (request_reports w k ns) (request_reports v k (ns ++ more))

@@ -11,7 +11,7 @@ use Rattle.tds_world.specs.Connection.{Connection, is_cut, cut}
 use Rattle.tds_world.specs.limits.Counts.{AreFew}
 use Rattle.tds_world.specs.Events.{about, acts, notes, settles, happens_at, happens, world_after}
 use Rattle.tds_world.specs.Pool.{Acted, Refuses, Does, opens}
-use Rattle.tds_world.specs.World.{World, Holding, Found, Missing, Here, Opens, new_world, numbered, next_number, put, put_numbered, uncut_in, ended, ended_at, ended_numbered}
+use Rattle.tds_world.specs.World.{World, Holding, Found, Missing, Here, Opens, new_world, numbered, next_number, put, put_numbered, uncut_in, holding_ended, ended_at, ended_numbered}
 use Rattle.tds_world.proofs.events.Happens.{happens_cases}
 use Rattle.tds_world.proofs.events.Words.{either}
 
@@ -143,8 +143,8 @@ happens_few setup answers n e w h =
     })
     (record {
       connections = omega (arith, mapped cut w.connections, h.connections);
-      leases = omega (arith, mapped ended w.leases, h.leases);
-      tickets = omega (arith, mapped ended w.tickets, h.tickets);
+      leases = omega (arith, mapped holding_ended w.leases, h.leases);
+      tickets = omega (arith, mapped holding_ended w.tickets, h.tickets);
       asked = same n (length w.asked_on) h.asked;
     })
     (λ e. at_event setup answers n e w h) e

@@ -25,7 +25,7 @@ use Rattle.tds_world.specs.Phase.{Phase, Asked, Sending}
 use Rattle.tds_world.specs.Pool.{is_free, gives_back_at, abandons_at, keeps_by, is_full}
 use Rattle.tds_world.specs.Record.{Record}
 use Rattle.tds_world.specs.Reports.{AlwaysTold, asked_in, first_run, snapshot_in, kept_in, IsInKept, KeepsIfResumed, OfEachOutcome, ShowsKeptTransaction}
-use Rattle.tds_world.specs.World.{World, Holding, Found, Missing, Here, Opens, new_world, numbered, next_number, holding, ended, ended_at, ended_numbered}
+use Rattle.tds_world.specs.World.{World, Holding, Found, Missing, Here, Opens, new_world, numbered, next_number, holding, holding_ended, ended_at, ended_numbered}
 use Rattle.tds_world.proofs.events.Adds.{GivenAs, Extends, adds_same}
 use Rattle.tds_world.proofs.events.Agreement.{happens_agrees, new_agrees}
 use Rattle.tds_world.proofs.events.Happens.{happens_cases}
@@ -67,7 +67,7 @@ length_ended : (n : ℕ) (hs : List Holding) → length (ended_numbered n hs) �
 length_ended zero hs = refl
 length_ended (suc n) hs = length_ended_at n hs
 
-length_all_ended : (hs : List Holding) → length (map ended hs) ≡ length hs
+length_all_ended : (hs : List Holding) → length (map holding_ended hs) ≡ length hs
 length_all_ended [] = refl
 length_all_ended (h ∷ hs) = ap suc (length_all_ended hs)
 

@@ -18,7 +18,7 @@ use Rattle.tds_world.specs.Events.{about, acts, settles, happens_at, happens, as
 use Rattle.tds_world.specs.Phase.{Phase, Settled, Asked, Sending, Reading, Cancelling}
 use Rattle.tds_world.specs.Pool.{Acted, Refuses, Does, is_free, opens, gives_back_at, abandons_at, keeps_by, place_back, is_full}
 use Rattle.tds_world.specs.Record.{Record}
-use Rattle.tds_world.specs.World.{World, new_world, Holding, Found, Missing, Here, Opens, numbered, next_number, put, put_numbered, holding, ended, ended_at, ended_numbered, there, held, not_cut, by_lease}
+use Rattle.tds_world.specs.World.{World, new_world, Holding, Found, Missing, Here, Opens, numbered, next_number, put, put_numbered, holding, holding_ended, ended_at, ended_numbered, there, held, not_cut, by_lease}
 use Rattle.tds_world.proofs.events.Agreement.{happens_agrees, new_agrees}
 use Rattle.tds_world.proofs.events.Places.{StandsFor, FoundWith, about_stands, Agrees}
 use Rattle.tds_world.proofs.events.Standings.{works_stand, cancels_stand_in, reach_server_stands, reach_client_stands}
@@ -263,9 +263,9 @@ did_hold setup w (event.Keep k) n old d what f i s h =
     (others_stay w.leases k n (held_by w refusal.UnknownLease n old w.leases k (numbered w.leases k) refl (not_cut_is (by_lease w k) n old f))) h
 did_hold setup w (event.Abandon t) n old d what f i s h = held_then w w.leases n d (room_for w.connections n old i) (λ l z. absurd (s l z)) (all_stay w.leases n) h
 did_hold setup w (event.Clean k) n old d what f i s h =
-    held_then w (w.leases ++ ended (holding n d.heard None) ∷ []) n d (room_for w.connections n old i)
-    (λ l z. let g : HasLease w.leases l n = h n old l i (s l z) in record { holding = g.holding; given = stays_more w.leases (ended (holding n d.heard None)) g.holding l g.given; goes_on = g.goes_on; on = g.on })
-    (more_stay w.leases (ended (holding n d.heard None)) n) h
+    held_then w (w.leases ++ holding_ended (holding n d.heard None) ∷ []) n d (room_for w.connections n old i)
+    (λ l z. let g : HasLease w.leases l n = h n old l i (s l z) in record { holding = g.holding; given = stays_more w.leases (holding_ended (holding n d.heard None)) g.holding l g.given; goes_on = g.goes_on; on = g.on })
+    (more_stay w.leases (holding_ended (holding n d.heard None)) n) h
 did_hold setup w event.RestartServer n old d what f i s h = absurd (cc)
 did_hold setup w event.RestartClient n old d what f i s h = absurd (cc)
 did_hold setup w e n old d what f i s h = held_then w w.leases n d (room_for w.connections n old i) (λ l z. h n old l i (s l z)) (all_stay w.leases n) h

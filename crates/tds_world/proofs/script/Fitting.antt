@@ -12,10 +12,10 @@ use Rattle.tds_request.specs.declared.request.Request.TheVariants as request
 use Rattle.tds_session.specs.Answer.{Step, step_then, last_step, final_step, and_then, batch_steps, steps_in, steps_of, wrong_descriptor, answer_to, answer_of}
 use Rattle.tds_session.specs.declared.transaction.Ending.{Ending}
 use Rattle.tds_session.specs.declared.transaction.Ending.TheVariants as ending
-use Rattle.tds_session.specs.Effects.{Effect, error, has_error, fails, done, begin_by, end_by, told_by, renew_by, completes}
+use Rattle.tds_session.specs.Effects.{Effect, error_token, has_error, fails, done, begin_by, end_by, told_by, renew_by, completes}
 use Rattle.tds_session.specs.Lawful.{IsEffect, FitsPacket}
 use Rattle.tds_session.specs.Laws.Sessions.{begun_is_session, ended_is_session, reset_is_session}
-use Rattle.tds_session.specs.Session.{SessionState, IsSession, begun, ended, renewed, after_reset, last_descriptor}
+use Rattle.tds_session.specs.Session.{SessionState, IsSession, transacting, out_of_transaction, renewed, after_reset, last_descriptor}
 use Rattle.tds_token.specs.declared.env_change.EnvChange.{EnvChange}
 use Rattle.tds_token.specs.declared.env_change.EnvChange.TheVariants as change
 use Rattle.tds_token.specs.declared.token.Token.{Token}
@@ -96,7 +96,7 @@ record IsShort (t : Token) : Type 0 where
   pub keeps : columns_after None t ≡ None
   pub short : length (spelling t) ≤ 200
 
-short_error : (number : ℕ) (text : List ℕ) → number < 2 ^ 31 → AreUnits text → length text ≤ 100 → length (spelling (error number text)) ≤ 200 → IsShort (error number text)
+short_error : (number : ℕ) (text : List ℕ) → number < 2 ^ 31 → AreUnits text → length text ≤ 100 → length (spelling (error_token number text)) ≤ 200 → IsShort (error_token number text)
 short_error number text n units few short = record {
   fits = record { server = lit< tt; procedure = lit< tt; whole = omega (arith, few) };
   ranged = record { number = fits_signed_from_abs w32 (pos number) n; state = lit< tt; class = lit< tt; text = units; server = tt; procedure = tt; line = fits_signed_from_abs w32 (pos 0) (lit< tt) };
@@ -148,19 +148,19 @@ units_of : (us : List ℕ) → list_all (λ u. nat_le u 65535) us ≡ true → A
 units_of [] h = tt
 units_of (u ∷ us) h = units_then (nat_le u 65535) u us (list_all (λ v. nat_le v 65535) us) refl h (units_of us)
 
-syntax : IsShort (error 50001 (codes "syntax"))
+syntax : IsShort (error_token 50001 (codes "syntax"))
 syntax = short_error 50001 (codes "syntax") (lit< tt) (units_of (codes "syntax") refl) (lit≤ tt) (lit≤ tt)
 
-descriptor : IsShort (error 50010 (codes "descriptor"))
+descriptor : IsShort (error_token 50010 (codes "descriptor"))
 descriptor = short_error 50010 (codes "descriptor") (lit< tt) (units_of (codes "descriptor") refl) (lit≤ tt) (lit≤ tt)
 
-in_transaction : IsShort (error 50002 (codes "in transaction"))
+in_transaction : IsShort (error_token 50002 (codes "in transaction"))
 in_transaction = short_error 50002 (codes "in transaction") (lit< tt) (units_of (codes "in transaction") refl) (lit≤ tt) (lit≤ tt)
 
-no_descriptor : IsShort (error 50004 (codes "no descriptor"))
+no_descriptor : IsShort (error_token 50004 (codes "no descriptor"))
 no_descriptor = short_error 50004 (codes "no descriptor") (lit< tt) (units_of (codes "no descriptor") refl) (lit≤ tt) (lit≤ tt)
 
-no_transaction : IsShort (error 50003 (codes "no transaction"))
+no_transaction : IsShort (error_token 50003 (codes "no transaction"))
 no_transaction = short_error 50003 (codes "no transaction") (lit< tt) (units_of (codes "no transaction") refl) (lit≤ tt) (lit≤ tt)
 
 short_change : (e : EnvChange) → FitsEnv e → RangedEnv e → length (spelling (token.Env e)) ≤ 200 → IsShort (token.Env e)
@@ -169,11 +169,11 @@ short_change e fits ranged short = record { fits = fits; ranged = ranged; under 
 -- ---- A transaction's requests
 
 begin_fits : (outside used_up : Bool) (s : SessionState) → (s.next_descriptor == last_descriptor) ≡ used_up → IsSession s → FitsStep (last_step (begin_by outside used_up s))
-begin_fits false used_up s e h = last_fits (error 50002 (codes "in transaction")) s in_transaction h
-begin_fits true true s e h = last_fits (error 50004 (codes "no descriptor")) s no_descriptor h
+begin_fits false used_up s e h = last_fits (error_token 50002 (codes "in transaction")) s in_transaction h
+begin_fits true true s e h = last_fits (error_token 50004 (codes "no descriptor")) s no_descriptor h
 begin_fits true false s e h =
     let left : s.next_descriptor < 18446744073709551615 = grind (arith, nat_tests, h.next_fits) in
-    last_fits (token.Env (change.Begin s.next_descriptor)) (begun s) (short_change (change.Begin s.next_descriptor) h.next_some h.next_fits (lit≤ tt)) (begun_is_session s h left)
+    last_fits (token.Env (change.Begin s.next_descriptor)) (transacting s) (short_change (change.Begin s.next_descriptor) h.next_some h.next_fits (lit≤ tt)) (begun_is_session s h left)
 
 some_descriptor : (d : ℕ) → (d == 0) ≡ false → 0 < d
 some_descriptor d e = grind (arith, nat_tests)
@@ -183,16 +183,16 @@ short_end ending.Commit s e h = short_change (change.Commit s.descriptor) (some_
 short_end ending.Rollback s e h = short_change (change.Rollback s.descriptor) (some_descriptor s.descriptor e) h.descriptor (lit≤ tt)
 
 end_fits : (outside : Bool) (how : Ending) (s : SessionState) → (s.descriptor == 0) ≡ outside → IsSession s → FitsStep (last_step (end_by outside (told_by how) s))
-end_fits true how s e h = last_fits (error 50003 (codes "no transaction")) s no_transaction h
-end_fits false how s e h = last_fits (token.Env (told_by how s.descriptor)) (ended s) (short_end how s e h) (ended_is_session s h)
+end_fits true how s e h = last_fits (error_token 50003 (codes "no transaction")) s no_transaction h
+end_fits false how s e h = last_fits (token.Env (told_by how s.descriptor)) (out_of_transaction s) (short_end how s e h) (ended_is_session s h)
 
 renewal_fits : (outside used_up : Bool) (how : Ending) (s : SessionState) → (s.descriptor == 0) ≡ outside → (s.next_descriptor == last_descriptor) ≡ used_up → IsSession s → FitsStep (last_step (renew_by outside used_up how s))
-renewal_fits true used_up how s e u h = last_fits (error 50003 (codes "no transaction")) s no_transaction h
-renewal_fits false true how s e u h = last_fits (error 50004 (codes "no descriptor")) s no_descriptor h
+renewal_fits true used_up how s e u h = last_fits (error_token 50003 (codes "no transaction")) s no_transaction h
+renewal_fits false true how s e u h = last_fits (error_token 50004 (codes "no descriptor")) s no_descriptor h
 renewal_fits false false how s e u h =
     let left : s.next_descriptor < 18446744073709551615 = grind (arith, nat_tests, h.next_fits) in
     last_two_fit (token.Env (told_by how s.descriptor)) (token.Env (change.Begin s.next_descriptor)) (renewed s) (short_end how s e h)
-    (short_change (change.Begin s.next_descriptor) h.next_some h.next_fits (lit≤ tt)) (begun_is_session (ended s) (ended_is_session s h) left)
+    (short_change (change.Begin s.next_descriptor) h.next_some h.next_fits (lit≤ tt)) (begun_is_session (out_of_transaction s) (ended_is_session s h) left)
 
 completion_fits : (how : Ending) (anew : Option ℕ) (s : SessionState) → IsSession s → FitsStep (last_step (completes how anew s))
 completion_fits how None s h = end_fits (s.descriptor == 0) how s refl h
@@ -215,8 +215,8 @@ batch_fits IsOne step f s (q ∷ qs) h k =
     and_fit (has_error (step s q)) (step s q) (batch_steps step (step s q).after qs) first
     (batch_fits IsOne step f (step s q).after qs first.after (All-tail IsOne q qs k))
 
-refused_fits : (number : ℕ) (text : List ℕ) (s : SessionState) → IsShort (error number text) → IsSession s → AllByRecursion FitsStep (and_then true (fails number text s) [])
-refused_fits number text s k h = and_fit true (fails number text s) [] (alone_fits (error number text) false None s k h) tt
+refused_fits : (number : ℕ) (text : List ℕ) (s : SessionState) → IsShort (error_token number text) → IsSession s → AllByRecursion FitsStep (and_then true (fails number text s) [])
+refused_fits number text s k h = and_fit true (fails number text s) [] (alone_fits (error_token number text) false None s k h) tt
 
 in_fit : {S : Type 0} (IsOne : S → Type 0) (step : SessionState → S → Effect) → DoFit IsOne step → (s : SessionState) (o : Option (List S)) → IsSession s → ((qs : List S) → o ≡ Some qs → All IsOne qs) → AllByRecursion FitsStep (steps_in step s o)
 in_fit IsOne step f s None h k = refused_fits 50001 (codes "syntax") s syntax h
@@ -234,9 +234,9 @@ of_fit IsOne statements step r f s (request.Rollback anew) h = (completion_fits 
 
 wrong_fits : (s : SessionState) (q : Request) → IsSession s → AllByRecursion FitsStep (wrong_descriptor s q)
 wrong_fits s (request.Batch text) h = refused_fits 50010 (codes "descriptor") s descriptor h
-wrong_fits s (request.Begin i) h = (last_fits (error 50010 (codes "descriptor")) s descriptor h, tt)
-wrong_fits s (request.Commit anew) h = (last_fits (error 50010 (codes "descriptor")) s descriptor h, tt)
-wrong_fits s (request.Rollback anew) h = (last_fits (error 50010 (codes "descriptor")) s descriptor h, tt)
+wrong_fits s (request.Begin i) h = (last_fits (error_token 50010 (codes "descriptor")) s descriptor h, tt)
+wrong_fits s (request.Commit anew) h = (last_fits (error_token 50010 (codes "descriptor")) s descriptor h, tt)
+wrong_fits s (request.Rollback anew) h = (last_fits (error_token 50010 (codes "descriptor")) s descriptor h, tt)
 
 to_fit : {S : Type 0} (IsOne : S → Type 0) (statements : List ℕ → Option (List S)) (step : SessionState → S → Effect) → Reads IsOne statements → DoFit IsOne step → (s : SessionState) (d : ℕ) (q : Request) → IsSession s → AllByRecursion FitsStep (answer_to statements step s d q)
 to_fit IsOne statements step r f s d q h =

@@ -8,7 +8,7 @@ use Rattle.tds_session.specs.declared.attention.OnAttention.TheVariants as on_at
 use Rattle.tds_session.specs.Answer as answer
 use Rattle.tds_session.specs.Answer.{Answers}
 use Rattle.tds_session.specs.Attention.{stop_by}
-use Rattle.tds_session.specs.Session.{SessionState, new_session, begun, is_in_transaction, last_descriptor}
+use Rattle.tds_session.specs.Session.{SessionState, new_session, transacting, is_in_transaction, last_descriptor}
 use Rattle.tds_token.specs.declared.env_change.EnvChange.{EnvChange}
 use Rattle.tds_token.specs.declared.token.Token.{Token}
 use Rattle.tds_token.specs.Told.{told}
@@ -113,7 +113,7 @@ left_alone answers own x =
 -- begun, if the lease came from a ticket.
 abbrev pub session_from : Option ℕ → SessionState
 session_from None = new_session
-session_from (Some ticket) = begun new_session
+session_from (Some ticket) = transacting new_session
 
 abbrev pub own_session : Option Holding → SessionState
 own_session None = new_session

@@ -3,7 +3,7 @@ use Rattle.std.specs.Prelude.{ℕ, List, [], ◌∷◌, Bool, true, false, ◌&&
 use Rattle.std.specs.List.{AllByRecursion}
 use Rattle.tds_session.specs.declared.attention.OnAttention.{OnAttention}
 use Rattle.tds_session.specs.Answer.{Answers}
-use Rattle.tds_session.specs.Session.{SessionState, new_session, begun}
+use Rattle.tds_session.specs.Session.{SessionState, new_session, transacting}
 use Rattle.tds_world.specs.declared.event.Event.{Event}
 use Rattle.tds_world.specs.declared.outcome.Opened.{Opened}
 use Rattle.tds_world.specs.declared.outcome.Opened.TheVariants as opened
@@ -75,7 +75,7 @@ OfEachLease P far events r =
 abbrev pub own_by : Opened → SessionState
 own_by opened.New = new_session
 own_by opened.Reused = new_session
-own_by opened.Resumed = begun new_session
+own_by opened.Resumed = transacting new_session
 
 -- Each lease that is shown is told what it would be told alone.
 abbrev pub ShowsAsIfAlone : OnAttention → Answers → HowFar → List Event → Report → Type 0

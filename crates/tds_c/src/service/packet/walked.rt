@@ -2,7 +2,7 @@
 
 ghost use Rattle.std.specs.Prelude.{◌≡◌, ◌≤◌, ◌<◌, IfErr, IfOk, MatchResult, List, None, Option, Some, drop, length, true};
 ghost use Rattle.tds_wire.specs.Lent.{reading_of};
-ghost use Rattle.tds_wire.specs.Reading.{Reading, next_token};
+ghost use Rattle.tds_wire.specs.Reading.{Parser, next_token};
 ghost use Rattle.tds_wire.specs.declared.told.Token.{Token as AnyToken};
 ghost use Rattle.tds_walk.specs.Wire.{truth};
 ghost use Rattle.tds_walk.specs.WireCalls.{reading_from};
@@ -182,7 +182,7 @@ pub(super) fn hear_walked(
       taken = 0;
       room = record { before = tokens.old; after = tokens.new; count = 0 };
     }) result × (taken.new ≡ taken.old) × (count.new ≡ count.old) }
-    ensures some { (first : Start) (room : List TdsWireToken) (r : Reading)
+    ensures some { (first : Start) (room : List TdsWireToken) (r : Parser)
         → length room ≡ length tokens.old → reading_from walk.old memory.old ≡ Some r
         → HasCome first (record { seat = seat.old; reading = r; rest = drop taken.old bytes.now })
         (record { before = room; after = tokens.old; count = count.old })

@@ -1,7 +1,7 @@
 //! What a seat's client hears of tokens that stand whole, in the walk's value and in the seat's own place.
 
 ghost use Rattle.std.specs.Prelude.{◌≡◌, ◌≤◌, [], MatchResult, Some, drop, length, true};
-ghost use Rattle.tds_wire.specs.Reading.{Reading};
+ghost use Rattle.tds_wire.specs.Reading.{Parser};
 ghost use Rattle.tds_walk.specs.Rooms.{Room};
 ghost use Rattle.tds_walk.specs.Taking.{IsReadyValue};
 ghost use Rattle.tds_walk.specs.Wire.{truth};
@@ -36,8 +36,8 @@ fn hear_whole(
     ensures within { taken.new ≤ length bytes.now }
     ensures room { count.new ≤ length tokens.new }
     ensures same { length tokens.new ≡ length tokens.old }
-    ensures run { (r : Reading) → reading_from walk.old memory.now ≡ Some r
-        → (next : Reading) × (reading_from walk.new memory.now ≡ Some next) × MatchResult result
+    ensures run { (r : Parser) → reading_from walk.old memory.now ≡ Some r
+        → (next : Parser) × (reading_from walk.new memory.now ≡ Some next) × MatchResult result
         (λ _. HasCome (record { seat = seat.old; reading = r; rest = bytes.now })
         (record { seat = seat.new; reading = next; rest = drop taken.new bytes.now })
         (record { before = tokens.old; after = tokens.new; count = count.new }))
@@ -71,10 +71,10 @@ fn hear_whole(
 #[inline(always)]
 fn end_ready(seat: &mut TdsSeat, walk: &mut TdsWire, memory: &mut Memory, ends: u8) -> u8
     requires ready { IsReadyValue walk.old }
-    ensures { (first : Start) (room : Room TdsWireToken) (r : Reading)
+    ensures { (first : Start) (room : Room TdsWireToken) (r : Parser)
         → reading_from walk.old memory.old ≡ Some r
         → HasCome first (record { seat = seat.old; reading = r; rest = [] }) room
-        → (halt : AnyHalt) × (result ≡ halt_number halt) × (next : Reading)
+        → (halt : AnyHalt) × (result ≡ halt_number halt) × (next : Parser)
         × (reading_from walk.new memory.new ≡ Some next)
         × StopsHere first (record { seat = seat.new; reading = next; rest = [] }) (truth ends) room
         halt }

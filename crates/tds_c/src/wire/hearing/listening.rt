@@ -9,7 +9,7 @@ ghost use Rattle.tds_client.specs.declared.sign.Rules.TheVariants.{Any};
 ghost use Rattle.tds_listen.specs.Faults.{broken_at_end};
 ghost use Rattle.tds_listen.specs.Hearing.{heard_end, told_if};
 ghost use Rattle.tds_listen.specs.Signs.{sign_of};
-ghost use Rattle.tds_wire.specs.Reading.{Reading, is_between};
+ghost use Rattle.tds_wire.specs.Reading.{Parser, is_between};
 ghost use Rattle.tds_walk.specs.WireTokens.{Puts};
 
 use tds_client::{ClientFault, ClientParts, Rules, StageParts, Taken};
@@ -64,7 +64,7 @@ pub(super) fn hear_token(
 /// The client hears that the message has ended, between two tokens or inside one.
 #[inline(always)]
 pub(super) fn end_message(parts: &mut ClientParts, between: bool) -> Result<Taken, ListenFault>
-    ensures exact { (r : Reading) → is_between r ≡ between → MatchResult result
+    ensures exact { (r : Parser) → is_between r ≡ between → MatchResult result
         (λ answer. heard_end (session_from parts.old []) r
         ≡ Ok (record { answer = answer; session = session_from parts.new [] }))
         (λ fault. heard_end (session_from parts.old []) r ≡ Err fault) }

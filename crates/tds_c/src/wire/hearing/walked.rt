@@ -6,7 +6,7 @@ ghost use Rattle.tds_client.specs.Parts.{session_from, stage_from};
 ghost use Rattle.tds_listen.specs.Faults.{broken_at};
 ghost use Rattle.tds_listen.specs.Hearing.{next_heard};
 ghost use Rattle.tds_wire.specs.Lent.{reading_of};
-ghost use Rattle.tds_wire.specs.Reading.{Reading};
+ghost use Rattle.tds_wire.specs.Reading.{Parser};
 ghost use Rattle.tds_wire.specs.declared.told.Token.{Token as AnyToken};
 ghost use Rattle.tds_c.specs.Hearing.{HasHeard, HaltsBehind, HearsFrom, NothingDone, Place, StopsBehind, TellsFault};
 ghost use Rattle.tds_walk.specs.WireCalls.{reading_from};
@@ -182,7 +182,7 @@ pub(super) fn hear_walked(
       taken = 0;
       room = record { before = tokens.old; after = tokens.new; count = 0 };
     }) result × (taken.new ≡ taken.old) × (count.new ≡ count.old) }
-    ensures some { (first : Place) (room : List TdsWireToken) (r : Reading)
+    ensures some { (first : Place) (room : List TdsWireToken) (r : Parser)
         → length room ≡ length tokens.old → reading_from walk.old memory.old ≡ Some r
         → HasHeard first (record {
           session = session_from parts [];

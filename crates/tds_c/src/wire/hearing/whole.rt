@@ -7,7 +7,7 @@ ghost use Rattle.tds_client.specs.Machine.{with_heard};
 ghost use Rattle.tds_client.specs.Session.{ClientSession, Reading as IsReading};
 ghost use Rattle.tds_client.specs.declared.sign.Rules.TheVariants.{Any};
 ghost use Rattle.tds_listen.specs.Signs.{sign_of};
-ghost use Rattle.tds_wire.specs.Reading.{Reading};
+ghost use Rattle.tds_wire.specs.Reading.{Parser};
 ghost use Rattle.tds_wire.specs.Whole.{IsNext};
 ghost use Rattle.tds_c.specs.Hearing.{HasHeard, HeardHere, Ready};
 ghost use Rattle.tds_walk.specs.WireCalls.{reading_from};
@@ -192,9 +192,9 @@ pub(super) fn hear_whole(
     ensures within { taken.new ≤ length bytes.now }
     ensures room { count.new ≤ length tokens.new }
     ensures same { length tokens.new ≡ length tokens.old }
-    ensures run { (s : ClientSession) (first : Reading) → s.stage ≡ IsReading → s.heard ≡ heard.old
+    ensures run { (s : ClientSession) (first : Parser) → s.stage ≡ IsReading → s.heard ≡ heard.old
         → reading_from walk.old memory.now ≡ Some first
-        → (reading : Reading) × (reading_from walk.new memory.now ≡ Some reading)
+        → (reading : Parser) × (reading_from walk.new memory.now ≡ Some reading)
         × HasHeard (record { session = s; reading = first; rest = bytes.now }) (record {
           session = with_heard s heard.new;
           reading = reading;

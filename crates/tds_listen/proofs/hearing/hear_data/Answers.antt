@@ -1,5 +1,5 @@
 use Rattle.std.proofs.Common.{◌≡◌, ◌∙◌, sym, ap, drop, rules}
-use Rattle.tds_wire.specs.Reading.{Reading}
+use Rattle.tds_wire.specs.Reading.{Parser}
 use Rattle.tds_listen.specs.Hearing.{heard_data}
 use Rattle.tds_listen.proofs.Data.{goes_on, heard_all, stops}
 use Rattle.tds_listen.proofs.Rows.{rows_behind}
@@ -16,7 +16,7 @@ pub returns-in-Err-clause-exact : goal.returns-in-Err-clause-exact
 returns-in-Err-clause-exact c =
     let none : c.pass_rows-rows.result ≡ 0 = search rules in
     c.tokens.invariant.does
-    ∙ (ap (λ (r : Reading). heard_data c.tokens.client r (drop c.tokens.done c.args.bytes.now)) (sym (c.pass_rows-rows.ensures.same none))
+    ∙ (ap (λ (r : Parser). heard_data c.tokens.client r (drop c.tokens.done c.args.bytes.now)) (sym (c.pass_rows-rows.ensures.same none))
     ∙ stops c.tokens.client c.pass_rows-rows.new.parser c.args.bytes.now c.tokens.done (search rules) c.in-Err.fault c.in-Err.ensures.exact)
 
 pub tokens-preserved : goal.tokens-preserved
@@ -24,7 +24,7 @@ tokens-preserved c =
     let none : c.pass_rows-rows.result ≡ 0 = search rules in
     record {
       does = c.tokens.invariant.does
-          ∙ (ap (λ (r : Reading). heard_data c.tokens.client r (drop c.tokens.done c.args.bytes.now)) (sym (c.pass_rows-rows.ensures.same none))
+          ∙ (ap (λ (r : Parser). heard_data c.tokens.client r (drop c.tokens.done c.args.bytes.now)) (sym (c.pass_rows-rows.ensures.same none))
           ∙ goes_on c.tokens.client c.pass_rows-rows.new.parser c.args.bytes.now c.tokens.done (search rules) c.in-Ok.heard.token _ _ c.in-Ok.heard.count c.in-Ok.ensures.exact);
       within = search rules;
     }

@@ -7,7 +7,7 @@ use Rattle.tds_client.specs.Session.{Stage, Idle, Sending, Reading, Cancelling, 
 use Rattle.tds_pool.specs.Calls.{IsRefusal, Returned, all_numbers, asks_reset, behind_refusal, cleaned, cleaned_to, cleaning, free_one, is_clean, is_cleaning, is_free, is_held, looked_at_clean, not_cleaned, only, refuses_clean, rests_clean}
 use Rattle.tds_pool.specs.Calls as calls
 use Rattle.tds_pool.specs.Cleaning.{client_at, is_cleaned}
-use Rattle.tds_pool.specs.Connections.{Connection, PoolState, SameRest, at_place, changed, connections, numbered, taken_out}
+use Rattle.tds_pool.specs.Connections.{Connection, PoolState, SameRest, at_place, changed_in, connections, numbered, taken_out}
 use Rattle.tds_pool.specs.declared.answers.GivenBack.TheVariants as given
 use Rattle.tds_pool.specs.declared.answers.PoolRefusal.{PoolRefusal}
 use Rattle.tds_pool.specs.declared.answers.PoolRefusal.TheVariants as refusals
@@ -101,11 +101,11 @@ pub not_cleaned_so : (o : Option PoolRefusal) (why : PoolRefusal) → IsRefusal 
 not_cleaned_so None why is other = absurd (other is)
 not_cleaned_so (Some first) why is other = ap cleans_not is
 
-changed_same : (n : ℕ) (f : Connection → Connection) (cs : List Connection) → ((c : Connection) → f c ≡ c) → changed n f cs ≡ cs
+changed_same : (n : ℕ) (f : Connection → Connection) (cs : List Connection) → ((c : Connection) → f c ≡ c) → changed_in n f cs ≡ cs
 changed_same n f [] same = refl
 changed_same n f (c ∷ cs) same = by (eqb c.number n) (changed_same n f cs same)
   where
-    by : (b : Bool) → changed n f cs ≡ cs → cond b (f c) c ∷ changed n f cs ≡ c ∷ cs
+    by : (b : Bool) → changed_in n f cs ≡ cs → cond b (f c) c ∷ changed_in n f cs ≡ c ∷ cs
     by true e = rw (same c, e) refl
     by false e = rw e refl
 

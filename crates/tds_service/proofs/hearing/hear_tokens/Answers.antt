@@ -4,7 +4,7 @@ use Rattle.tds_wire.specs.Reading.{next_token}
 use Rattle.tds_service.specs.declared.connection.Connection.{Connection}
 use Rattle.tds_service.specs.Line as line
 use Rattle.tds_service.specs.Line.{Line}
-use Rattle.tds_service.specs.Parts.{told}
+use Rattle.tds_service.specs.Parts.{items_told}
 use Rattle.tds_service.specs.Ties.{Hears, Stands, line_in, items_of, part_of}
 use Rattle.tds_service.proofs.Packeting.{one_more_at, fault_at, within_at, moves_at}
 use Rattle.tds_service.proofs.Noting.{noted_fits, noted_still_fits, noted_more}
@@ -17,7 +17,7 @@ note-requires c =
     let s = c.tokens.invariant.some in
     let some : 0 < c.in-Ok.count = search rules in
     noted_fits s.0 (line_in c.args.connection.now) (line_in c.tokens.connection) (line_in c.hear_whole.new.self) c.args.connection.now.parser c.tokens.connection.parser c.args.bytes.now [] s.1
-    c.tokens.done c.tokens-test.true s.2 c.args.tells c.hear_whole.new.token (told (items_of c.hear_whole.new.token)) _ _ (c.in-Ok.ensures.ok some) refl c.tokens.told.ok.1 c.tokens.invariant.room
+    c.tokens.done c.tokens-test.true s.2 c.args.tells c.hear_whole.new.token (items_told (items_of c.hear_whole.new.token)) _ _ (c.in-Ok.ensures.ok some) refl c.tokens.told.ok.1 c.tokens.invariant.room
 
 pub tokens-preserved-then-whole-gt0 : goal.tokens-preserved-then-whole-gt0
 tokens-preserved-then-whole-gt0 c =
@@ -30,7 +30,7 @@ tokens-preserved-then-whole-gt0 c =
     let done = c.tokens.done in
     let count = c.in-Ok.count in
     let some : 0 < count = search rules in
-    let found = told (items_of c.hear_whole.new.token) in
+    let found = items_told (items_of c.hear_whole.new.token) in
     let s = c.tokens.invariant.some in
     let more = c.tokens-test.true in
     let one = one_more_at s.0 l k new r reading bytes [] s.1 done more s.2 c.hear_whole.new.self.parser count found (c.in-Ok.ensures.ok some) (c.in-Ok.ensures.stands some) in

@@ -2,7 +2,7 @@ use Rattle.std.proofs.Common.{◌∙◌, ℕ, ◌∷◌, [], ◌++◌, length, t
 use Rattle.std.proofs.Math.Seq.{take-append_seam}
 use Rattle.std.specs.Prelude.{Some}
 use Rattle.tds_wire.specs.declared.told.Token.{Token}
-use Rattle.tds_service.specs.Line.{Cancel, turn}
+use Rattle.tds_service.specs.Line.{Cancel, line_turn}
 use Rattle.tds_service.specs.Service.{Back, Free, has_lease}
 use Rattle.tds_service.specs.Table.{rest_of}
 use Rattle.tds_c.specs.declared.service.plain.TdsSeat.{TdsSeat}
@@ -51,7 +51,7 @@ returns-clause-ok c =
     c.cancelled-cancelled.ensures.line c.rest-rest.ensures c.written-written.ensures.sent is
     (c.settle-2.ensures.table test (Cancel ∷ []) (Back (rest_of rest)) here.seat here.at here.first
     (c.cancelled-cancelled.ensures.number ∙ ap (λ (z : TdsSeat). z.number) (same_seat test s.count seats i here _))
-    (c.cancelled-cancelled.ensures.line ∙ ap (λ (z : TdsSeat). (turn {T = Token} (line_of z) Cancel).line) (same_seat test s.count seats i here _)))
+    (c.cancelled-cancelled.ensures.line ∙ ap (λ (z : TdsSeat). (line_turn {T = Token} (line_of z) Cancel).line) (same_seat test s.count seats i here _)))
 
 pub returns-clause-leaves : goal.returns-clause-leaves
 returns-clause-leaves c =

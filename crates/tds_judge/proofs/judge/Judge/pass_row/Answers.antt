@@ -1,5 +1,5 @@
 use Rattle.std.proofs.Common.{rules, ◌≡◌, ◌∙◌, ◌<◌, ℕ, Option, Some, take, sym, ap}
-use Rattle.tds_wire.specs.Reading.{Reading}
+use Rattle.tds_wire.specs.Reading.{Parser}
 use Rattle.tds_judge.specs.declared.finding.Direction.TheVariants.{ToClient}
 use Rattle.tds_judge.specs.declared.judge.Judge.{Judge}
 use Rattle.tds_judge.specs.Framing.{run_of, steps}
@@ -19,7 +19,7 @@ returns-else-count-gt0-clause-run c = λ time told.
     let none : c.pass_row-count.result ≡ 0 = search rules in
     let still : Judge = record c.args.self.now { parser = Some c.pass_row-count.new.self } in
     let same : still ≡ c.args.self.now =
-    ap (λ (r : Reading). record c.args.self.now { parser = Some r }) (c.pass_row-count.ensures.same none)
-    ∙ ap (λ (o : Option Reading). record c.args.self.now { parser = o }) (sym c.in-Some.is) in
+    ap (λ (r : Parser). record c.args.self.now { parser = Some r }) (c.pass_row-count.ensures.same none)
+    ∙ ap (λ (o : Option Parser). record c.args.self.now { parser = o }) (sym c.in-Some.is) in
     no_steps time c.args.run.now c.args.self.now still told same
     ∙ ap (λ (n : ℕ). steps ToClient time (take n c.args.run.now) (run_of c.args.self.now told)) (sym none)

@@ -7,7 +7,7 @@ use Rattle.tds_judge.specs.declared.finding.Spot.{Spot}
 use Rattle.tds_judge.specs.declared.judge.Judge.{Judge}
 use Rattle.tds_judge.specs.declared.talk.Event.TheVariants as events
 use Rattle.std.specs.Prelude.{Option, Some, take}
-use Rattle.tds_wire.specs.Reading.{Reading}
+use Rattle.tds_wire.specs.Reading.{Parser}
 use Rattle.tds_judge.proofs.judge.Judge.walk_run.Goals as goal
 
 pub returns-in_default-clause-run : goal.returns-in_default-clause-run
@@ -18,7 +18,7 @@ returns-then-not-takes_runs-clause-run c =
     let there : Judge = record c.args.self.now { parser = Some c.in-Some.parser } in
     c.step.ensures.run
     ∙ (one_step ToClient c.args.time c.args.run.now (run_of there c.args.out.now.items) c.requires.some
-    ∙ ap (λ (w : Option Reading). steps ToClient c.args.time (take 1 c.args.run.now) (run_of (record c.args.self.now { parser = w }) c.args.out.now.items)) (sym c.in-Some.is))
+    ∙ ap (λ (w : Option Parser). steps ToClient c.args.time (take 1 c.args.run.now) (run_of (record c.args.self.now { parser = w }) c.args.out.now.items)) (sym c.in-Some.is))
 
 pub returns-in-Inside-clause-run : goal.returns-in-Inside-clause-run
 returns-in-Inside-clause-run c =

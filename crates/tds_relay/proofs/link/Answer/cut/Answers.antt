@@ -1,5 +1,5 @@
 use Rattle.std.proofs.Common.{◌≡◌, ◌∙◌, ◌++◌, ◌<◌, Bool, [], ap, drop, length, rules, subst, sym}
-use Rattle.tds_wire.specs.Reading.{Reading, found_to, next_token}
+use Rattle.tds_wire.specs.Reading.{Parser, found_to, next_token}
 use Rattle.tds_relay.specs.Cutting.{known_behind, left_of, passed_on}
 use Rattle.tds_relay.proofs.bytes.Cuts.{ended_is, kept_all, kept_on, known_all, no_bytes, refused_is, stands_all, stands_none}
 use Rattle.tds_relay.proofs.link.Answer.cut.Goals as goal
@@ -8,7 +8,7 @@ pub tokens-preserved : goal.tokens-preserved
 tokens-preserved c =
     let some : 0 < length c.tokens.rest.now = search rules in
     let found : found_to c.in-Ok.fed.token c.pass.new.self.parser (drop c.in-Ok.fed.count c.tokens.rest.now) ≡ next_token c.tokens.self.parser c.tokens.rest.now =
-    subst (λ (r : Reading). found_to c.in-Ok.fed.token r (drop c.in-Ok.fed.count c.tokens.rest.now) ≡ next_token c.tokens.self.parser c.tokens.rest.now) (sym c.in_ok-pass.ensures.parser) c.in-Ok.ensures.exact in
+    subst (λ (r : Parser). found_to c.in-Ok.fed.token r (drop c.in-Ok.fed.count c.tokens.rest.now) ≡ next_token c.tokens.self.parser c.tokens.rest.now) (sym c.in_ok-pass.ensures.parser) c.in-Ok.ensures.exact in
     let on = kept_on c.tokens.kept.items c.pass.new.kept.items c.tokens.self.known c.pass.new.self.known c.tokens.self.parser c.pass.new.self.parser c.tokens.rest.now
     c.split_at.result.0.now c.split_at.result.1.now c.in-Ok.fed.count c.in-Ok.fed.token some c.in-Ok.ensures.within c.in-Ok.ensures.all found c.split_at.ensures.front c.split_at.ensures.back
     (c.in_ok-pass.ensures.kept ∙ ap (λ (b : Bool). c.tokens.kept.items ++ passed_on b c.tokens.self.known c.split_at.result.0.now) c.is_some.ensures)

@@ -1,8 +1,8 @@
 use Rattle.std.proofs.Common.{◌≡◌, ◌∙◌, ◌++◌, List, ℕ, ap, subst}
-use Rattle.tds_relay.specs.Cutting.{IsAnew, IsCut, awaited, ends_in, left_of}
+use Rattle.tds_relay.specs.Cutting.{IsAnew, IsCut, awaited, is_last_packet, left_of}
 use Rattle.tds_relay.specs.declared.news.Known.{Known}
 use Rattle.tds_relay.specs.News.{awaiting}
-use Rattle.tds_relay.specs.Queues.{queue_in, put}
+use Rattle.tds_relay.specs.Queues.{queue_in, put_behind}
 use Rattle.tds_relay.proofs.bytes.Cuts.{behind_is, cut_is}
 use Rattle.tds_relay.proofs.steps.Reaching.{ok_if, ok_more}
 use Rattle.tds_relay.proofs.link.Answer.put_without_news.Goals as goal
@@ -21,13 +21,13 @@ returns-clause-cut c =
     (λ queue. (
       made.0,
       is_cut,
-      queue ∙ ap (λ (bytes : List ℕ). put bytes (queue_in c.args.on.now)) (c.deref-2.ensures.value ∙ made.2 ∙ ap (λ (front : List ℕ). front ++ made.0) c.new-packets.ensures.items),
+      queue ∙ ap (λ (bytes : List ℕ). put_behind bytes (queue_in c.args.on.now)) (c.deref-2.ensures.value ∙ made.2 ∙ ap (λ (front : List ℕ). front ++ made.0) c.new-packets.ensures.items),
     ))
     c.append.ensures.queue
 
 pub returns-clause-behind : goal.returns-clause-behind
 returns-clause-behind c =
     let owed = awaited c.args.owed c.args.self.now in
-    let behind = behind_is owed c.args.bytes.now c.ends-ends.result (ends_in c.args.header) c.awaits.new.self c.cut.new.self.known c.close.new.self.known c.cut.new.self.parser c.close.new.self.parser c.awaits.ensures
+    let behind = behind_is owed c.args.bytes.now c.ends-ends.result (is_last_packet c.args.header) c.awaits.new.self c.cut.new.self.known c.close.new.self.known c.cut.new.self.parser c.close.new.self.parser c.awaits.ensures
     c.ends-ends.ensures c.in_ok-cut.ensures.known c.in_ok-cut.ensures.stands c.in_ok-close.ensures.known c.in_ok-close.ensures.parser in
     ok_if c.append.result _ (behind.0, behind.1, c.in_ok-close.ensures.size ∙ c.in_ok-cut.ensures.size)

@@ -1,5 +1,5 @@
 use Rattle.std.proofs.Common.{ap, false, refl, rules, ℕ, ◌≡◌, ◌∙◌, Some, subst, sym}
-use Rattle.tds_service.specs.Table.{service_in, Refuses}
+use Rattle.tds_service.specs.Table.{service_in, Denies}
 use Rattle.tds_relay.specs.Ties.{pool_in}
 use Rattle.tds_relay.proofs.steps.Sent.{asks_on, behind, sends_alike}
 use Rattle.tds_service.specs.Service as calls
@@ -35,4 +35,4 @@ pub returns-in-Err-clause-refused : goal.returns-in-Err-clause-refused
 returns-in-Err-clause-refused c = λ hold its.
     let mine : find_key c.args.key (pool_in c.args.self.now).holds ≡ Some c.in-Some.hold = search rules in
     let same : c.in-Some.hold ≡ hold = (let u : Some c.in-Some.hold ≡ Some hold = sym mine ∙ its in cc) in
-    subst (λ (h : Hold). Refuses (calls.Ask h.lease) (service_in c.args.self.now.service) c.in-Err.refusal) same c.in-Err.ensures.refused
+    subst (λ (h : Hold). Denies (calls.Ask h.lease) (service_in c.args.self.now.service) c.in-Err.refusal) same c.in-Err.ensures.refused

@@ -1,6 +1,6 @@
 use Rattle.std.proofs.Common.{◌≡◌, ◌∙◌, refl, sym, ap, subst, rules, false}
 use Rattle.std.specs.Prelude.{Option, Some, None, ◌≢◌}
-use Rattle.tds_wire.specs.Reading.{Reading}
+use Rattle.tds_wire.specs.Reading.{Parser}
 use Rattle.tds_service.specs.Line as line
 use Rattle.tds_service.specs.Packets.{packet_part}
 use Rattle.tds_service.specs.Table.{reading_on, service_in}
@@ -11,7 +11,7 @@ use Rattle.tds_service.specs.Service.{Seat, lease_at}
 use Rattle.tds_relay.specs.Pool.{Comes, NotLent, whose_by, find_key}
 use Rattle.tds_relay.specs.Ties.{Turns, pool_in, part_on}
 use Rattle.tds_relay.specs.Fronts.{IsWhat}
-use Rattle.tds_relay.specs.Core.{done_by}
+use Rattle.tds_relay.specs.Core.{dones_of_part}
 use Rattle.tds_relay.proofs.steps.Fronts.{is_what, nobodys_what, what_answers}
 use Rattle.tds_relay.proofs.steps.Made.{ok_both, came_settled, came_unknown, came_wrong, unread}
 use Rattle.tds_relay.proofs.bytes.Heard.{came_read, lost_read, unknown_read}
@@ -35,7 +35,7 @@ returns-in_ok-what-in-Finished-clause-ok c =
     let comes = came.2.1 in
     let settled = c.in_ok-what-in-Finished.ensures.settles in
     let answers = rw c.in-Finished.is at comes.answers in
-    let P : Option Reading → Type 0 = λ o. Turns (Comes c.args.number (part_on o c.args.bytes.now c.args.ends) settled.0) d (pool_in c.settle.new.self) c.args.out.now.items c.settle.new.out.items in (
+    let P : Option Parser → Type 0 = λ o. Turns (Comes c.args.number (part_on o c.args.bytes.now c.args.ends) settled.0) d (pool_in c.settle.new.self) c.args.out.now.items c.settle.new.out.items in (
       settled.0,
       subst P (sym came.1)
           (came_settled d (pool_in c.settle.new.self) c.args.number (packet_part came.0 c.args.bytes.now c.args.ends) settled.0 (service_in c.heard.new.self) c.in-Ok.came.lease (line.Finished c.in-Ok.came.request)
@@ -49,7 +49,7 @@ returns-in_ok-what-in-Acknowledged-clause-ok c =
     let comes = came.2.1 in
     let settled = c.in_ok-what-in-Acknowledged.ensures.settles in
     let answers = rw c.in-Acknowledged.is at comes.answers in
-    let P : Option Reading → Type 0 = λ o. Turns (Comes c.args.number (part_on o c.args.bytes.now c.args.ends) settled.0) d (pool_in c.settle-in-Acknowledged.new.self) c.args.out.now.items c.settle-in-Acknowledged.new.out.items in (
+    let P : Option Parser → Type 0 = λ o. Turns (Comes c.args.number (part_on o c.args.bytes.now c.args.ends) settled.0) d (pool_in c.settle-in-Acknowledged.new.self) c.args.out.now.items c.settle-in-Acknowledged.new.out.items in (
       settled.0,
       subst P (sym came.1)
           (came_settled d (pool_in c.settle-in-Acknowledged.new.self) c.args.number (packet_part came.0 c.args.bytes.now c.args.ends) settled.0 (service_in c.heard.new.self) c.in-Ok.came.lease (line.Acked c.in-Ok.came.request)
@@ -84,30 +84,30 @@ returns-in_ok-what-in-Finished-clause-heard c =
     let d = pool_in c.args.self.now in
     let came = c.in-Ok.ensures.ok in
     let answers = rw c.in-Finished.is at came.2.1.answers in
-    let P : Option Reading → Type 0 = λ o. IsWhat c.key_by-key.result c.in_ok-what-in-Finished.what (done_by d c.args.number (part_on o c.args.bytes.now c.args.ends)) in
+    let P : Option Parser → Type 0 = λ o. IsWhat c.key_by-key.result c.in_ok-what-in-Finished.what (dones_of_part d c.args.number (part_on o c.args.bytes.now c.args.ends)) in
     subst P (sym came.1)
-    (is_what c.key_by-key.result whats.Finished c.in_ok-what-in-Finished.what (done_by d c.args.number (packet_part came.0 c.args.bytes.now c.args.ends)) (λ key its. c.in_ok-what-in-Finished.ensures.what key (sym c.key_by-key.ensures ∙ its))
-    (what_answers (line.Finished c.in-Ok.came.request) (done_by d c.args.number (packet_part came.0 c.args.bytes.now c.args.ends)) answers))
+    (is_what c.key_by-key.result whats.Finished c.in_ok-what-in-Finished.what (dones_of_part d c.args.number (packet_part came.0 c.args.bytes.now c.args.ends)) (λ key its. c.in_ok-what-in-Finished.ensures.what key (sym c.key_by-key.ensures ∙ its))
+    (what_answers (line.Finished c.in-Ok.came.request) (dones_of_part d c.args.number (packet_part came.0 c.args.bytes.now c.args.ends)) answers))
 
 pub returns-in_ok-what-in-Acknowledged-clause-heard : goal.returns-in_ok-what-in-Acknowledged-clause-heard
 returns-in_ok-what-in-Acknowledged-clause-heard c =
     let d = pool_in c.args.self.now in
     let came = c.in-Ok.ensures.ok in
     let answers = rw c.in-Acknowledged.is at came.2.1.answers in
-    let P : Option Reading → Type 0 = λ o. IsWhat c.key_by-key.result c.in_ok-what-in-Acknowledged.what (done_by d c.args.number (part_on o c.args.bytes.now c.args.ends)) in
+    let P : Option Parser → Type 0 = λ o. IsWhat c.key_by-key.result c.in_ok-what-in-Acknowledged.what (dones_of_part d c.args.number (part_on o c.args.bytes.now c.args.ends)) in
     subst P (sym came.1)
-    (is_what c.key_by-key.result whats.Acknowledged c.in_ok-what-in-Acknowledged.what (done_by d c.args.number (packet_part came.0 c.args.bytes.now c.args.ends)) (λ key its. c.in_ok-what-in-Acknowledged.ensures.what key (sym c.key_by-key.ensures ∙ its))
-    (what_answers (line.Acked c.in-Ok.came.request) (done_by d c.args.number (packet_part came.0 c.args.bytes.now c.args.ends)) answers))
+    (is_what c.key_by-key.result whats.Acknowledged c.in_ok-what-in-Acknowledged.what (dones_of_part d c.args.number (packet_part came.0 c.args.bytes.now c.args.ends)) (λ key its. c.in_ok-what-in-Acknowledged.ensures.what key (sym c.key_by-key.ensures ∙ its))
+    (what_answers (line.Acked c.in-Ok.came.request) (dones_of_part d c.args.number (packet_part came.0 c.args.bytes.now c.args.ends)) answers))
 
 pub returns-in_ok-lose-in-Fault-clause-heard : goal.returns-in_ok-lose-in-Fault-clause-heard
 returns-in_ok-lose-in-Fault-clause-heard c =
     let d = pool_in c.args.self.now in
     let came = c.in-Ok.ensures.ok in
     let answers = rw c.in-Fault.is at came.2.1.answers in
-    let P : Option Reading → Type 0 = λ o. IsWhat c.key_by-key.result whats.Closed (done_by d c.args.number (part_on o c.args.bytes.now c.args.ends)) in
+    let P : Option Parser → Type 0 = λ o. IsWhat c.key_by-key.result whats.Closed (dones_of_part d c.args.number (part_on o c.args.bytes.now c.args.ends)) in
     subst P (sym came.1)
-    (is_what c.key_by-key.result whats.Closed whats.Closed (done_by d c.args.number (packet_part came.0 c.args.bytes.now c.args.ends)) (λ key its. refl)
-    (what_answers (line.Fault _) (done_by d c.args.number (packet_part came.0 c.args.bytes.now c.args.ends)) answers))
+    (is_what c.key_by-key.result whats.Closed whats.Closed (dones_of_part d c.args.number (packet_part came.0 c.args.bytes.now c.args.ends)) (λ key its. refl)
+    (what_answers (line.Fault _) (dones_of_part d c.args.number (packet_part came.0 c.args.bytes.now c.args.ends)) answers))
 
 pub returns-in-Err-clause-heard : goal.returns-in-Err-clause-heard
 returns-in-Err-clause-heard c =
@@ -148,7 +148,7 @@ returns-in_ok-lose-in-Fault-clause-ok c =
     let d = pool_in c.args.self.now in
     let came = c.in-Ok.ensures.ok in
     let answers = rw c.in-Fault.is at came.2.1.answers in
-    let P : Option Reading → Type 0 = λ o. Turns (Comes c.args.number (part_on o c.args.bytes.now c.args.ends) NotLent) d (record (pool_in c.lose.new.self) { broken = Some (record { number = c.args.number; fault = c.in-Fault.fault }) }) c.args.out.now.items c.args.out.now.items in (
+    let P : Option Parser → Type 0 = λ o. Turns (Comes c.args.number (part_on o c.args.bytes.now c.args.ends) NotLent) d (record (pool_in c.lose.new.self) { broken = Some (record { number = c.args.number; fault = c.in-Fault.fault }) }) c.args.out.now.items c.args.out.now.items in (
       NotLent,
       subst P (sym came.1)
           (came_wrong d (pool_in c.lose.new.self) c.args.number (packet_part came.0 c.args.bytes.now c.args.ends) NotLent (service_in c.heard.new.self) c.in-Fault.fault c.args.out.now.items came.2.1.steps answers

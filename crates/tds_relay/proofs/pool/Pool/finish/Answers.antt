@@ -1,5 +1,5 @@
 use Rattle.std.proofs.Common.{refl, rules, [], ◌≡◌, ◌∙◌, Some, subst, sym}
-use Rattle.tds_service.specs.Table.{Refuses, puts_on, service_in}
+use Rattle.tds_service.specs.Table.{Denies, puts_on, service_in}
 use Rattle.tds_relay.specs.declared.pool.Hold.{Hold}
 use Rattle.tds_relay.specs.Pool.{find_key}
 use Rattle.tds_relay.specs.Ties.{pool_in}
@@ -29,4 +29,4 @@ pub returns-in-Err-clause-refused : goal.returns-in-Err-clause-refused
 returns-in-Err-clause-refused c = λ hold its count.
     let mine : find_key c.args.key (pool_in c.args.self.now).holds ≡ Some c.in-Some.hold = search rules in
     let same : c.in-Some.hold ≡ hold = (let u : Some c.in-Some.hold ≡ Some hold = sym mine ∙ its in cc) in
-    subst (λ (h : Hold). Refuses (calls.Finish h.lease count) (service_in c.args.self.now.service) c.in-Err.refusal) same (c.in-Err.ensures.refused count)
+    subst (λ (h : Hold). Denies (calls.Finish h.lease count) (service_in c.args.self.now.service) c.in-Err.refusal) same (c.in-Err.ensures.refused count)

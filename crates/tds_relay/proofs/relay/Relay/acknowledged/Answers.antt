@@ -1,9 +1,9 @@
 use Rattle.tds_relay.specs.declared.pool.coming.What.TheVariants as whats
-use Rattle.tds_relay.specs.Core.{told}
+use Rattle.tds_relay.specs.Core.{end_told}
 use Rattle.tds_relay.proofs.steps.Fronts.{ends_moved}
 use Rattle.tds_relay.proofs.steps.Queueing.{queues_kept}
 use Rattle.std.proofs.Common.{refl}
-use Rattle.tds_relay.specs.Closings.{Nobody}
+use Rattle.tds_relay.specs.Closings.{NoKey}
 use Rattle.tds_relay.proofs.spared.Sending.{kept_refl}
 use Rattle.tds_relay.proofs.spared.Shutting.{closes_moved, keeps_acknowledged, unclosed}
 use Rattle.tds_relay.proofs.spared.Losing.{taken_or_deaf}
@@ -14,13 +14,13 @@ pub returns-in-Some-clause-kept : goal.returns-in-Some-clause-kept
 returns-in-Some-clause-kept c = queues_kept c.args.self.now.applications c.args.key c.in-Some.application.now c.acknowledged.new.self c.in-Some.ensures.value c.acknowledged.ensures.queue
 
 pub returns-in-Some-clause-ends : goal.returns-in-Some-clause-ends
-returns-in-Some-clause-ends c = ends_moved c.args.self.now.applications c.args.key c.in-Some.application.now c.acknowledged.new.self (told whats.Acknowledged) c.in-Some.ensures.value c.acknowledged.ensures.end
+returns-in-Some-clause-ends c = ends_moved c.args.self.now.applications c.args.key c.in-Some.application.now c.acknowledged.new.self (end_told whats.Acknowledged) c.in-Some.ensures.value c.acknowledged.ensures.end
 
 pub returns-in-Some-clause-closes : goal.returns-in-Some-clause-closes
 returns-in-Some-clause-closes c =
     let s = c.args.self.now.applications in
     let a = c.in-Some.application.now in
-    closes_moved Nobody c.args.key (told whats.Acknowledged) _ _ keeps_acknowledged (ends_moved s c.args.key a c.acknowledged.new.self (told whats.Acknowledged) c.in-Some.ensures.value c.acknowledged.ensures.end)
+    closes_moved NoKey c.args.key (end_told whats.Acknowledged) _ _ keeps_acknowledged (ends_moved s c.args.key a c.acknowledged.new.self (end_told whats.Acknowledged) c.in-Some.ensures.value c.acknowledged.ensures.end)
     (queues_kept s c.args.key a c.acknowledged.new.self c.in-Some.ensures.value c.acknowledged.ensures.queue) refl (kept_refl c.args.self.now.links.items) (unclosed _ _ refl)
 
 pub returns-in-Some-clause-resumes : goal.returns-in-Some-clause-resumes

@@ -2,7 +2,7 @@ use Rattle.std.proofs.Common.{◌≡◌, Option, Some, None, ap, false, inl, ref
 use Rattle.tds_packet.specs.declared.status.Reset.{Reset}
 use Rattle.tds_packet.specs.declared.status.Reset.TheVariants.{Full, KeepTransaction}
 use Rattle.tds_relay.specs.Fronts.{ends_in, core_of_ends}
-use Rattle.tds_relay.specs.Core.{AsksFor, AsksToPart, Ends, IfAsked, IsReset, change_end, closes, end_at, IfOpen, IsBegun}
+use Rattle.tds_relay.specs.Core.{AsksFor, AsksToPart, EndList, IfAsked, IsReset, change_end, closes, end_at, IfOpen, IsBegun}
 use Rattle.tds_relay.specs.Ties.{Application, pool_in}
 use Rattle.tds_relay.proofs.steps.Fronts.{ends_kept, moves_closes, moves_same, none_reset}
 use Rattle.tds_relay.proofs.steps.Reaching.{ok_if, ok_more}
@@ -38,7 +38,7 @@ returns-in-false-default-clause-goes c = ok_more c.wait.result _ _ (λ g from h.
 
 pub returns-in-false-default-clause-moves : goal.returns-in-false-default-clause-moves
 returns-in-false-default-clause-moves c =
-    ok_more c.wait.result _ _ (λ m asks begun from h. m (Application c.args.key) refl (subst (λ (es : Ends). IfOpen IsBegun (end_at es c.args.key)) (sym (ends_kept c.args.self.now.applications c.args.key c.in-Some.application.now c.forget.new.self c.in-Some.ensures.value c.forget.ensures.end)) begun) from (moves_same (Application c.args.key) from _ _ _ _ refl (ends_kept c.args.self.now.applications c.args.key c.in-Some.application.now _ c.in-Some.ensures.value c.forget.ensures.end) h)) c.wait.ensures.moves
+    ok_more c.wait.result _ _ (λ m asks begun from h. m (Application c.args.key) refl (subst (λ (es : EndList). IfOpen IsBegun (end_at es c.args.key)) (sym (ends_kept c.args.self.now.applications c.args.key c.in-Some.application.now c.forget.new.self c.in-Some.ensures.value c.forget.ensures.end)) begun) from (moves_same (Application c.args.key) from _ _ _ _ refl (ends_kept c.args.self.now.applications c.args.key c.in-Some.application.now _ c.in-Some.ensures.value c.forget.ensures.end) h)) c.wait.ensures.moves
 
 pub returns-in-false-default-clause-read : goal.returns-in-false-default-clause-read
 returns-in-false-default-clause-read c = stays_same c.wait.result _ _ _ (stays_refl c.args.self.now.links.items) (ok_if c.wait.result _ c.wait.ensures.links)
@@ -48,9 +48,9 @@ returns-in-true-None-clause-moves c =
     let kept = ends_kept c.args.self.now.applications c.args.key c.in-Some.application.now c.forget.new.self c.in-Some.ensures.value c.forget.ensures.end in
     let none : c.args.reset ≡ None = search rules in
     ok_more c.start.result _ _
-    (λ m asks begun from h. m (subst (λ (es : Ends). IsReset (pool_in c.args.self.now.pool) c.args.key (end_at es c.args.key)) (sym kept)
+    (λ m asks begun from h. m (subst (λ (es : EndList). IsReset (pool_in c.args.self.now.pool) c.args.key (end_at es c.args.key)) (sym kept)
     (none_reset (pool_in c.args.self.now.pool) c.args.key _ (subst (λ (r : Option Reset). IfAsked r (end_at (ends_in c.args.self.now.applications) c.args.key)) none asks)))
-    (λ hold its. subst (λ (es : Ends). IfOpen IsBegun (end_at es c.args.key)) (sym kept) begun)
+    (λ hold its. subst (λ (es : EndList). IfOpen IsBegun (end_at es c.args.key)) (sym kept) begun)
     (Application c.args.key) from (moves_same (Application c.args.key) from _ _ _ _ refl kept h))
     c.start.ensures.moves
 
@@ -59,7 +59,7 @@ returns-in-true-Some-Full-clause-moves c =
     let kept = ends_kept c.args.self.now.applications c.args.key c.in-Some.application.now c.forget.new.self c.in-Some.ensures.value c.forget.ensures.end in
     let full : c.args.reset ≡ Some Full = search rules in
     ok_more c.change.result _ _
-    (λ m asks begun from h. m (subst (λ (es : Ends). AsksToPart (core_of_ends (pool_in c.args.self.now.pool) es) c.args.key) (sym kept) (inl (subst (λ (r : Option Reset). IfAsked r (end_at (ends_in c.args.self.now.applications) c.args.key)) full asks))) (subst (λ (es : Ends). IfOpen IsBegun (end_at es c.args.key)) (sym kept) begun) from (moves_same (Application c.args.key) from _ _ _ _ refl kept h))
+    (λ m asks begun from h. m (subst (λ (es : EndList). AsksToPart (core_of_ends (pool_in c.args.self.now.pool) es) c.args.key) (sym kept) (inl (subst (λ (r : Option Reset). IfAsked r (end_at (ends_in c.args.self.now.applications) c.args.key)) full asks))) (subst (λ (es : EndList). IfOpen IsBegun (end_at es c.args.key)) (sym kept) begun) from (moves_same (Application c.args.key) from _ _ _ _ refl kept h))
     c.change.ensures.moves
 
 pub returns-else-may_keep_later-clause-moves : goal.returns-else-may_keep_later-clause-moves
@@ -67,7 +67,7 @@ returns-else-may_keep_later-clause-moves c =
     let kept = ends_kept c.args.self.now.applications c.args.key c.in-Some.application.now c.forget.new.self c.in-Some.ensures.value c.forget.ensures.end in
     let keeps : c.args.reset ≡ Some KeepTransaction = search rules in
     ok_more c.renew.result _ _
-    (λ m asks begun from h. m (subst (λ (es : Ends). AsksFor KeepTransaction (end_at es c.args.key)) (sym kept) (subst (λ (r : Option Reset). IfAsked r (end_at (ends_in c.args.self.now.applications) c.args.key)) keeps asks)) (subst (λ (es : Ends). IfOpen IsBegun (end_at es c.args.key)) (sym kept) begun) from (moves_same (Application c.args.key) from _ _ _ _ refl kept h))
+    (λ m asks begun from h. m (subst (λ (es : EndList). AsksFor KeepTransaction (end_at es c.args.key)) (sym kept) (subst (λ (r : Option Reset). IfAsked r (end_at (ends_in c.args.self.now.applications) c.args.key)) keeps asks)) (subst (λ (es : EndList). IfOpen IsBegun (end_at es c.args.key)) (sym kept) begun) from (moves_same (Application c.args.key) from _ _ _ _ refl kept h))
     c.renew.ensures.moves
 
 pub returns-in_default-message_kind-clause-moves : goal.returns-in_default-message_kind-clause-moves
@@ -136,10 +136,10 @@ returns-else-may_keep_later-clause-closes c =
     (λ why. subst (λ (o : Option Reset). CannotBegin c.args.kind o key (end_at (ends_in s) key) d r.links.items) (sym keeps)
     (inr (
       held,
-      subst (λ (es : Ends). IsTakenBack (end_at es key) → HasNoTransaction (pool_in d) key) same (c.may_keep_later.ensures.not (search rules)),
+      subst (λ (es : EndList). IsTakenBack (end_at es key) → HasNoTransaction (pool_in d) key) same (c.may_keep_later.ensures.not (search rules)),
       c.in-Some-message_kind.kind,
       search rules,
-      subst (λ (es : Ends). IsUnrenewed (HasTransaction (pool_in d) key ⊎ CannotPart key (end_at es key) d) key (end_at es key) d r.links.items (Kept c.in-Some-message_kind.kind [] false)) same
+      subst (λ (es : EndList). IsUnrenewed (HasTransaction (pool_in d) key ⊎ CannotPart key (end_at es key) d) key (end_at es key) d r.links.items (Kept c.in-Some-message_kind.kind [] false)) same
           (renewed_as _ key _ d r.links.items r.links.items _ (Kept c.in-Some-message_kind.kind [] false) (as_refl r.links.items)
           (begun_kept (get (with_value s key b) key) b c.in-Some-message_kind.kind _ (written_there s key a b c.in-Some.ensures.value) c.forget.ensures.asking c.forget.ensures.body.1) why),
     ))) c.renew.ensures.closes)
@@ -150,7 +150,7 @@ returns-in-true-Some-Full-clause-closes c =
     let full : c.args.reset ≡ Some Full = search rules in
     let same = ends_kept c.args.self.now.applications c.args.key c.in-Some.application.now c.forget.new.self c.in-Some.ensures.value c.forget.ensures.end in
     closes_on c.change.result (ItselfFor c.args.key (CannotBegin c.args.kind c.args.reset c.args.key (end_at (ends_in c.args.self.now.applications) c.args.key) c.args.self.now.pool c.args.self.now.links.items)) _ _ _
-    (for_that c.change.result c.args.key _ _ _ _ (λ why. subst (λ (r : Option Reset). CannotBegin c.args.kind r c.args.key (end_at (ends_in c.args.self.now.applications) c.args.key) c.args.self.now.pool c.args.self.now.links.items) (sym full) (inr (subst (λ (es : Ends). CannotPart c.args.key (end_at es c.args.key) c.args.self.now.pool) same why))) c.change.ensures.closes)
+    (for_that c.change.result c.args.key _ _ _ _ (λ why. subst (λ (r : Option Reset). CannotBegin c.args.kind r c.args.key (end_at (ends_in c.args.self.now.applications) c.args.key) c.args.self.now.pool c.args.self.now.links.items) (sym full) (inr (subst (λ (es : EndList). CannotPart c.args.key (end_at es c.args.key) c.args.self.now.pool) same why))) c.change.ensures.closes)
     (closes_kept _ _ _ (ends_kept c.args.self.now.applications c.args.key c.in-Some.application.now c.forget.new.self c.in-Some.ensures.value c.forget.ensures.end) (queues_kept c.args.self.now.applications c.args.key c.in-Some.application.now c.forget.new.self c.in-Some.ensures.value c.forget.ensures.queue) refl (kept_refl c.args.self.now.links.items) (unclosed _ _ refl))
 
 pub returns-in_default-clause-others : goal.returns-in_default-clause-others
@@ -191,7 +191,7 @@ returns-in-true-None-clause-closes c =
     let end = end_at (ends_in (with_value s key b)) key in
     let held : IsSome (find_key key (pool_in d).holds) = search rules in
     let asked : IsReadyThere key (end_at (ends_in s) key) d links × CannotAsk m [] false key (end_at (ends_in s) key) d links =
-    subst (λ (es : Ends). IsReadyThere key (end_at es key) d links × CannotAsk m [] false key (end_at es key) d links) same
+    subst (λ (es : EndList). IsReadyThere key (end_at es key) d links × CannotAsk m [] false key (end_at es key) d links) same
     (begun_asks key end d links (get (with_value s key b) key) _ b m (written_there s key a b c.in-Some.ensures.value) c.forget.ensures.asking c.forget.ensures.body.1 (held_asks key d _ held why)) in
     inr (asked.0, c.in-Some-message_kind.kind, search rules, asked.1))) c.start.ensures.closes)
     (closes_kept _ _ _ same (queues_kept s c.args.key a b c.in-Some.ensures.value c.forget.ensures.queue) refl (kept_refl c.args.self.now.links.items) (unclosed _ _ refl))

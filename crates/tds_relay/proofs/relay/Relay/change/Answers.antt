@@ -9,13 +9,13 @@ use Rattle.tds_relay.specs.Bodies.{body_of, going_of}
 use Rattle.slab.specs.Slab.{get}
 use Rattle.tds_relay.proofs.steps.Bodied.{shut_starts}
 use Rattle.tds_relay.proofs.steps.Going.{waits_starts}
-use Rattle.tds_relay.specs.Closings.{Itself, Nobody}
+use Rattle.tds_relay.specs.Closings.{Itself, NoKey}
 use Rattle.tds_relay.specs.Reasons.{Held, Out}
 use Rattle.tds_relay.proofs.spared.Reasons.{for_reason}
 use Rattle.tds_relay.proofs.spared.Closings.{closes_both, closes_first, closes_nobody}
 use Rattle.tds_relay.proofs.spared.Speaking.{reached_left, waited_rest}
 use Rattle.tds_relay.proofs.spared.Resting.{others_both, others_on}
-use Rattle.tds_relay.specs.Core.{Ends, IfOpen, IsBegun, end_at}
+use Rattle.tds_relay.specs.Core.{EndList, IfOpen, IsBegun, end_at}
 use Rattle.tds_relay.specs.Fronts.{ends_in}
 use Rattle.tds_relay.proofs.steps.Quieting.{open_lets_go}
 use Rattle.tds_relay.proofs.spared.Elsewhere.{aside_on, aside_waits}
@@ -32,7 +32,7 @@ pub returns-clause-moves : goal.returns-clause-moves
 returns-clause-moves c =
     ok_more c.wait.result _ _
     (λ m asks begun from h. m (Application c.args.key) refl
-    (subst (λ (es : Ends). IfOpen IsBegun (end_at es c.args.key)) (sym c.in_ok-release.ensures.fronts) (open_lets_go IsBegun (ends_in c.args.self.now.applications) c.args.key begun)) from (moves_lets_go c.args.key from _ _ _ (c.has_nothing_out.ensures.here (search rules), asks) c.in_ok-release.ensures.lets_go h))
+    (subst (λ (es : EndList). IfOpen IsBegun (end_at es c.args.key)) (sym c.in_ok-release.ensures.fronts) (open_lets_go IsBegun (ends_in c.args.self.now.applications) c.args.key begun)) from (moves_lets_go c.args.key from _ _ _ (c.has_nothing_out.ensures.here (search rules), asks) c.in_ok-release.ensures.lets_go h))
     c.wait.ensures.moves
 
 pub returns-clause-read : goal.returns-clause-read
@@ -84,7 +84,7 @@ returns-then-is_some-clause-closes c = for_reason c.expel-then-is_some.result c.
     (closes_first c.expel-then-is_some.result (Itself c.args.key) _ _ _ c.expel-then-is_some.ensures.closes c.in_ok-release.ensures.closes)
 
 pub returns-clause-closes : goal.returns-clause-closes
-returns-clause-closes c = ok_if c.wait.result _ (closes_nobody _ _ _ (closes_both Nobody _ _ _ c.in_ok-release.ensures.closes c.wait.ensures.closes))
+returns-clause-closes c = ok_if c.wait.result _ (closes_nobody _ _ _ (closes_both NoKey _ _ _ c.in_ok-release.ensures.closes c.wait.ensures.closes))
 
 pub returns-clause-seated : goal.returns-clause-seated
 returns-clause-seated c = λ s. c.wait.ensures.seated (c.in_ok-release.ensures.seated s)

@@ -2,7 +2,7 @@ use Rattle.std.proofs.Common.{ap, subst, sym}
 use Rattle.tds_relay.specs.declared.pool.Pool as code
 use Rattle.tds_relay.specs.Ties.{Application, Reaches, pool_in, IsReached}
 use Rattle.tds_relay.specs.Fronts.{ends_in, core_in, core_of_ends}
-use Rattle.tds_relay.specs.Core.{Ends, MayPart, end_at}
+use Rattle.tds_relay.specs.Core.{EndList, MayPart, end_at}
 use Rattle.tds_relay.proofs.steps.Fronts.{closed_parts, moves_lets_go, moves_same}
 use Rattle.tds_relay.proofs.steps.Reaching.{ok_more, reaches_left}
 use Rattle.tds_relay.proofs.steps.Staying.{stays_from}
@@ -27,7 +27,7 @@ pub returns-clause-moves : goal.returns-clause-moves
 returns-clause-moves c =
     ok_more c.release.result _ _
     (λ l from h. moves_lets_go c.args.key from _ _ _
-    (subst (λ (es : Ends). MayPart (core_of_ends (pool_in c.end_for.new.self.pool) es) c.args.key) (sym c.in_ok-end_for.ensures.ends) (closed_parts c.args.why (pool_in c.end_for.new.self.pool) (ends_in c.args.self.now.applications) c.args.key)) l
+    (subst (λ (es : EndList). MayPart (core_of_ends (pool_in c.end_for.new.self.pool) es) c.args.key) (sym c.in_ok-end_for.ensures.ends) (closed_parts c.args.why (pool_in c.end_for.new.self.pool) (ends_in c.args.self.now.applications) c.args.key)) l
     (moves_same (Application c.args.key) from _ _ _ _ (ap pool_in c.in_ok-end_for.ensures.pool) c.in_ok-end_for.ensures.ends h))
     c.release.ensures.lets_go
 
@@ -37,7 +37,7 @@ returns-clause-read c = stays_from c.release.result _ _ _ c.in_ok-end_for.ensure
 pub returns-clause-over : goal.returns-clause-over
 returns-clause-over c =
     ok_more c.release.result _ _
-    (λ l. lets_go_deaf c.args.key (pool_in c.end_for.new.self.pool) (ends_in c.end_for.new.self.applications) (core_in c.release.new.self) (subst (λ (es : Ends). IsDeaf (end_at es c.args.key)) (sym c.in_ok-end_for.ensures.ends) (deaf_for c.args.why c.args.key (ends_in c.args.self.now.applications))) l)
+    (λ l. lets_go_deaf c.args.key (pool_in c.end_for.new.self.pool) (ends_in c.end_for.new.self.applications) (core_in c.release.new.self) (subst (λ (es : EndList). IsDeaf (end_at es c.args.key)) (sym c.in_ok-end_for.ensures.ends) (deaf_for c.args.why c.args.key (ends_in c.args.self.now.applications))) l)
     c.release.ensures.lets_go
 
 pub returns-clause-stand : goal.returns-clause-stand

@@ -1,6 +1,6 @@
 use Rattle.std.proofs.Common.{◌∙◌, ap, subst, sym}
 use Rattle.tds_relay.specs.declared.pool.Pool as code
-use Rattle.tds_relay.specs.Core.{Ends, closes, end_at}
+use Rattle.tds_relay.specs.Core.{EndList, closes, end_at}
 use Rattle.tds_relay.specs.Taking.{IsDeaf}
 use Rattle.tds_relay.specs.Ties.{Reaches, pool_in}
 use Rattle.tds_relay.proofs.steps.Fronts.{moves_closes}
@@ -30,7 +30,7 @@ returns-clause-moves c =
     ok_more c.end.result _ _ (λ e by from h. moves_closes by from _ _ _ _ c.args.key (ap pool_in c.end.ensures.pool) e (c.in_ok-lose_own.ensures.moves by from h)) c.end.ensures.ends
 
 pub returns-clause-over : goal.returns-clause-over
-returns-clause-over c = ok_more c.end.result _ _ (λ e. subst (λ (es : Ends). IsDeaf (end_at es c.args.key)) (sym e) (deaf_closed c.args.key _)) c.end.ensures.ends
+returns-clause-over c = ok_more c.end.result _ _ (λ e. subst (λ (es : EndList). IsDeaf (end_at es c.args.key)) (sym e) (deaf_closed c.args.key _)) c.end.ensures.ends
 
 pub returns-clause-read : goal.returns-clause-read
 returns-clause-read c = stays_same c.end.result _ _ _ c.in_ok-lose_own.ensures.read c.end.ensures.links

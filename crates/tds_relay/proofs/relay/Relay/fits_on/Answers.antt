@@ -1,5 +1,5 @@
 use Rattle.std.proofs.Common.{length, refl, rules, sym, ◌∙◌, ◌==◌, ◌≡◌}
-use Rattle.tds_relay.specs.Closings.{Nobody, register_in}
+use Rattle.tds_relay.specs.Closings.{NoKey, register_in}
 use Rattle.tds_relay.proofs.steps.Staying.{stays_then}
 use Rattle.tds_relay.proofs.spared.Shutting.{closes_filled_on, closes_kept, unclosed, unfit_kept}
 use Rattle.tds_relay.proofs.spared.Begun.{answers_same, answers_both}
@@ -11,11 +11,11 @@ pub returns-clause-read : goal.returns-clause-read
 returns-clause-read c = stays_then _ _ _ c.append_to.ensures.read c.in_ok-order_write_on.ensures.links
 
 pub returns-then-not-fits-clause-closes : goal.returns-then-not-fits-clause-closes
-returns-then-not-fits-clause-closes c = closes_kept Nobody _ _ refl refl refl (unfit_kept c.args.number _ _ c.append_to.ensures.read.seen c.append_to.ensures.others (c.in_ok-fits.ensures.unfit (search rules))) (unclosed _ _ refl)
+returns-then-not-fits-clause-closes c = closes_kept NoKey _ _ refl refl refl (unfit_kept c.args.number _ _ c.append_to.ensures.read.seen c.append_to.ensures.others (c.in_ok-fits.ensures.unfit (search rules))) (unclosed _ _ refl)
 
 pub returns-clause-closes : goal.returns-clause-closes
 returns-clause-closes c =
-    closes_filled_on Nobody c.args.number c.deref.result.now (register_in c.args.self.now) _ _ c.in_ok-order_write_on.ensures.ends c.in_ok-order_write_on.ensures.kept refl c.append_to.ensures.read.seen c.append_to.ensures.others (c.in_ok-fits.ensures.appends (search rules)) refl
+    closes_filled_on NoKey c.args.number c.deref.result.now (register_in c.args.self.now) _ _ c.in_ok-order_write_on.ensures.ends c.in_ok-order_write_on.ensures.kept refl c.append_to.ensures.read.seen c.append_to.ensures.others (c.in_ok-fits.ensures.appends (search rules)) refl
     c.in_ok-order_write_on.ensures.links c.in_ok-order_write_on.ensures.writes c.in_ok-order_write_on.ensures.times c.in_ok-order_write_on.ensures.closes
 
 pub returns-clause-answers : goal.returns-clause-answers

@@ -6,7 +6,7 @@ use Rattle.tds_relay.proofs.bytes.Calls.{stand_on}
 use Rattle.tds_relay.proofs.steps.Bodied.{forgot_on}
 use Rattle.tds_relay.specs.declared.link.Link.{Link}
 use Rattle.tds_relay.specs.Fronts.{ends_in}
-use Rattle.tds_relay.specs.Core.{Ends, end_at}
+use Rattle.tds_relay.specs.Core.{EndList, end_at}
 use Rattle.tds_relay.specs.Reasons.{CannotUnask, IsUnheld}
 use Rattle.tds_relay.proofs.spared.Reasons.{for_that, forgotten}
 use Rattle.tds_relay.proofs.spared.Closings.{closes_first, closes_nobody}
@@ -56,7 +56,7 @@ returns-then-was_asked-clause-closes c =
     (for_that c.unask.result c.args.key _ _ _ _
     (λ why. forgotten c.args.key end c.args.self.now.pool mid.pool c.args.self.now.links.items (get c.args.self.now.applications c.args.key) (c.forget_request-was_asked.ensures.asked (search rules)) c.forget_request-was_asked.ensures.holds c.forget_request-was_asked.ensures.service
     (subst (λ (ls : List Link). IsUnheld c.args.key mid.pool ⊎ CannotUnask c.args.key end mid.pool ls) c.forget_request-was_asked.ensures.links
-    (subst (λ (es : Ends). IsUnheld c.args.key mid.pool ⊎ CannotUnask c.args.key (end_at es c.args.key) mid.pool mid.links.items) c.forget_request-was_asked.ensures.ends why)))
+    (subst (λ (es : EndList). IsUnheld c.args.key mid.pool ⊎ CannotUnask c.args.key (end_at es c.args.key) mid.pool mid.links.items) c.forget_request-was_asked.ensures.ends why)))
     c.unask.ensures.closes)
     c.forget_request-was_asked.ensures.closes
 

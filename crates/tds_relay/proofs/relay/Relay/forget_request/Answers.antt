@@ -4,7 +4,7 @@ use Rattle.tds_relay.proofs.steps.Fronts.{ends_kept}
 use Rattle.tds_relay.proofs.steps.Queueing.{queues_kept}
 use Rattle.tds_relay.proofs.steps.Reaching.{reaches_turn}
 use Rattle.tds_relay.proofs.steps.Bodied.{none_starts, nothing_starts}
-use Rattle.tds_relay.specs.Closings.{Nobody}
+use Rattle.tds_relay.specs.Closings.{NoKey}
 use Rattle.tds_relay.proofs.spared.Sending.{kept_refl}
 use Rattle.tds_relay.proofs.spared.Shutting.{closes_kept, unclosed}
 use Rattle.tds_relay.proofs.spared.Speaking.{forgotten_rest, unwaited_rest}
@@ -32,7 +32,7 @@ pub returns-clause-body : goal.returns-clause-body
 returns-clause-body c = λ goes. nothing_starts c.args.self.now.applications c.args.key c.in-Some.application.now _ goes c.in-Some.ensures.value c.forget.ensures.asking
 
 pub returns-clause-closes : goal.returns-clause-closes
-returns-clause-closes c = closes_kept Nobody _ _ (ends_kept c.args.self.now.applications c.args.key c.in-Some.application.now _ c.in-Some.ensures.value c.forget.ensures.end) (queues_kept c.args.self.now.applications c.args.key c.in-Some.application.now _ c.in-Some.ensures.value c.forget.ensures.queue) refl (kept_refl c.args.self.now.links.items) (unclosed _ _ refl)
+returns-clause-closes c = closes_kept NoKey _ _ (ends_kept c.args.self.now.applications c.args.key c.in-Some.application.now _ c.in-Some.ensures.value c.forget.ensures.end) (queues_kept c.args.self.now.applications c.args.key c.in-Some.application.now _ c.in-Some.ensures.value c.forget.ensures.queue) refl (kept_refl c.args.self.now.links.items) (unclosed _ _ refl)
 
 pub returns-in_default-clause-others : goal.returns-in_default-clause-others
 returns-in_default-clause-others c = unwaited_rest c.args.key c.args.self.now _ (search rules) c.unwait.ensures.service refl refl

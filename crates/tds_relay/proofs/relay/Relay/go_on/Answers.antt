@@ -1,7 +1,7 @@
 use Rattle.std.proofs.Common.{ap, refl, ◌≡◌, ◌∙◌, Option, rules, subst, sym, false, ℕ}
 use Rattle.tds_relay.specs.declared.application.Asking.TheVariants as asking
 use Rattle.tds_relay.specs.Fronts.{ends_in}
-use Rattle.tds_relay.specs.Core.{Ends, change_end, closes, end_at, IfOpen, IsBegun}
+use Rattle.tds_relay.specs.Core.{EndList, change_end, closes, end_at, IfOpen, IsBegun}
 use Rattle.tds_relay.specs.Reasons.{CannotGoOn, CannotPut, ItselfFor, room_left, IsUnbegun}
 use Rattle.tds_relay.proofs.spared.Turned.{turned_goes}
 use Rattle.tds_relay.proofs.spared.Reasons.{for_reason, for_that, nothing_goes, put_goes, too_long, unbegun_goes}
@@ -136,7 +136,7 @@ returns-else-not-branch-clause-closes c =
     let kept = c.in_ok-keep-in-Waits.ensures.body (search rules) in
     closes_on c.seek.result (ItselfFor key (CannotGoOn whole c.args.bytes.now key (end_at (ends_in s) key) (room_left (get s key)) r.pool r.links.items (body_of key r))) _ _ _
     (for_that c.seek.result key _ _ _ _
-    (λ why. subst (λ (es : Ends). CannotGoOn whole c.args.bytes.now key (end_at es key) (room_left (get s key)) r.pool r.links.items (body_of key r)) same
+    (λ why. subst (λ (es : EndList). CannotGoOn whole c.args.bytes.now key (end_at es key) (room_left (get s key)) r.pool r.links.items (body_of key r)) same
     (turned_goes whole _ c.args.bytes.now key _ _ r.pool r.links.items (get s key) (get (with_value s key b) key) a b (going_of key r) _ c.in-Waits.kind c.in-Some.ensures.value (written_there s key a b c.in-Some.ensures.value) c.in-Waits.is kept.0 kept.1
     (c.in_ok-keep-in-Waits.ensures.asks (search rules)) why)) c.seek.ensures.closes)
     (closes_kept _ _ _ same (queues_kept s key a b c.in-Some.ensures.value c.keep.ensures.queue) refl (kept_refl r.links.items) (unclosed _ _ refl))
@@ -150,7 +150,7 @@ returns-in-Goes-clause-closes c =
     closes_on c.put.result (ItselfFor c.args.key (CannotGoOn whole c.args.bytes.now c.args.key (end_at (ends_in s) c.args.key) (room_left (get s c.args.key)) c.args.self.now.pool c.args.self.now.links.items (body_of c.args.key c.args.self.now))) _ _ _
     (for_that c.put.result c.args.key _ _ _ _
     (λ why. put_goes whole c.args.bytes.now c.args.key _ _ c.args.self.now.pool c.args.self.now.links.items (get s c.args.key) a c.in-Some.ensures.value (search rules)
-    (subst (λ (es : Ends). CannotPut whole c.args.bytes.now c.args.key (end_at es c.args.key) c.args.self.now.pool c.args.self.now.links.items) same why)) c.put.ensures.closes)
+    (subst (λ (es : EndList). CannotPut whole c.args.bytes.now c.args.key (end_at es c.args.key) c.args.self.now.pool c.args.self.now.links.items) same why)) c.put.ensures.closes)
     (closes_kept _ _ _ (ends_kept c.args.self.now.applications c.args.key c.in-Some.application.now c.in-Some.application.now c.in-Some.ensures.value refl) (queues_kept c.args.self.now.applications c.args.key c.in-Some.application.now c.in-Some.application.now c.in-Some.ensures.value refl) refl (kept_refl c.args.self.now.links.items) (unclosed _ _ refl))
 
 pub returns-in_default-clause-others : goal.returns-in_default-clause-others
@@ -179,7 +179,7 @@ pub returns-else-not-branch-clause-moves : goal.returns-else-not-branch-clause-m
 returns-else-not-branch-clause-moves c =
     let kept = ends_kept c.args.self.now.applications c.args.key c.in-Some.application.now _ c.in-Some.ensures.value c.keep.ensures.end in
     let begun : IfOpen IsBegun (end_at (ends_in c.args.self.now.applications) c.args.key) = subst (IfOpen IsBegun) (sym (end_there c.args.self.now.applications c.args.key c.in-Some.application.now c.in-Some.ensures.value)) (c.may_put.ensures.begun (search rules)) in
-    ok_more c.seek.result _ _ (λ m from h. m (subst (λ (es : Ends). IfOpen IsBegun (end_at es c.args.key)) (sym kept) begun) from (moves_same (Application c.args.key) from _ _ _ _ refl kept h)) c.seek.ensures.moves
+    ok_more c.seek.result _ _ (λ m from h. m (subst (λ (es : EndList). IfOpen IsBegun (end_at es c.args.key)) (sym kept) begun) from (moves_same (Application c.args.key) from _ _ _ _ refl kept h)) c.seek.ensures.moves
 
 pub returns-then-not-may_put-clause-body : goal.returns-then-not-may_put-clause-body
 returns-then-not-may_put-clause-body c = ok_more c.expel-then-not-may_put.result _ _ (λ d. (Closed, Shuts, shut_starts c.expel-then-not-may_put.new.self.applications c.args.key Closed (going_of c.args.key c.expel-then-not-may_put.new.self) d)) c.expel-then-not-may_put.ensures.over

@@ -1,7 +1,7 @@
 use Rattle.std.proofs.Common.{◌∙◌, List, ap, inl, inr, refl, subst, sym}
 use Rattle.tds_relay.specs.declared.link.Link.{Link}
 use Rattle.tds_relay.specs.Fronts.{ends_in, core_in, core_of_ends}
-use Rattle.tds_relay.specs.Core.{Core, IsHere, Moves, change_end, closes, Ends, end_at}
+use Rattle.tds_relay.specs.Core.{Core, IsHere, Moves, change_end, closes, EndList, end_at}
 use Rattle.tds_relay.specs.Ties.{Application, pool_in}
 use Rattle.tds_relay.proofs.steps.Fed.{closed_as_fed, handed_on_is}
 use Rattle.tds_relay.proofs.steps.Fronts.{moves_closes, moves_same, no_moves, open_closed}
@@ -131,7 +131,7 @@ returns-in-Some-clause-right c = λ right.
     let old = c.args.self.now in
     let mid = c.stop.new.self in
     c.send_stop.ensures.right
-    (right_by c.args.key old mid c.stop.ensures.holds (λ back. subst (λ (es : Ends). IsTakenBack (end_at es c.args.key)) (sym c.stop.ensures.ends) back)
+    (right_by c.args.key old mid c.stop.ensures.holds (λ back. subst (λ (es : EndList). IsTakenBack (end_at es c.args.key)) (sym c.stop.ensures.ends) back)
     (λ kept. subst IsKept (sym (kept_asks c.args.key mid old c.stop.ensures.asks kept)) kept) (λ n some. subst (λ (ls : List Link). IsSome (open_at n ls)) c.stop.ensures.links some) right)
 
 pub returns-in-None-clause-right : goal.returns-in-None-clause-right

@@ -12,7 +12,7 @@ use Rattle.tds_relay.specs.Ordering.{StayOrdered, opens_in}
 use Rattle.tds_relay.specs.Queues.{names_in, queues_in}
 use Rattle.tds_relay.specs.Reads.{OpensOthers, answer_at, open_at, waits_on}
 use Rattle.tds_relay.specs.Core.{holder}
-use Rattle.tds_relay.specs.Ties.{Connection, Goes, IsReached, pool_in}
+use Rattle.tds_relay.specs.Ties.{Connection, LedTo, IsReached, pool_in}
 use Rattle.tds_relay.specs.Waking.{Wakes}
 use Rattle.tds_relay.proofs.bytes.Turns.{InTurns}
 use Rattle.tds_relay.specs.Sparing.{OffGo}
@@ -21,7 +21,7 @@ use Rattle.tds_relay.proofs.relay.Relay.hear_all.Given as goal
 abbrev pub invariant-taking : goal.invariant-taking
 invariant-taking l = record {
   turns : InTurns (open_at l.fn.number l.self.links.items) l.rest l.counter (length l.fn.piece);
-  goes : Goes (Connection l.fn.number) (pool_in l.fn.self.pool) (pool_in l.self.pool);
+  goes : LedTo (Connection l.fn.number) (pool_in l.fn.self.pool) (pool_in l.self.pool);
   names : names_in l.self.applications ≡ names_in l.fn.self.applications;
   anew : StreamsAnew l.fn.number (answer_at l.fn.number l.fn.self.links.items) (open_at l.fn.number l.fn.self.links.items) (machine_in l.fn.self) l.fn.self.pool.service l.fn.piece l.rest (answer_at l.fn.number l.self.links.items)
       (open_at l.fn.number l.self.links.items) (machine_in l.self) l.self.pool.service;

@@ -17,7 +17,7 @@ use Rattle.tds_relay.specs.declared.application.Application.{Application as AnAp
 use Rattle.tds_relay.proofs.steps.Renaming.{names_left, names_on}
 use Rattle.tds_relay.proofs.spared.Ordered.{ordered_on}
 use Rattle.tds_relay.proofs.spared.Lines.{waited_left}
-use Rattle.tds_relay.specs.Closings.{IsWaiting, Nobody, register_in, without_key}
+use Rattle.tds_relay.specs.Closings.{IsWaiting, NoKey, register_in, without_key}
 use Rattle.tds_relay.proofs.spared.Closings.{closes_both, closes_nobody, closes_with}
 use Rattle.tds_relay.proofs.spared.Sending.{kept_refl}
 use Rattle.tds_relay.proofs.spared.Shutting.{closes_kept, unclosed}
@@ -96,7 +96,7 @@ returns-clause-closes c =
       lent = lent;
     } in
     closes_with c.serve_line.result (IsLentInVain mid) may _ _ _ behind c.serve_line.ensures.vain
-    (closes_nobody may _ _ (closes_both Nobody _ _ _ (closes_kept Nobody (without_key key (register_in old)) _ quit gone refl (kept_refl old.links.items) (unclosed _ _ refl)) c.in_ok-release.ensures.closes))
+    (closes_nobody may _ _ (closes_both NoKey _ _ _ (closes_kept NoKey (without_key key (register_in old)) _ quit gone refl (kept_refl old.links.items) (unclosed _ _ refl)) c.in_ok-release.ensures.closes))
 
 pub returns-clause-ends : goal.returns-clause-ends
 returns-clause-ends c = λ reached.
@@ -116,9 +116,9 @@ returns-clause-lasts c =
     let old = c.args.self.now in
     let quit = ends_quit old.applications c.try_remove.new.self c.args.key c.try_remove.result c.try_remove.ensures.value c.try_remove.ensures.slots c.try_remove.ensures.absent in
     let gone = quits_is old.applications c.try_remove.new.self c.args.key c.try_remove.result c.try_remove.ensures.value c.try_remove.ensures.slots c.try_remove.ensures.absent in
-    besides_on c.serve_line.result (λ (number : ℕ). held_by (pool_in old.pool) c.args.key ≡ Some number) (IsWaiting (pool_in old.pool).line) (IsWaiting (pool_in c.release.new.self.pool).line) Nobody
+    besides_on c.serve_line.result (λ (number : ℕ). held_by (pool_in old.pool) c.args.key ≡ Some number) (IsWaiting (pool_in old.pool).line) (IsWaiting (pool_in c.release.new.self.pool).line) NoKey
     (without_key c.args.key (register_in old)) (register_in c.release.new.self) (register_in c.serve_line.new.self) (waited_left c.args.key (pool_in old.pool) (pool_in c.release.new.self.pool) c.in_ok-release.ensures.leaving)
-    (closes_both Nobody _ _ _ (closes_kept Nobody (without_key c.args.key (register_in old)) _ quit gone refl (kept_refl old.links.items) (unclosed _ _ refl)) c.in_ok-release.ensures.closes)
+    (closes_both NoKey _ _ _ (closes_kept NoKey (without_key c.args.key (register_in old)) _ quit gone refl (kept_refl old.links.items) (unclosed _ _ refl)) c.in_ok-release.ensures.closes)
     c.in_ok-release.ensures.lasts c.serve_line.ensures.lasts
 
 pub returns-clause-counts : goal.returns-clause-counts
@@ -152,6 +152,6 @@ returns-clause-cleaned c = λ reached.
     let quit = ends_quit old.applications c.try_remove.new.self c.args.key c.try_remove.result c.try_remove.ensures.value c.try_remove.ensures.slots c.try_remove.ensures.absent in
     let gone = quits_is old.applications c.try_remove.new.self c.args.key c.try_remove.result c.try_remove.ensures.value c.try_remove.ensures.slots c.try_remove.ensures.absent in
     since_served_on c.serve_line.result c.args.key (without_key c.args.key (register_in old)) old mid c.serve_line.new.self (c.in_ok-release.ensures.cleaned reached) c.serve_line.ensures.goes c.serve_line.ensures.opens c.serve_line.ensures.counts
-    (closes_both Nobody _ _ _ (closes_kept Nobody (without_key c.args.key (register_in old)) _ quit gone refl (kept_refl old.links.items) (unclosed _ _ refl)) c.in_ok-release.ensures.closes)
+    (closes_both NoKey _ _ _ (closes_kept NoKey (without_key c.args.key (register_in old)) _ quit gone refl (kept_refl old.links.items) (unclosed _ _ refl)) c.in_ok-release.ensures.closes)
     (last_more_on c.serve_line.result (IsWaiting (pool_in mid.pool).line) (IsWaiting (pool_in old.pool).line) (register_in mid) (register_in c.serve_line.new.self)
     (waited_left c.args.key (pool_in old.pool) (pool_in mid.pool) c.in_ok-release.ensures.leaving) c.serve_line.ensures.lasts)

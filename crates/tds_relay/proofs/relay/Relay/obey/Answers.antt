@@ -3,7 +3,7 @@ use Rattle.tds_front.specs.Bytes.{fed}
 use Rattle.tds_front.specs.declared.front.Said.{Said}
 use Rattle.tds_front.specs.declared.front.Said.TheVariants as said
 use Rattle.tds_relay.specs.Fronts.{ClosesInstead, IsFed, TakesBetween, ends_in, given_by, core_in, core_of_ends, FedOn}
-use Rattle.tds_relay.specs.Core.{IfAsked, Ends, Open, asks_by, end_at, hands_on, takes_back}
+use Rattle.tds_relay.specs.Core.{IfAsked, EndList, Open, asks_by, end_at, hands_on, takes_back}
 use Rattle.tds_relay.specs.Queues.{acknowledgement, give, queue_at, queues_in, Queues}
 use Rattle.tds_relay.specs.Ties.{Application, pool_in}
 use Rattle.tds_relay.proofs.steps.Fronts.{asks_begun}
@@ -67,7 +67,7 @@ pub returns-in-Begin-clause-moves : goal.returns-in-Begin-clause-moves
 returns-in-Begin-clause-moves c =
     ok_more c.begin.result _ _
     (λ m before bytes f. fed_then c.args.key _ before _ bytes c.args.said _ (ap takes_back c.in-Begin.is) (ap hands_on c.in-Begin.is) f
-    (m (subst (λ (es : Ends). IfAsked c.in-Begin.reset (end_at es c.args.key)) (sym (f.is ∙ ap (λ (s : Said). slice_set before c.args.key (Some (Open (fed f.front bytes).front f.withdrawn (asks_by s f.asks)))) c.in-Begin.is)) (asks_begun c.in-Begin.reset before c.args.key _ _))
+    (m (subst (λ (es : EndList). IfAsked c.in-Begin.reset (end_at es c.args.key)) (sym (f.is ∙ ap (λ (s : Said). slice_set before c.args.key (Some (Open (fed f.front bytes).front f.withdrawn (asks_by s f.asks)))) c.in-Begin.is)) (asks_begun c.in-Begin.reset before c.args.key _ _))
     (begun_fed c.args.key before _ bytes c.args.said c.bytes_are_packets.ensures.stage c.bytes_are_packets.ensures.says (subst Opens (sym c.in-Begin.is) tt) f)))
     c.begin.ensures.moves
 

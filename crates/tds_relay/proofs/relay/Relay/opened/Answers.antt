@@ -13,7 +13,7 @@ use Rattle.tds_relay.proofs.steps.Renaming.{names_on}
 use Rattle.tds_relay.specs.Queues.{names_in, names_of}
 use Rattle.tds_relay.proofs.spared.Ordered.{ordered_both, ordered_on, ordered_same}
 use Rattle.tds_relay.proofs.spared.Lines.{waited_on}
-use Rattle.tds_relay.specs.Closings.{IsWaiting, IsWho, Nobody, WhoOrWaiting, register_in}
+use Rattle.tds_relay.specs.Closings.{IsWaiting, IsWho, NoKey, WhoOrWaiting, register_in}
 use Rattle.tds_relay.specs.Core.{holder, is_in}
 use Rattle.tds_relay.proofs.spared.Closings.{closes_both, closes_more, closes_nobody, closes_with, writes_behind, writes_stay}
 use Rattle.tds_relay.proofs.spared.Few.{few_behind, most_kept, none_both, none_same, none_stays}
@@ -96,7 +96,7 @@ returns-clause-closes c =
     let may = OpensOrLends c.args.number old in
     let same = c.order_write_on.ensures.pool ∙ c.set_open.ensures.pool in
     let led : IsReached (pool_in old.pool) → IsReached (pool_in at.pool) = λ r. subst (λ (d : code.Pool). IsReached (pool_in d)) (sym same) r in
-    let first = closes_both Nobody _ _ _ c.set_open.ensures.closes c.in_ok-order_write_on.ensures.closes in
+    let first = closes_both NoKey _ _ _ c.set_open.ensures.closes c.in_ok-order_write_on.ensures.closes in
     let waiting : mid.pool.line.items ≡ old.pool.line.items = c.in_ok-start_on.ensures.alone.line ∙ ap (λ (d : code.Pool). d.line.items) same in
     let behind : (other : ℕ) → IsLentInVain mid other → OpensOrLends c.args.number old other = λ other lent. inr (record {
       was = ap (is_in other) (sym waiting) ∙ lent.waits;
@@ -151,10 +151,10 @@ pub returns-clause-lasts : goal.returns-clause-lasts
 returns-clause-lasts c =
     let same = c.order_write_on.ensures.pool ∙ c.set_open.ensures.pool in
     let may = WhoOrWaiting (holder (pool_in c.args.self.now.pool) c.args.number) (pool_in c.args.self.now.pool).line in
-    let first = closes_both Nobody _ _ _ c.set_open.ensures.closes c.in_ok-order_write_on.ensures.closes in
+    let first = closes_both NoKey _ _ _ c.set_open.ensures.closes c.in_ok-order_write_on.ensures.closes in
     last_then c.serve_line.result may (IsWaiting (pool_in c.start_on.new.self.pool).line) (register_in c.args.self.now) (register_in c.start_on.new.self) (register_in c.serve_line.new.self)
     (closes_both may _ _ _ (closes_nobody may _ _ first) (closes_more _ may _ _ (λ key e. inl (ap (λ (d : code.Pool). holder (pool_in d) c.args.number) (sym same) ∙ e.0)) c.in_ok-start_on.ensures.closes))
-    (last_from may (IsWho (holder (pool_in c.order_write_on.new.self.pool) c.args.number)) Nobody (register_in c.args.self.now) (register_in c.order_write_on.new.self) (register_in c.start_on.new.self) first
+    (last_from may (IsWho (holder (pool_in c.order_write_on.new.self.pool) c.args.number)) NoKey (register_in c.args.self.now) (register_in c.order_write_on.new.self) (register_in c.start_on.new.self) first
     (last_all c.args.self.now.links.items c.set_open.new.self.links.items c.order_write_on.new.self.links.items (last_same c.args.self.now.links.items c.set_open.new.self.links.items c.set_open.ensures.waits) (last_links c.set_open.new.self.links.items c.order_write_on.new.self.links.items c.in_ok-order_write_on.ensures.links))
     (λ key e. inl (ap (λ (d : code.Pool). holder (pool_in d) c.args.number) (sym same) ∙ e)) c.in_ok-start_on.ensures.lasts)
     (λ key e. inr (ap (λ (d : code.Pool). is_in key (pool_in d).line) (sym same) ∙ waited_on (pool_in c.order_write_on.new.self.pool) (pool_in c.start_on.new.self.pool) c.in_ok-start_on.ensures.goes key e))

@@ -1,5 +1,5 @@
 use Rattle.std.proofs.Common.{ap, inl, inr, refl, rules, subst, sym}
-use Rattle.tds_relay.specs.Core.{Ends, end_at, closes}
+use Rattle.tds_relay.specs.Core.{EndList, end_at, closes}
 use Rattle.tds_relay.specs.Taking.{IsDeaf}
 use Rattle.tds_relay.specs.Ties.{pool_in}
 use Rattle.tds_relay.specs.declared.order.Order.TheVariants as orders
@@ -28,7 +28,7 @@ pub returns-in_default-clause-wakes : goal.returns-in_default-clause-wakes
 returns-in_default-clause-wakes c = inl (none_deaf c.args.key c.args.self.now.applications (search rules))
 
 pub returns-then-is_full-clause-wakes : goal.returns-then-is_full-clause-wakes
-returns-then-is_full-clause-wakes c = ok_more c.end.result _ _ (λ e. inl (subst (λ (es : Ends). IsDeaf (end_at es c.args.key)) (sym e) (deaf_closed c.args.key _))) c.end.ensures.ends
+returns-then-is_full-clause-wakes c = ok_more c.end.result _ _ (λ e. inl (subst (λ (es : EndList). IsDeaf (end_at es c.args.key)) (sym e) (deaf_closed c.args.key _))) c.end.ensures.ends
 
 pub returns-clause-wakes : goal.returns-clause-wakes
 returns-clause-wakes c =

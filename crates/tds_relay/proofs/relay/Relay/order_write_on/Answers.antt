@@ -1,6 +1,6 @@
 use Rattle.std.proofs.Common.{None, Option, Some, refl, subst, sym, ℕ, ◌≡◌, ◌∙◌}
 use Rattle.tds_relay.specs.declared.order.Order.TheVariants as orders
-use Rattle.tds_relay.specs.Closings.{Nobody}
+use Rattle.tds_relay.specs.Closings.{NoKey}
 use Rattle.tds_relay.specs.Sending.{IsToWrite, called_at}
 use Rattle.tds_relay.proofs.spared.Sending.{kept_refl, ordered_last}
 use Rattle.tds_relay.proofs.spared.Shutting.{closes_kept, write_closes}
@@ -22,7 +22,7 @@ returns-in-None-clause-writes c =
     subst (λ (o : Option ℕ). IsToWrite o c.args.self.now.orders.items) (sym named) tt
 
 pub returns-in_ok-push-in-Some-clause-closes : goal.returns-in_ok-push-in-Some-clause-closes
-returns-in_ok-push-in-Some-clause-closes c = closes_kept Nobody _ _ refl refl refl (kept_refl c.args.self.now.links.items) (write_closes _ _ _ c.in_ok-push-in-Some.ensures.items)
+returns-in_ok-push-in-Some-clause-closes c = closes_kept NoKey _ _ refl refl refl (kept_refl c.args.self.now.links.items) (write_closes _ _ _ c.in_ok-push-in-Some.ensures.items)
 
 pub returns-in_ok-push-in-Some-clause-opening : goal.returns-in_ok-push-in-Some-clause-opening
 returns-in_ok-push-in-Some-clause-opening c = opens_pushed (orders.Write c.in-Some.tag) c.args.self.now.orders.items c.push.new.self.items c.in_ok-push-in-Some.ensures.items refl

@@ -1,5 +1,5 @@
 use Rattle.std.proofs.Common.{◌≡◌, ◌∙◌, rules, sym, true, Some, ℕ, inl, subst}
-use Rattle.tds_relay.specs.Closings.{IsWaiting, Nobody, register_in}
+use Rattle.tds_relay.specs.Closings.{IsWaiting, NoKey, register_in}
 use Rattle.tds_relay.specs.Fronts.{ends_in, core_in, machine_in}
 use Rattle.tds_relay.specs.Parking.{may_park_in}
 use Rattle.tds_relay.specs.Queues.{queues_in}
@@ -123,7 +123,7 @@ pub returns-clause-lasts : goal.returns-clause-lasts
 returns-clause-lasts c =
     let old = c.args.self.now in
     let mid = c.release.new.self in
-    besides (λ (number : ℕ). held_by (pool_in old.pool) c.args.key ≡ Some number) (IsWaiting (pool_in old.pool).line) Nobody (register_in old) (register_in mid) (register_in c.serve_line.new.self) c.in_ok-release.ensures.closes
+    besides (λ (number : ℕ). held_by (pool_in old.pool) c.args.key ≡ Some number) (IsWaiting (pool_in old.pool).line) NoKey (register_in old) (register_in mid) (register_in c.serve_line.new.self) c.in_ok-release.ensures.closes
     c.in_ok-release.ensures.lasts
     (last_more (IsWaiting (pool_in mid.pool).line) (IsWaiting (pool_in old.pool).line) _ _ (waited_left c.args.key (pool_in old.pool) (pool_in mid.pool) c.in_ok-release.ensures.leaving) c.in_ok-serve_line.ensures.lasts)
 

@@ -2,7 +2,7 @@ use Rattle.std.proofs.Common.{◌∙◌, List, ap, refl, rules, subst, sym, ℕ,
 use Rattle.tds_relay.specs.declared.pool.Pool as code
 use Rattle.tds_relay.specs.declared.link.Link.{Link}
 use Rattle.tds_relay.specs.Asking.{Closes, Sends, SendsOn}
-use Rattle.tds_relay.specs.Reads.{carried_there, Stays}
+use Rattle.tds_relay.specs.Reads.{carried_there, LinksStay}
 use Rattle.tds_relay.specs.Ties.{pool_in, Reaches}
 use Rattle.tds_relay.proofs.steps.Fronts.{moves_closes, moves_same}
 use Rattle.tds_relay.proofs.steps.Putting.{moves_puts}
@@ -19,7 +19,7 @@ use Rattle.tds_relay.specs.Fronts.{MayPut, core_in}
 use Rattle.tds_relay.specs.Core.{closes}
 use Rattle.tds_relay.proofs.spared.Apart.{alone_both, alone_changed, alone_on, alone_same}
 use Rattle.tds_relay.proofs.spared.Ordered.{ordered_both, ordered_closing, ordered_on, ordered_refl, ordered_same}
-use Rattle.tds_relay.specs.Closings.{Itself, Nobody}
+use Rattle.tds_relay.specs.Closings.{Itself, NoKey}
 use Rattle.tds_relay.proofs.spared.Closings.{closes_both, closes_first, closes_nobody}
 use Rattle.tds_relay.specs.Reasons.{HasNoRoom, Unbegun, Unfit, Unheld, Untaken}
 use Rattle.tds_relay.proofs.spared.Reasons.{for_reason, no_room_there}
@@ -52,7 +52,7 @@ returns-then-fits-clause-underway c =
 
 pub returns-then-not-is_put-clause-read : goal.returns-then-not-is_put-clause-read
 returns-then-not-is_put-clause-read c =
-    ok_more c.fail-then-not-is_put.result _ _ (λ s. subst (λ (ls : List Link). Stays ls c.fail-then-not-is_put.new.self.links.items) c.note_went_on.ensures.links s) c.fail-then-not-is_put.ensures.read
+    ok_more c.fail-then-not-is_put.result _ _ (λ s. subst (λ (ls : List Link). LinksStay ls c.fail-then-not-is_put.new.self.links.items) c.note_went_on.ensures.links s) c.fail-then-not-is_put.ensures.read
 
 pub returns-then-fits-clause-read : goal.returns-then-fits-clause-read
 returns-then-fits-clause-read c = stays_behind _ _ _ c.note_went_on.ensures.links c.in_ok-fits.ensures.read
@@ -222,7 +222,7 @@ returns-then-not-is_put-clause-closes c = for_reason c.fail-then-not-is_put.resu
     (closes_first c.fail-then-not-is_put.result (Itself c.args.key) _ _ _ c.fail-then-not-is_put.ensures.closes c.note_went_on.ensures.closes)
 
 pub returns-then-fits-clause-closes : goal.returns-then-fits-clause-closes
-returns-then-fits-clause-closes c = closes_nobody _ _ _ (closes_both Nobody _ _ _ c.note_went_on.ensures.closes c.in_ok-fits.ensures.closes)
+returns-then-fits-clause-closes c = closes_nobody _ _ _ (closes_both NoKey _ _ _ c.note_went_on.ensures.closes c.in_ok-fits.ensures.closes)
 
 pub returns-else-fits-clause-closes : goal.returns-else-fits-clause-closes
 returns-else-fits-clause-closes c =
@@ -234,7 +234,7 @@ returns-else-fits-clause-closes c =
     (subst (λ (ls : List Link). HasNoRoom c.in-Some.hold.number c.note_went_on.new.self.outbox.items ls) c.note_went_on.ensures.links (c.in_ok-fits.ensures.no_room (search rules))) in
     for_reason c.fail-else-fits.result c.args.key _ _ _
     (Unfit c.put_on.new.pool after p (no_room_there c.args.whole c.args.bytes.now c.args.key c.args.self.now.pool c.put_on.new.pool after c.args.self.now.links.items c.in-Some.hold p (sym c.hold_of.ensures ∙ c.in-Some.is) none))
-    (closes_first c.fail-else-fits.result (Itself c.args.key) _ _ _ c.fail-else-fits.ensures.closes (closes_both Nobody _ _ _ c.note_went_on.ensures.closes c.in_ok-fits.ensures.closes))
+    (closes_first c.fail-else-fits.result (Itself c.args.key) _ _ _ c.fail-else-fits.ensures.closes (closes_both NoKey _ _ _ c.note_went_on.ensures.closes c.in_ok-fits.ensures.closes))
 
 pub returns-in_default-clause-seated : goal.returns-in_default-clause-seated
 returns-in_default-clause-seated c = λ s. kept_end c.end.result c.args.self.now c.end.new.self c.end.ensures.pool c.end.ensures.links s

@@ -19,7 +19,7 @@ use Rattle.tds_relay.proofs.spared.Begun.{answers_refl}
 use Rattle.tds_relay.proofs.spared.Lasting.{last_refl}
 use Rattle.tds_relay.proofs.spared.Reasons.{for_that}
 use Rattle.tds_relay.specs.Reasons.{CannotPut, ItselfFor}
-use Rattle.tds_relay.specs.Core.{Ends, end_at}
+use Rattle.tds_relay.specs.Core.{EndList, end_at}
 use Rattle.tds_relay.proofs.spared.Filling.{own_refl}
 use Rattle.tds_relay.proofs.relay.Relay.put_held.Goals as goal
 
@@ -71,7 +71,7 @@ returns-clause-closes c =
     closes_on c.put.result (ItselfFor c.args.key (CannotPut c.args.whole (held_of (get s c.args.key)) c.args.key (end_at (ends_in c.args.self.now.applications) c.args.key) c.args.self.now.pool c.args.self.now.links.items)) _ _ _
     (for_that c.put.result c.args.key _ _ _ _
     (λ why. subst (λ (xs : List ℕ). CannotPut c.args.whole xs c.args.key (end_at (ends_in c.args.self.now.applications) c.args.key) c.args.self.now.pool c.args.self.now.links.items) (bytes ∙ ap held_of c.in-Some.ensures.value)
-    (subst (λ (es : Ends). CannotPut c.args.whole c.deref.result.now c.args.key (end_at es c.args.key) c.args.self.now.pool c.args.self.now.links.items) same why)) c.put.ensures.closes)
+    (subst (λ (es : EndList). CannotPut c.args.whole c.deref.result.now c.args.key (end_at es c.args.key) c.args.self.now.pool c.args.self.now.links.items) same why)) c.put.ensures.closes)
     (closes_kept _ _ _ same (queues_kept s c.args.key a _ c.in-Some.ensures.value c.take_held-held.ensures.queue) refl (kept_refl c.args.self.now.links.items) (unclosed _ _ refl))
 
 pub returns-in_default-clause-own : goal.returns-in_default-clause-own

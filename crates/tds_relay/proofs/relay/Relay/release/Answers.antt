@@ -8,7 +8,7 @@ use Rattle.tds_relay.proofs.spared.Letting.{left_rest, shut_rest, unheld_rest, l
 use Rattle.tds_relay.specs.Pool.{find_key}
 use Rattle.tds_relay.specs.declared.pool.Pool as code
 use Rattle.tds_relay.proofs.spared.Ordered.{ordered_on, ordered_same}
-use Rattle.tds_relay.specs.Closings.{IsWho, Nobody}
+use Rattle.tds_relay.specs.Closings.{IsWho, NoKey}
 use Rattle.tds_relay.proofs.spared.Closings.{closes_on, closes_with}
 use Rattle.tds_relay.proofs.spared.Cleaned.{left_by, nobody_left, shut_by, waits_none, counted_by, counts_none, counts_on, counts_some, failed_is, nobody_counted, shut_counted}
 use Rattle.tds_relay.proofs.spared.Apart.{line_leaves}
@@ -84,10 +84,10 @@ pub returns-in_default-clause-closes : goal.returns-in_default-clause-closes
 returns-in_default-clause-closes c = c.let_go.ensures.closes
 
 pub returns-then-left-clause-closes : goal.returns-then-left-clause-closes
-returns-then-left-clause-closes c = closes_on c.send_unheld.result Nobody _ _ _ c.send_unheld.ensures.closes c.let_go.ensures.closes
+returns-then-left-clause-closes c = closes_on c.send_unheld.result NoKey _ _ _ c.send_unheld.ensures.closes c.let_go.ensures.closes
 
 pub returns-else-left-clause-closes : goal.returns-else-left-clause-closes
-returns-else-left-clause-closes c = closes_with c.close.result (IsWho None) Nobody _ _ _ (λ key e. (let u : ⊥ = cc in u)) c.close.ensures.closes c.let_go.ensures.closes
+returns-else-left-clause-closes c = closes_with c.close.result (IsWho None) NoKey _ _ _ (λ key e. (let u : ⊥ = cc in u)) c.close.ensures.closes c.let_go.ensures.closes
 
 pub returns-in_default-clause-ends : goal.returns-in_default-clause-ends
 returns-in_default-clause-ends c = λ reached. nobody_left c.args.key (find_key c.args.key c.args.self.now.pool.holds.items) c.args.self.now c.let_go.new.self refl (search rules)

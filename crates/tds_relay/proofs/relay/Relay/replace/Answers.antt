@@ -1,7 +1,7 @@
 use Rattle.std.proofs.Common.{◌∙◌, ℕ, List, ap, refl, rules, subst, sym, None, Some}
 use Rattle.tds_relay.specs.declared.pool.Pool as code
 use Rattle.tds_relay.specs.declared.link.Link.{Link}
-use Rattle.tds_relay.specs.Reads.{Stays}
+use Rattle.tds_relay.specs.Reads.{LinksStay}
 use Rattle.tds_relay.specs.Ties.{Connection, Reaches, pool_in}
 use Rattle.tds_relay.proofs.steps.Fronts.{moves_loses, moves_replaces, moves_same}
 use Rattle.tds_relay.proofs.steps.Reaching.{ok_if, ok_more, reaches_turn}
@@ -9,7 +9,7 @@ use Rattle.tds_relay.proofs.steps.Staying.{stays_then}
 use Rattle.tds_relay.proofs.bytes.Calls.{stand_at, stand_on}
 use Rattle.tds_relay.proofs.spared.Coming.{along_both, body_along, rest_along, same_along, same_along_on}
 use Rattle.tds_relay.proofs.spared.Ordered.{ordered_both, ordered_same}
-use Rattle.tds_relay.specs.Closings.{IsWho, Nobody}
+use Rattle.tds_relay.specs.Closings.{IsWho, NoKey}
 use Rattle.tds_relay.proofs.spared.Closings.{closes_both, closes_more_on, closes_nobody}
 use Rattle.tds_relay.specs.Reasons.{CannotMove}
 use Rattle.tds_relay.specs.Waiting.{StandsInLine}
@@ -18,7 +18,7 @@ use Rattle.tds_relay.proofs.spared.Cleaned.{not_both}
 use Rattle.tds_relay.proofs.spared.Lined.{lost_deaf, same_key}
 use Rattle.tds_relay.proofs.spared.Only.{spares_both, spares_holder, spares_left, spares_lost_on, spares_none, spares_parted}
 use Rattle.tds_relay.specs.Fronts.{core_in, ends_in}
-use Rattle.tds_relay.specs.Core.{lets_go, Ends, IfOpen, IsBegun, end_at, holder}
+use Rattle.tds_relay.specs.Core.{lets_go, EndList, IfOpen, IsBegun, end_at, holder}
 use Rattle.tds_relay.proofs.bytes.SetAnew.{any_keeps, any_kept, any_refl}
 use Rattle.tds_relay.specs.Lent.{KeepsAnswers}
 use Rattle.tds_relay.specs.Coming.{MayBeginAny}
@@ -50,7 +50,7 @@ pub returns-clause-moves : goal.returns-clause-moves
 returns-clause-moves c =
     ok_more c.wait.result _ _
     (λ m from h. m (Connection c.args.number) tt
-    (subst (λ (es : Ends). IfOpen IsBegun (end_at es c.in-Some.key)) (sym (c.in_ok-close_link.ensures.ends ∙ c.let_go.ensures.ends)) (open_lets_go IsBegun (ends_in c.args.self.now.applications) c.in-Some.key
+    (subst (λ (es : EndList). IfOpen IsBegun (end_at es c.in-Some.key)) (sym (c.in_ok-close_link.ensures.ends ∙ c.let_go.ensures.ends)) (open_lets_go IsBegun (ends_in c.args.self.now.applications) c.in-Some.key
     (whose_is (λ (k : ℕ). IfOpen IsBegun (end_at (ends_in c.args.self.now.applications) k)) (holder (pool_in c.args.self.now.pool) c.args.number) c.in-Some.key (sym c.in_ok-holder.ensures.whose ∙ c.in-Some.is) (c.may_replace.ensures.begun (search rules))))) from
     (moves_same (Connection c.args.number) from _ _ _ _ (ap pool_in (c.in_ok-close_link.ensures.pool ∙ c.let_go.ensures.pool)) c.in_ok-close_link.ensures.ends
     (moves_replaces c.args.number c.in-Some.key from _ _ _ _ _ _ c.in_ok-holder.ensures.turns (sym c.in-Some.is ∙ c.in_ok-holder.ensures.whose) (c.may_replace.ensures.parts (search rules)) c.let_go.ensures.ends h)))
@@ -59,7 +59,7 @@ returns-clause-moves c =
 pub returns-clause-read : goal.returns-clause-read
 returns-clause-read c =
     ok_if c.wait.result _
-    (stays_then _ _ _ (subst (λ (ls : List Link). Stays ls c.close_link-2.new.self.links.items) c.let_go.ensures.links c.in_ok-close_link.ensures.read) c.wait.ensures.links)
+    (stays_then _ _ _ (subst (λ (ls : List Link). LinksStay ls c.close_link-2.new.self.links.items) c.let_go.ensures.links c.in_ok-close_link.ensures.read) c.wait.ensures.links)
 
 pub returns-in_default-clause-stand : goal.returns-in_default-clause-stand
 returns-in_default-clause-stand c = ok_if c.close_link.result _ (stand_at _ _ _ c.in_ok-holder.ensures.stand c.close_link.ensures.pool)
@@ -89,10 +89,10 @@ returns-then-not-may_replace-clause-closes c =
     (λ other e. (e, c.may_replace.ensures.not (search rules) other e)) c.lose.ensures.closes
 
 pub returns-in_default-clause-closes : goal.returns-in_default-clause-closes
-returns-in_default-clause-closes c = closes_more_on c.close_link.result Nobody _ _ _ (λ key none. absurd none) c.close_link.ensures.closes
+returns-in_default-clause-closes c = closes_more_on c.close_link.result NoKey _ _ _ (λ key none. absurd none) c.close_link.ensures.closes
 
 pub returns-clause-closes : goal.returns-clause-closes
-returns-clause-closes c = ok_if c.wait.result _ (closes_nobody _ _ _ (closes_both Nobody _ _ _ (closes_both Nobody _ _ _ c.let_go.ensures.closes c.in_ok-close_link.ensures.closes) c.wait.ensures.closes))
+returns-clause-closes c = ok_if c.wait.result _ (closes_nobody _ _ _ (closes_both NoKey _ _ _ (closes_both NoKey _ _ _ c.let_go.ensures.closes c.in_ok-close_link.ensures.closes) c.wait.ensures.closes))
 
 pub returns-then-not-may_replace-clause-lines : goal.returns-then-not-may_replace-clause-lines
 returns-then-not-may_replace-clause-lines c = ok_more c.lose.result _ _ (λ e key its. waiting.Closes (lost_deaf key _ _ _ e its)) c.lose.ensures.ends

@@ -14,7 +14,7 @@ use Rattle.tds_relay.proofs.spared.Elsewhere.{aside_on, aside_own, filled_own}
 use Rattle.tds_relay.proofs.spared.Rightly.{deaf_right_on, opens_before, right_by}
 use Rattle.tds_relay.specs.Asking.{IsTakenBack}
 use Rattle.tds_relay.specs.Bodies.{body_of}
-use Rattle.tds_relay.specs.Core.{Ends, end_at}
+use Rattle.tds_relay.specs.Core.{EndList, end_at}
 use Rattle.tds_relay.specs.Sparing.{IsKept}
 use Rattle.tds_relay.proofs.spared.Turned.{kept_asks}
 use Rattle.tds_relay.specs.declared.pool.Pool as pools
@@ -72,7 +72,7 @@ returns-then-fits-clause-right c = λ right.
     let old = c.args.self.now in
     let new = c.fits_on.new.self in
     right_by c.args.key old new (ap (λ (d : pools.Pool). d.holds.items) c.fits_on.ensures.pool)
-    (λ back. subst (λ (es : Ends). IsTakenBack (end_at es c.args.key)) (sym c.in_ok-fits.ensures.ends) back)
+    (λ back. subst (λ (es : EndList). IsTakenBack (end_at es c.args.key)) (sym c.in_ok-fits.ensures.ends) back)
     (λ kept. subst IsKept (sym (kept_asks c.args.key new old c.in_ok-fits.ensures.asks kept)) kept) (opens_before old.links.items new.links.items c.in_ok-fits.ensures.read) right
 
 pub returns-else-fits-clause-right : goal.returns-else-fits-clause-right

@@ -7,7 +7,7 @@ use Rattle.tds_relay.proofs.bytes.Calls.{stand_from}
 use Rattle.tds_relay.proofs.spared.Letting.{sent_all}
 use Rattle.tds_relay.specs.declared.pool.Pool as code
 use Rattle.tds_relay.proofs.spared.Ordered.{ordered_on}
-use Rattle.tds_relay.specs.Closings.{IsWho, Nobody}
+use Rattle.tds_relay.specs.Closings.{IsWho, NoKey}
 use Rattle.tds_relay.specs.Core.{change_whose, closes, holder}
 use Rattle.tds_relay.proofs.spared.Closings.{closes_with}
 use Rattle.tds_relay.specs.Pool.{find_number, key_of, without_number}
@@ -52,7 +52,7 @@ pub returns-in-None-clause-ordered : goal.returns-in-None-clause-ordered
 returns-in-None-clause-ordered c = ordered_on c.lose.result _ _ _ c.lose.ensures.ordered c.in_ok-fits.ensures.ordered
 
 pub returns-in-None-clause-closes : goal.returns-in-None-clause-closes
-returns-in-None-clause-closes c = closes_with c.lose.result (IsWho (holder (pool_in c.fits_on.new.self.pool) c.args.number)) Nobody _ _ _
+returns-in-None-clause-closes c = closes_with c.lose.result (IsWho (holder (pool_in c.fits_on.new.self.pool) c.args.number)) NoKey _ _ _
     (λ key e. (let u : None ≡ Some key = sym (sym c.key_on.ensures ∙ c.in-None.is) ∙ e in let v : ⊥ = cc in v)) c.lose.ensures.closes c.in_ok-fits.ensures.closes
 
 pub returns-then-fits-clause-puts : goal.returns-then-fits-clause-puts

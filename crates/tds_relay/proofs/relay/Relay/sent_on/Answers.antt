@@ -1,7 +1,7 @@
 use Rattle.std.proofs.Common.{◌≡◌, ◌∙◌, ℕ, Bool, true, false, Option, Some, None, ap, rules, sym, if◌then◌else◌}
 use Rattle.std.specs.Prelude.{option_and_then, drop}
 use Rattle.slab.specs.Slab.{get}
-use Rattle.tds_relay.specs.Places.{holder}
+use Rattle.tds_relay.specs.Places.{holder_of_number}
 use Rattle.tds_relay.specs.Ties.{pool_in}
 use Rattle.tds_relay.specs.Told.{holder_name, name_of}
 use Rattle.tds_relay.proofs.seats.Linked.{changed_there, seated_as}
@@ -15,7 +15,7 @@ returns-then-not-forget_sent-clause-whose c =
 pub returns-clause-whose : goal.returns-clause-whose
 returns-clause-whose c =
     let there : c.forget_sent.result ≡ true = search rules in
-    let holds : holder (pool_in c.args.self.now.pool) c.args.number ≡ Some c.in_ok-key.key = search rules in
+    let holds : holder_of_number (pool_in c.args.self.now.pool) c.args.number ≡ Some c.in_ok-key.key = search rules in
     let has : get c.args.self.now.applications c.in_ok-key.key ≡ Some c.in_ok-get.field-0.now = search rules in
     sym (ap (λ (b : Bool). if b then holder_name c.args.number c.args.self.now else None) (sym c.forget_sent.ensures.found ∙ there)
     ∙ ap (λ (o : Option ℕ). option_and_then (λ (key : ℕ). name_of (get c.args.self.now.applications key)) o) holds

@@ -7,7 +7,7 @@ use Rattle.tds_relay.specs.Ordering.{GrowsByOrders, OpensNew, StayOrdered}
 use Rattle.tds_relay.specs.Queues.{queues_in}
 use Rattle.tds_relay.specs.Reads.{Opens}
 use Rattle.tds_relay.specs.Sparing.{AllGo, AwayRest}
-use Rattle.tds_relay.specs.Ties.{GoesOn, IsReached, pool_in}
+use Rattle.tds_relay.specs.Ties.{LedOn, IsReached, pool_in}
 use Rattle.tds_relay.specs.TokenParsers.{AllStand}
 use Rattle.tds_relay.proofs.spared.Apart.{Unserved}
 use Rattle.tds_relay.specs.Closings.{ClosesOnly, IsWaiting, register_in}
@@ -17,7 +17,7 @@ use Rattle.tds_relay.proofs.relay.Relay.serve_line.Given as goal
 
 abbrev pub invariant-line : goal.invariant-line
 invariant-line l = record {
-  goes : GoesOn (pool_in l.fn.self.pool) (pool_in l.self.pool);
+  goes : LedOn (pool_in l.fn.self.pool) (pool_in l.self.pool);
   kept : queues_in l.self.applications ≡ queues_in l.fn.self.applications;
   moves : MovedOn (core_in l.fn.self) (core_in l.self);
   opens : Opens l.fn.self.links.items l.self.links.items;

@@ -1,6 +1,6 @@
 use Rattle.std.proofs.Common.{◌≡◌, ◌∙◌, inl, inr, Some, false, ap, refl, rules, sym, subst, Bool, Option, option_map, ℕ}
 use Rattle.std.specs.Prelude.{take}
-use Rattle.tds_relay.specs.Fronts.{end_of, ends_in, given_by, core_in, machine_in, core_of_ends}
+use Rattle.tds_relay.specs.Fronts.{own_end, ends_in, given_by, core_in, machine_in, core_of_ends}
 use Rattle.tds_relay.specs.Core.{closes_for, Open, asks_by, end_at}
 use Rattle.tds_relay.specs.Queues.{Queues, queues_in, names_of}
 use Rattle.tds_relay.specs.Ties.{Application, pool_in}
@@ -51,7 +51,7 @@ returns-in-Err-clause-tells c = λ first bytes t.
     (waits_refused c.args.key es c.args.piece.now a.front a.is_withdrawn a.reset _ (queues_in slab) was says)
     (refused_is c.args.key (pool_in c.args.self.now.pool) es c.args.piece.now a.front a.is_withdrawn a.reset _ was says)
     (moved_same (Application c.args.key) _ _ _ _ _ refl
-    (sym (closed_fed (closes_for (Some c.in-Err.fault)) es _ c.args.key _ (end_of a) (ap (closes_for (Some c.in-Err.fault)) (end_open a here) ∙ sym (ap (closes_for (Some c.in-Err.fault)) (end_open c.feed.new.self (c.feed.ensures.over ∙ here)))) (end_there slab c.args.key a c.in-Some.ensures.value) (ends_written slab c.args.key _))) c.in_ok-expel_for-in-Err.ensures.moves)
+    (sym (closed_fed (closes_for (Some c.in-Err.fault)) es _ c.args.key _ (own_end a) (ap (closes_for (Some c.in-Err.fault)) (end_open a here) ∙ sym (ap (closes_for (Some c.in-Err.fault)) (end_open c.feed.new.self (c.feed.ensures.over ∙ here)))) (end_there slab c.args.key a c.in-Some.ensures.value) (ends_written slab c.args.key _))) c.in_ok-expel_for-in-Err.ensures.moves)
     (c.in_ok-expel_for-in-Err.ensures.kept ∙ queues_kept slab c.args.key a _ c.in-Some.ensures.value c.feed.ensures.queue) t
 
 pub returns-clause-tells : goal.returns-clause-tells
@@ -77,7 +77,7 @@ returns-in-Err-clause-asks c = λ first bytes t.
     (waits_refused c.args.key es c.args.piece.now a.front a.is_withdrawn a.reset _ (queues_in slab) was says)
     (refused_is c.args.key (pool_in c.args.self.now.pool) es c.args.piece.now a.front a.is_withdrawn a.reset _ was says) says
     (moved_same (Application c.args.key) _ _ _ _ _ refl
-    (sym (closed_fed (closes_for (Some c.in-Err.fault)) es _ c.args.key _ (end_of a) (ap (closes_for (Some c.in-Err.fault)) (end_open a here) ∙ sym (ap (closes_for (Some c.in-Err.fault)) (end_open c.feed.new.self (c.feed.ensures.over ∙ here)))) (end_there slab c.args.key a c.in-Some.ensures.value) (ends_written slab c.args.key _))) c.in_ok-expel_for-in-Err.ensures.moves)
+    (sym (closed_fed (closes_for (Some c.in-Err.fault)) es _ c.args.key _ (own_end a) (ap (closes_for (Some c.in-Err.fault)) (end_open a here) ∙ sym (ap (closes_for (Some c.in-Err.fault)) (end_open c.feed.new.self (c.feed.ensures.over ∙ here)))) (end_there slab c.args.key a c.in-Some.ensures.value) (ends_written slab c.args.key _))) c.in_ok-expel_for-in-Err.ensures.moves)
     (c.in_ok-expel_for-in-Err.ensures.kept ∙ queues_kept slab c.args.key a _ c.in-Some.ensures.value c.feed.ensures.queue)
     (asks_links c.args.key first (machine_in c.args.self.now) bytes c.args.piece.now _ _ (stays_opens _ _ c.in_ok-expel_for-in-Err.ensures.read) t)
 
@@ -131,7 +131,7 @@ returns-in-Err-clause-carries c = λ first bytes at t.
     (waits_refused c.args.key es c.args.piece.now a.front a.is_withdrawn a.reset _ (queues_in slab) was says)
     (refused_is c.args.key (pool_in c.args.self.now.pool) es c.args.piece.now a.front a.is_withdrawn a.reset _ was says) says
     (moved_same (Application c.args.key) _ _ _ _ _ refl
-    (sym (closed_fed (closes_for (Some c.in-Err.fault)) es _ c.args.key _ (end_of a) (ap (closes_for (Some c.in-Err.fault)) (end_open a here) ∙ sym (ap (closes_for (Some c.in-Err.fault)) (end_open c.feed.new.self (c.feed.ensures.over ∙ here)))) (end_there slab c.args.key a c.in-Some.ensures.value) (ends_written slab c.args.key _))) c.in_ok-expel_for-in-Err.ensures.moves)
+    (sym (closed_fed (closes_for (Some c.in-Err.fault)) es _ c.args.key _ (own_end a) (ap (closes_for (Some c.in-Err.fault)) (end_open a here) ∙ sym (ap (closes_for (Some c.in-Err.fault)) (end_open c.feed.new.self (c.feed.ensures.over ∙ here)))) (end_there slab c.args.key a c.in-Some.ensures.value) (ends_written slab c.args.key _))) c.in_ok-expel_for-in-Err.ensures.moves)
     (c.in_ok-expel_for-in-Err.ensures.kept ∙ queues_kept slab c.args.key a _ c.in-Some.ensures.value c.feed.ensures.queue)
     (shut_starts c.expel_for.new.self.applications c.args.key (body_of c.args.key c.args.self.now) (going_of c.args.key c.expel_for.new.self) c.in_ok-expel_for-in-Err.ensures.over) (relay_tied c.args.key c.expel_for.new.self) t
 
@@ -175,7 +175,7 @@ returns-in-Err-clause-cancels c = λ first bytes at t.
     (waits_refused c.args.key es c.args.piece.now a.front a.is_withdrawn a.reset _ (queues_in slab) was says)
     (refused_is c.args.key (pool_in c.args.self.now.pool) es c.args.piece.now a.front a.is_withdrawn a.reset _ was says) says
     (moved_same (Application c.args.key) _ _ _ _ _ refl
-    (sym (closed_fed (closes_for (Some c.in-Err.fault)) es _ c.args.key _ (end_of a) (ap (closes_for (Some c.in-Err.fault)) (end_open a here) ∙ sym (ap (closes_for (Some c.in-Err.fault)) (end_open c.feed.new.self (c.feed.ensures.over ∙ here)))) (end_there slab c.args.key a c.in-Some.ensures.value) (ends_written slab c.args.key _))) c.in_ok-expel_for-in-Err.ensures.moves)
+    (sym (closed_fed (closes_for (Some c.in-Err.fault)) es _ c.args.key _ (own_end a) (ap (closes_for (Some c.in-Err.fault)) (end_open a here) ∙ sym (ap (closes_for (Some c.in-Err.fault)) (end_open c.feed.new.self (c.feed.ensures.over ∙ here)))) (end_there slab c.args.key a c.in-Some.ensures.value) (ends_written slab c.args.key _))) c.in_ok-expel_for-in-Err.ensures.moves)
     (c.in_ok-expel_for-in-Err.ensures.kept ∙ queues_kept slab c.args.key a _ c.in-Some.ensures.value c.feed.ensures.queue)
     (inr (shut c.expel_for.new.self.applications c.args.key (going_of c.args.key c.expel_for.new.self) c.in_ok-expel_for-in-Err.ensures.over, λ number. c.in_ok-expel_for-in-Err.ensures.read.fills number)) (relay_tied c.args.key c.expel_for.new.self) t
 
@@ -239,7 +239,7 @@ returns-clause-closes c =
     let was = end_there slab c.args.key a c.in-Some.ensures.value ∙ ap Some (end_open a here) in
     let behind : Front = (fed a.front piece).front in
     let now : end_at (ends_in (with_value slab c.args.key b)) c.args.key ≡ Some (Open behind a.is_withdrawn (asks_by said a.reset)) =
-    end_is (with_value slab c.args.key b) c.args.key ∙ ap (option_map end_of) (written_there slab c.args.key a b c.in-Some.ensures.value) ∙ ap Some (end_open b (c.feed.ensures.over ∙ here))
+    end_is (with_value slab c.args.key b) c.args.key ∙ ap (option_map own_end) (written_there slab c.args.key a b c.in-Some.ensures.value) ∙ ap Some (end_open b (c.feed.ensures.over ∙ here))
     ∙ ap (λ (f : Front). Some (Open f b.is_withdrawn b.reset)) c.feed.ensures.front ∙ ap (λ (w : Bool). Some (Open behind w b.reset)) c.feed.ensures.withdrawn ∙ ap (λ (o : Option Reset). Some (Open behind a.is_withdrawn o)) c.in-Ok.ensures.asks in
     let same = asks_kept slab c.args.key a b c.in-Some.ensures.value c.feed.ensures.body c.args.key (going_of c.args.key r) in
     let rooms : room_left (get (with_value slab c.args.key b) c.args.key) ≡ room_left (get slab c.args.key) =
@@ -301,7 +301,7 @@ returns-clause-right c = λ right.
     let r = c.args.self.now in
     let here : a.is_over ≡ false = search rules in
     let was = end_there slab c.args.key a c.in-Some.ensures.value ∙ ap Some (end_open a here) in
-    let now = end_is (with_value slab c.args.key b) c.args.key ∙ ap (option_map end_of) (written_there slab c.args.key a b c.in-Some.ensures.value) ∙ ap Some (end_open b (c.feed.ensures.over ∙ here)) in
+    let now = end_is (with_value slab c.args.key b) c.args.key ∙ ap (option_map own_end) (written_there slab c.args.key a b c.in-Some.ensures.value) ∙ ap Some (end_open b (c.feed.ensures.over ∙ here)) in
     let fed_in : code.Relay = record r { applications = with_value slab c.args.key b } in
     let same = asks_kept slab c.args.key a b c.in-Some.ensures.value c.feed.ensures.body c.args.key (going_of c.args.key r) in
     c.in_ok-obey.ensures.right

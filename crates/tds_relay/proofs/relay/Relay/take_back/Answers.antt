@@ -12,7 +12,7 @@ use Rattle.tds_relay.proofs.steps.Told.{deaf_behind, deaf_closed}
 use Rattle.tds_relay.proofs.steps.Staying.{stays_from}
 use Rattle.tds_relay.proofs.bytes.Calls.{stand_at, stand_on}
 use Rattle.tds_relay.proofs.steps.Bodied.{asks_then, forgot_on, kept_on_ok, shut}
-use Rattle.tds_relay.specs.Closings.{Itself, Nobody}
+use Rattle.tds_relay.specs.Closings.{Itself, NoKey}
 use Rattle.tds_relay.proofs.spared.Closings.{closes_both, closes_first}
 use Rattle.tds_relay.specs.Reasons.{HasNoRoom}
 use Rattle.tds_relay.proofs.spared.Reasons.{for_reason, for_that, halts_unfit, none_of, some_of}
@@ -105,7 +105,7 @@ returns-in-Some-clause-closes c =
           (subst (λ (ls : List Link). HasNoRoom c.in-Some.number c.withdraw.new.self.outbox.items ls) (c.withdraw.ensures.links ∙ c.stop.ensures.links ∙ c.forget_request.ensures.links) none)));
     })
     c.send_stop.ensures.closes)
-    (closes_both Nobody _ _ _ (closes_both Nobody _ _ _ c.forget_request.ensures.closes c.stop.ensures.closes) c.withdraw.ensures.closes)
+    (closes_both NoKey _ _ _ (closes_both NoKey _ _ _ c.forget_request.ensures.closes c.stop.ensures.closes) c.withdraw.ensures.closes)
 
 pub returns-in-None-clause-closes : goal.returns-in-None-clause-closes
 returns-in-None-clause-closes c =
@@ -116,7 +116,7 @@ returns-in-None-clause-closes c =
       service = c.forget_request.ensures.service;
       cannot = inl (none_of _ _ c.in-None.is c.in_ok-number.ensures.none);
     })
-    (closes_first c.expel.result (Itself c.args.key) _ _ _ c.expel.ensures.closes (closes_both Nobody _ _ _ c.forget_request.ensures.closes c.stop.ensures.closes))
+    (closes_first c.expel.result (Itself c.args.key) _ _ _ c.expel.ensures.closes (closes_both NoKey _ _ _ c.forget_request.ensures.closes c.stop.ensures.closes))
 
 pub returns-in-Some-clause-seated : goal.returns-in-Some-clause-seated
 returns-in-Some-clause-seated c = λ s. c.send_stop.ensures.seated (kept_seated c.stop.new.self c.withdraw.new.self c.withdraw.ensures.pool c.withdraw.ensures.links (c.stop.ensures.seated (unwaited c.args.key c.args.self.now.pool c.forget_request.new.self c.args.self.now.links.items c.forget_request.ensures.turns c.forget_request.ensures.service c.forget_request.ensures.links s)))

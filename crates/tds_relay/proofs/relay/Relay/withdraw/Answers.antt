@@ -2,7 +2,7 @@ use Rattle.tds_relay.specs.Fronts.{withdraws}
 use Rattle.tds_relay.proofs.steps.Fronts.{ends_moved}
 use Rattle.tds_relay.proofs.steps.Queueing.{queues_kept}
 use Rattle.std.proofs.Common.{refl}
-use Rattle.tds_relay.specs.Closings.{Nobody}
+use Rattle.tds_relay.specs.Closings.{NoKey}
 use Rattle.tds_relay.proofs.spared.Sending.{kept_refl}
 use Rattle.tds_relay.proofs.spared.Shutting.{closes_moved, keeps_withdraws, unclosed}
 use Rattle.tds_relay.proofs.steps.Bodied.{asks_kept}
@@ -15,7 +15,7 @@ pub returns-in-Some-clause-ends : goal.returns-in-Some-clause-ends
 returns-in-Some-clause-ends c = ends_moved c.args.self.now.applications c.args.key c.in-Some.application.now c.withdraw.new.self withdraws c.in-Some.ensures.value c.withdraw.ensures.end
 
 pub returns-in-Some-clause-closes : goal.returns-in-Some-clause-closes
-returns-in-Some-clause-closes c = closes_moved Nobody c.args.key withdraws _ _ keeps_withdraws (ends_moved c.args.self.now.applications c.args.key c.in-Some.application.now c.withdraw.new.self withdraws c.in-Some.ensures.value c.withdraw.ensures.end) (queues_kept c.args.self.now.applications c.args.key c.in-Some.application.now c.withdraw.new.self c.in-Some.ensures.value c.withdraw.ensures.queue) refl (kept_refl c.args.self.now.links.items) (unclosed _ _ refl)
+returns-in-Some-clause-closes c = closes_moved NoKey c.args.key withdraws _ _ keeps_withdraws (ends_moved c.args.self.now.applications c.args.key c.in-Some.application.now c.withdraw.new.self withdraws c.in-Some.ensures.value c.withdraw.ensures.end) (queues_kept c.args.self.now.applications c.args.key c.in-Some.application.now c.withdraw.new.self c.in-Some.ensures.value c.withdraw.ensures.queue) refl (kept_refl c.args.self.now.links.items) (unclosed _ _ refl)
 
 pub returns-in-Some-clause-asks : goal.returns-in-Some-clause-asks
 returns-in-Some-clause-asks c = asks_kept c.args.self.now.applications c.args.key c.in-Some.application.now c.withdraw.new.self c.in-Some.ensures.value c.withdraw.ensures.body

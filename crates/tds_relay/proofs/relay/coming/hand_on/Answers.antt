@@ -3,7 +3,7 @@ use Rattle.tds_packet.specs.Layout.{header_bytes}
 use Rattle.tds_relay.specs.Cutting.{awaited}
 use Rattle.tds_relay.specs.Handing.{IsKnownBy, IsOf}
 use Rattle.tds_relay.specs.Machine.{Whole, Without, behind_news}
-use Rattle.tds_relay.specs.Queues.{Queue, queue_in, put}
+use Rattle.tds_relay.specs.Queues.{Queue, queue_in, put_behind}
 use Rattle.tds_relay.proofs.steps.Handed.{news_first}
 use Rattle.tds_relay.proofs.steps.Reaching.{ok_if, ok_more}
 use Rattle.tds_relay.proofs.steps.Renaming.{called_so}
@@ -16,7 +16,7 @@ returns-then-news-clause-passes c =
     (λ made. record {
       manner = Without tells made.0;
       by = subst (λ (b : Bool). IsOf tells b (awaited c.args.news.is_owed c.args.answer.now) c.args.packet.header c.args.packet.«data».now (Without tells made.0)) (sym c.if-news.true) (made.0, refl, made.1);
-      is = called_so c.args.application.now.tag _ _ (Some (behind_news tells made.0)) (made.2 ∙ ap (λ (p : Queue). put made.0 p) c.in_ok-put_news.ensures.queue ∙ news_first tells made.0 (queue_in c.args.application.now.out));
+      is = called_so c.args.application.now.tag _ _ (Some (behind_news tells made.0)) (made.2 ∙ ap (λ (p : Queue). put_behind made.0 p) c.in_ok-put_news.ensures.queue ∙ news_first tells made.0 (queue_in c.args.application.now.out));
     })
     c.put_without_news.ensures.cut
 
@@ -28,7 +28,7 @@ returns-else-news-clause-passes c =
     (λ queue. record {
       manner = Whole tells;
       by = subst (λ (b : Bool). IsOf tells b (awaited c.args.news.is_owed c.args.answer.now) c.args.packet.header c.args.packet.«data».now (Whole tells)) (sym c.if-news.false) refl;
-      is = called_so c.args.application.now.tag _ _ (Some (behind_news tells piece)) (queue ∙ ap (λ (p : Queue). put piece p) c.in_ok-put_news.ensures.queue ∙ news_first tells piece (queue_in c.args.application.now.out));
+      is = called_so c.args.application.now.tag _ _ (Some (behind_news tells piece)) (queue ∙ ap (λ (p : Queue). put_behind piece p) c.in_ok-put_news.ensures.queue ∙ news_first tells piece (queue_in c.args.application.now.out));
     })
     c.put_packet.ensures.queue
 

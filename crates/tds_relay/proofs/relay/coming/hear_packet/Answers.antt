@@ -4,10 +4,10 @@ use Rattle.tds_service.specs.Table.{reading_on}
 use Rattle.tds_relay.specs.declared.link.News.{News}
 use Rattle.tds_relay.specs.Pool.{owes_reset, whose}
 use Rattle.tds_relay.specs.declared.pool.coming.What.TheVariants as whats
-use Rattle.tds_relay.specs.Fronts.{end_of, ends_in}
+use Rattle.tds_relay.specs.Fronts.{own_end, ends_in}
 use Rattle.tds_relay.specs.Core.{End}
 use Rattle.tds_relay.specs.Handing.{IsBy, PassesAs, IsKnown, news_for}
-use Rattle.tds_relay.specs.Machine.{IsTold, Withheld, closes, end_whose, handed, hears_of_reset, is_said, news_in}
+use Rattle.tds_relay.specs.Machine.{IsTold, Withheld, closes_connection, end_whose, handed, hears_of_reset, is_said, news_in}
 use Rattle.tds_relay.specs.Queues.{queues_in, names_of}
 use Rattle.tds_relay.specs.Ties.{Connection, pool_in, part_on}
 use Rattle.tds_relay.proofs.steps.Fronts.{ends_kept}
@@ -112,8 +112,8 @@ returns-clause-brings c =
     let passes = c.in_ok-hand_on.ensures.passes in
     let a = c.in-Some-get_mut.application.now in
     let its : heard.key ≡ Some c.in-Some-key.key = search rules in
-    let closed : closes heard.what ≡ false = search rules in
-    let hears : is_said whats.Goes (Some (end_of a)) ≡ true = search rules in
+    let closed : closes_connection heard.what ≡ false = search rules in
+    let hears : is_said whats.Goes (Some (own_end a)) ≡ true = search rules in
     let said : is_said heard.what (end_whose heard.key es) ≡ true = to_one heard.what c.args.applications.now heard.key c.in-Some-key.key a closed its c.in-Some-get_mut.ensures.value hears in
     let part = part_on parser content c.ends-ends.result in
     let mine : whose d number ≡ Some c.in-Some-key.key = sym c.in_ok-heard.ensures.whose ∙ its in

@@ -3,7 +3,7 @@ use Rattle.std.proofs.lemmas.List.{with_items_is}
 use Rattle.std.proofs.lemmas.Result.{IfOk-weaker}
 use Rattle.tds_service.specs.declared.refusal.Refusal.{Refusal}
 use Rattle.tds_service.specs.declared.seat.Seat as code
-use Rattle.tds_wire.specs.Reading.{Reading}
+use Rattle.tds_wire.specs.Reading.{Parser}
 use Rattle.tds_listen.specs.Hearing.{tokens_in}
 use Rattle.tds_service.specs.Packets.{Reads, packet_part, told_of_part, outcome_answer}
 use Rattle.tds_service.specs.Service.{Seat, Service, has_number, find_by, hears}
@@ -66,7 +66,7 @@ returns-in-Some-clause-reads c =
     let was = same_inside _ r (sym (reading_here (has_number c.args.number) items lent index here) ∙ e) in (
       k.0.connection.parser,
       ap (reading_by (has_number c.args.number)) items_are ∙ now,
-      subst (λ (r : Reading). Reads came.outcome c.args.ends (tokens_in r c.args.bytes.now).stop k.0.connection.parser) was k.3,
+      subst (λ (r : Parser). Reads came.outcome c.args.ends (tokens_in r c.args.bytes.now).stop k.0.connection.parser) was k.3,
     ))
     c.came_at.ensures.reads
 

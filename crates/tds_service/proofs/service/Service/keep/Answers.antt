@@ -6,7 +6,7 @@ use Rattle.tds_wire.specs.declared.told.Token.{Token}
 use Rattle.tds_service.specs.declared.seat.Seat as code
 use Rattle.tds_service.specs.declared.refusal.Refusal.{Refusal}
 use Rattle.tds_service.specs.declared.refusal.Refusal.TheVariants as refusals
-use Rattle.tds_service.specs.Service.{Service, Seat, Kept, Ticket, NotNow, Step, keeps_it, may_keep, does, nothing, find_by, has_lease, holds}
+use Rattle.tds_service.specs.Service.{Service, Seat, Kept, Ticket, NotNow, ServiceStep, keeps_it, may_keep, does, nothing, find_by, has_lease, holds}
 use Rattle.tds_service.specs.Table.{StepsIn, RefusesIn, service_in, seat_in, seats_in, place_of}
 use Rattle.tds_service.proofs.Tables.{here_in, found_here, does_alike, not_now_in, done_in, steps_as, meets_here}
 use Rattle.tds_service.proofs.Holding.{other_held_here, stays_here}
@@ -32,7 +32,7 @@ returns-in-Ok-clause-ok c =
     let table = k.1 ∙ ap (λ (cs : List code.Seat). set cs index k.0) c.deref_mut.ensures.value in
     let did = does_alike old (suc old.given) (has_lease c.args.lease) (Kept (suc old.given)) [] (Ticket (suc old.given)) items index here.seat k.0 refl here.first here.at k.2 (ap place_of k.3 ∙ ap Kept is) k.5 in
     let new : Service = record { max = old.max; last = old.last; given = ticket; seats = seats_in news } in
-    let P = λ (t : Step Token). StepsIn t new (Ticket ticket) here.seat.number [] [] in
+    let P = λ (t : ServiceStep Token). StepsIn t new (Ticket ticket) here.seat.number [] [] in
     let same = ap (λ (cs : List code.Seat). let t : Service = record { max = old.max; last = old.last; given = ticket; seats = seats_in cs } in t) table
     ∙ (ap (λ (g : ℕ). let t : Service = record { max = old.max; last = old.last; given = g; seats = seats_in (set items index k.0) } in t) is ∙ did) in
     let stepped = subst (λ (x : Option Seat). P (keeps_it old (has_lease c.args.lease) x)) (sym found)

@@ -4,7 +4,7 @@ use Rattle.std.specs.Prelude.{Option, Some, nat_lt, if◌then◌else◌, vec_cap
 use Rattle.tds_wire.specs.declared.told.Token.{Token}
 use Rattle.tds_packet.specs.declared.status.Reset.TheVariants.{Full}
 use Rattle.tds_service.specs.declared.seat.Seat as code
-use Rattle.tds_service.specs.Service.{Service, Seat, Leased, Lent, Step, lends, opens, find_by, is_lendable, lease_in, is_idle}
+use Rattle.tds_service.specs.Service.{Service, Seat, Leased, Lent, ServiceStep, lends, opens, find_by, is_lendable, lease_in, is_idle}
 use Rattle.tds_service.specs.Table.{StepsIn, RefusesIn, service_in, seat_in, seats_in, place_of}
 use Rattle.tds_service.specs.Ties.{line_in}
 use Rattle.tds_service.proofs.Tables.{here_in, found_here, meets_here, lends_here, lent_same, steps_as, refused_busy, busy_not_lendable, length_in, on_err}
@@ -38,7 +38,7 @@ returns-in-Ok-clause-ok c =
     let is : lease ≡ suc old.given = c.in_ok-lease.ensures.value ∙ (let e : old.given + 1 ≡ suc old.given = omega arith in e) in
     let did = lends_here old is_lendable Leased Full lease c.in-Ok.number items c.deref_mut.result.now news index here k.0 is refl c.deref_mut.ensures.value k.1 k.2 (ap place_of k.3) k.4 k.5 in
     let new : Service = record { max = old.max; last = old.last; given = lease; seats = seats_in news } in
-    let P = λ (t : Step Token). StepsIn t new (Lent lease c.in-Ok.number true) c.in-Ok.number [] [] in
+    let P = λ (t : ServiceStep Token). StepsIn t new (Lent lease c.in-Ok.number true) c.in-Ok.number [] [] in
     let found = found_here is_lendable items c.deref_mut.result.now index here in
     let stepped = subst (λ (x : Option Seat). P (lends old x)) (sym found) did in
     steps_as (lends old (find_by is_lendable old.seats)) new _ (Lent lease c.in-Ok.number true) _ c.in-Ok.number _

@@ -7,7 +7,7 @@ use Rattle.tds_service.specs.declared.seat.Seat as code
 use Rattle.tds_service.specs.declared.refusal.Refusal.{Refusal}
 use Rattle.tds_service.specs.declared.refusal.Refusal.TheVariants as refusals
 use Rattle.tds_service.specs.Line as line
-use Rattle.tds_service.specs.Service.{Service, Seat, Leased, Lent, NotNow, Step, resumes, does, nothing, find_by, has_ticket, is_idle, lease_in}
+use Rattle.tds_service.specs.Service.{Service, Seat, Leased, Lent, NotNow, ServiceStep, resumes, does, nothing, find_by, has_ticket, is_idle, lease_in}
 use Rattle.tds_service.specs.Table.{StepsIn, RefusesIn, service_in, seat_in, seats_in, place_of}
 use Rattle.tds_service.specs.Ties.{line_in}
 use Rattle.tds_service.proofs.Tables.{here_in, found_here, meets_here, lends_here, lent_same, steps_as, marked_idle, refused_busy, not_now_in, done_in}
@@ -33,7 +33,7 @@ returns-in-Ok-clause-ok c =
     let is : lease ≡ suc old.given = c.in_ok-lease.ensures.value ∙ (let e : old.given + 1 ≡ suc old.given = omega arith in e) in
     let did = lends_here old (has_ticket c.args.ticket) Leased KeepTransaction lease c.in-Ok.number items c.deref_mut.result.now news index here k.0 is refl c.deref_mut.ensures.value k.1 k.2 (ap place_of k.3) k.4 k.5 in
     let new : Service = record { max = old.max; last = old.last; given = lease; seats = seats_in news } in
-    let P = λ (t : Step Token). StepsIn t new (Lent lease c.in-Ok.number true) c.in-Ok.number [] [] in
+    let P = λ (t : ServiceStep Token). StepsIn t new (Lent lease c.in-Ok.number true) c.in-Ok.number [] [] in
     let found = found_here (has_ticket c.args.ticket) items c.deref_mut.result.now index here in
     let stepped = subst (λ (x : Option Seat). P (resumes old (has_ticket c.args.ticket) x)) (sym found) (done_in P (does old (suc old.given) (has_ticket c.args.ticket) (seat_in here.seat) (Some (Leased (suc old.given))) (line.Mark KeepTransaction ∷ []) (Lent (suc old.given) here.seat.number true)) (nothing old NotNow) (is_idle (line_in here.seat.connection).stage) (marked_idle (line_in here.seat.connection) KeepTransaction k.5.answer_is) did) in
     steps_as (resumes old (has_ticket c.args.ticket) (find_by (has_ticket c.args.ticket) old.seats)) new _ (Lent lease c.in-Ok.number true) _ c.in-Ok.number _

@@ -5,7 +5,7 @@ use Rattle.tds_wire.specs.declared.told.Token.{Token}
 use Rattle.tds_wire.specs.Told.{added}
 use Rattle.tds_wire.specs.Memory.{walk_of}
 use Rattle.tds_wire.specs.Lent.{reading_of}
-use Rattle.tds_wire.specs.Reading.{Reading, Refuses, next_token}
+use Rattle.tds_wire.specs.Reading.{Parser, Refuses, next_token}
 use Rattle.tds_wire.proofs.Agreed.{keeps_over, keeps_within}
 use Rattle.tds_wire.proofs.Feeding.{feeds_refusal, feeds_over, feeds_inside, feeds_fault, inside_same, sees_same}
 use Rattle.tds_wire.proofs.lent.LentWalk.feed_to.Goals as goal
@@ -42,7 +42,7 @@ returns-in-Failed-clause-exact c =
 
 pub returns-in-Over-clause-most : goal.returns-in-Over-clause-most
 returns-in-Over-clause-most c =
-    ap (λ (r : Reading). r.walk.most) (c.end_token.ensures.state c.feed.new.memory)
+    ap (λ (r : Parser). r.walk.most) (c.end_token.ensures.state c.feed.new.memory)
     ∙ (keeps_over (walk_of c.pass_row_here-count.new.self.cursor c.args.memory.now) (walk_of c.feed.new.self c.feed.new.memory) c.args.piece.now _ c.in-Over.ensures.exact).0
     ∙ ap (min 4096) c.pass_row_here-count.ensures.most
 
@@ -53,7 +53,7 @@ returns-in-Within-clause-most c =
 
 pub returns-in-Over-clause-features : goal.returns-in-Over-clause-features
 returns-in-Over-clause-features c =
-    ap (λ (r : Reading). r.walk.features) (c.end_token.ensures.state c.feed.new.memory)
+    ap (λ (r : Parser). r.walk.features) (c.end_token.ensures.state c.feed.new.memory)
     ∙ (keeps_over (walk_of c.pass_row_here-count.new.self.cursor c.args.memory.now) (walk_of c.feed.new.self c.feed.new.memory) c.args.piece.now _ c.in-Over.ensures.exact).1
     ∙ c.pass_row_here-count.ensures.features
 
@@ -64,7 +64,7 @@ returns-in-Within-clause-features c =
 
 pub returns-in-Over-clause-start : goal.returns-in-Over-clause-start
 returns-in-Over-clause-start c =
-    ap (λ (r : Reading). r.start) (c.end_token.ensures.state c.feed.new.memory)
+    ap (λ (r : Parser). r.start) (c.end_token.ensures.state c.feed.new.memory)
     ∙ sym (ap (λ (t : Token). added t.start t.length) (c.end_token.ensures.token c.feed.new.memory))
 
 pub returns-then-count-gt0-clause-exact : goal.returns-then-count-gt0-clause-exact

@@ -1,6 +1,6 @@
 use Rattle.std.proofs.Common.{◌∙◌, drop, refl, sym, subst}
 use Rattle.tds_wire.specs.Lent.{reading_of}
-use Rattle.tds_wire.specs.Reading.{Reading}
+use Rattle.tds_wire.specs.Reading.{Parser}
 use Rattle.tds_c.specs.service.Here.{HasCome}
 use Rattle.tds_c.proofs.service.Here.{here_walked, read_in, read_one, read_some}
 use Rattle.tds_c.proofs.service.packet.walked.hear_walked.Goals as goal
@@ -14,7 +14,7 @@ returns-clause-some c = λ first room r long at come.
     let m = c.args.memory.now in
     let rest = drop c.args.taken.now c.args.bytes.now in
     let same = read_one w m r (reading_of c.in-Some.lent m) at (read_in w m c.in-Some.lent (sym c.in-Some.ensures)) in
-    let here = subst (λ (x : Reading). HasCome first (record { seat = c.args.seat.now; reading = x; rest = rest })
+    let here = subst (λ (x : Parser). HasCome first (record { seat = c.args.seat.now; reading = x; rest = rest })
     (record { before = room; after = c.args.tokens.now; count = c.args.count.now })) same come in
     here_walked first _ _ _ c.hear_on-halt.result c.halt_number.ensures come.kept
     (read_in c.of.result c.hear_on-halt.new.memory c.hear_on-halt.new.walk c.of.ensures) c.whose.ensures.lease c.whose.ensures.request

@@ -3,7 +3,7 @@ use Rattle.std.proofs.lemmas.List.{drop-drop, length-drop}
 use Rattle.std.specs.Prelude.{IfSome, Option, true}
 use Rattle.tds_walk.specs.Taking.{TakesToken}
 use Rattle.tds_wire.specs.declared.told.Token.{Token}
-use Rattle.tds_wire.specs.Reading.{Reading, Sees, next_token}
+use Rattle.tds_wire.specs.Reading.{Parser, Sees, next_token}
 use Rattle.tds_c.specs.service.Here.{Start}
 use Rattle.tds_c.proofs.service.Here.{broken_by_token, come_none, come_on, moved_by_token, stops_broken}
 use Rattle.tds_c.proofs.service.packet.whole.hear_whole.Goals as goal

@@ -2,7 +2,7 @@ use Rattle.std.proofs.Common.{◌≡◌, ◌∙◌, ◌+◌, ◌++◌, ℕ, [], 
 use Rattle.std.proofs.Math.Nat.{mod-add-mod}
 use Rattle.tds_packet.specs.declared.kind.Kind.{Kind}
 use Rattle.tds_packet.specs.Sent.{sent_bytes}
-use Rattle.tds_client.specs.Packets.{attention}
+use Rattle.tds_client.specs.Packets.{stop_bytes}
 use Rattle.tds_c.specs.service.Clients.{cancel_bytes_at}
 use Rattle.tds_c.specs.declared.service.seat.Stage as code
 use Rattle.tds_c.specs.declared.service.seat.Stage.TheVariants as stages
@@ -19,6 +19,6 @@ returns-in-Sending-clause-bytes c =
     let client = c.args.self.now.client in
     let kind = kind_at client.kind in
     c.both_packets.ensures
-    ∙ ap (λ (n : ℕ). sent_bytes c.kind.result 3 n [] ++ attention) (mod-add-mod client.packets 256 1)
+    ∙ ap (λ (n : ℕ). sent_bytes c.kind.result 3 n [] ++ stop_bytes) (mod-add-mod client.packets 256 1)
     ∙ ap (λ (k : Kind). cancel_bytes_at stages.Sending k client.packets) c.kind.ensures
     ∙ ap (λ (s : code.Stage). cancel_bytes_at s kind client.packets) (sym c.in-Sending.is ∙ c.stage.ensures)

@@ -3,7 +3,7 @@ use Rattle.std.proofs.lemmas.List.{length-drop}
 use Rattle.tds_client.specs.Machine.{tells, with_heard}
 use Rattle.tds_client.specs.Session.{ClientSession, Stage}
 use Rattle.tds_listen.specs.Hearing.{told_if}
-use Rattle.tds_wire.specs.Reading.{Reading}
+use Rattle.tds_wire.specs.Reading.{Parser}
 use Rattle.tds_walk.specs.WireCalls.{reading_from}
 use Rattle.tds_walk.specs.WireTokens.{Puts}
 use Rattle.tds_walk.specs.declared.walk.TdsWire.{TdsWire}
