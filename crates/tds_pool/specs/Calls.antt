@@ -58,9 +58,11 @@ only test (Some c) = if test c then Some c else None
 
 -- the connection of this number, where it has this key and its turn and its place meet the test
 abbrev pub standing : (Turn → Place → Bool) → ℕ → ℕ → List Connection → Option Connection
-standing test key number cs = only (λ (c : Connection). (c.key == key) && test c.turn c.place) (numbered number cs)
+standing test key number cs =
+    only (λ (c : Connection). (c.key == key) && test c.turn c.place) (numbered number cs)
 
--- whether a connection whose turn is now that one, at that place, is lent for this turn, or kept for it
+-- whether a connection whose turn is now that one, at that place, is lent for this turn, or kept
+-- for it
 abbrev pub is_lent_for : Turn → Turn → Place → Bool
 is_lent_for turn now place = same_turn now turn && is_leased place
 
@@ -85,8 +87,8 @@ abbrev pub is_broken : Stage → Bool
 is_broken (Broken fault) = true
 is_broken _ = false
 
--- where a connection stands that nobody holds: it is free if its client is idle, it drains if its client is not, and if that is
--- broken it is taken out
+-- where a connection stands that nobody holds: it is free if its client is idle, it drains if its
+-- client is not, and if that is broken it is taken out
 abbrev pub rests_at : Stage → Option Place
 rests_at Idle = Some places.Free
 rests_at (Sending kind left packets) = Some places.Draining
@@ -103,11 +105,19 @@ pub record Returned : Type 0 where
 
 abbrev pub rested : ℕ → Option Place → List Connection → Returned
 rested number None cs = record { answer = given.Closed number; connections = taken_out number cs }
-rested number (Some places.Draining) cs = record { answer = given.Draining number; connections = lending_ended_at number places.Draining cs }
-rested number (Some places.Leased) cs = record { answer = given.Free number; connections = lending_ended_at number places.Leased cs }
-rested number (Some places.Kept) cs = record { answer = given.Free number; connections = lending_ended_at number places.Kept cs }
-rested number (Some places.Free) cs = record { answer = given.Free number; connections = lending_ended_at number places.Free cs }
-rested number (Some places.Cleaning) cs = record { answer = given.Free number; connections = lending_ended_at number places.Cleaning cs }
+rested number (Some places.Draining) cs =
+    record {
+      answer = given.Draining number;
+      connections = lending_ended_at number places.Draining cs;
+    }
+rested number (Some places.Leased) cs =
+    record { answer = given.Free number; connections = lending_ended_at number places.Leased cs }
+rested number (Some places.Kept) cs =
+    record { answer = given.Free number; connections = lending_ended_at number places.Kept cs }
+rested number (Some places.Free) cs =
+    record { answer = given.Free number; connections = lending_ended_at number places.Free cs }
+rested number (Some places.Cleaning) cs =
+    record { answer = given.Free number; connections = lending_ended_at number places.Cleaning cs }
 
 -- nobody holds this connection any more; where there is none, nothing changes
 abbrev pub put_back : Option Connection → List Connection → Returned
@@ -120,7 +130,8 @@ abandoned ticket cs = put_back (kept_for ticket cs) cs
 
 -- a draining connection is looked at again
 abbrev pub drained : ℕ → List Connection → Returned
-drained number cs = put_back (only (λ (c : Connection). is_draining c.place) (numbered number cs)) cs
+drained number cs =
+    put_back (only (λ (c : Connection). is_draining c.place) (numbered number cs)) cs
 
 -- ---- Keeping a transaction
 
@@ -139,7 +150,8 @@ has_no_transaction descriptor (Some Full) = true
 has_no_transaction descriptor (Some KeepTransaction) = descriptor == 0
 
 abbrev pub unless_open : ClientSession → Stage → Option PoolRefusal
-unless_open s Idle = if has_no_transaction s.heard.descriptor s.heard.mark then Some refusals.NoTransaction else None
+unless_open s Idle =
+    if has_no_transaction s.heard.descriptor s.heard.mark then Some refusals.NoTransaction else None
 unless_open s (Sending kind left packets) = Some refusals.NotIdle
 unless_open s Reading = Some refusals.NotIdle
 unless_open s Cancelling = Some refusals.NotIdle
@@ -157,7 +169,8 @@ refuses_resume (Some c) = unless_idle c.client.stage
 -- a connection is lent again, its client marked for a reset
 abbrev pub lent_again : ℕ → Reset → List Connection → List Connection
 lent_again number reset cs =
-    changed_in number (λ (c : Connection). record c { place = places.Leased; client = marked c.client reset }) cs
+    changed_in number (λ (c : Connection). record c
+    { place = places.Leased; client = marked c.client reset }) cs
 
 -- ---- A connection that nobody holds any more
 
@@ -166,7 +179,8 @@ abbrev pub settled : ℕ → List Connection → Returned
 settled number cs = put_back (numbered number cs) cs
 
 -- the client behind a cancel, and the bytes that go out for it; a broken client stays as it is
-abbrev pub session_behind : Result (sending.Effect Cancelled) ClientRefusal → ClientSession → ClientSession
+abbrev pub session_behind : Result (sending.Effect Cancelled) ClientRefusal → ClientSession
+    → ClientSession
 session_behind (Ok effect) s = effect.session
 session_behind (Err refusal) s = s
 
@@ -213,7 +227,8 @@ lent_next cs = find is_lendable cs
 -- why no new connection is opened, if one isn't, want of memory aside
 abbrev pub refuses_new : ℕ → ℕ → ℕ → Option PoolRefusal
 refuses_new count max last =
-    if nat_lt count max then (if nat_lt last 4294967295 then None else Some refusals.NumbersUsedUp) else Some refusals.AllInUse
+    if nat_lt count max then (if nat_lt last 4294967295 then None else Some refusals.NumbersUsedUp)
+    else Some refusals.AllInUse
 
 -- whether a lease is given, want of memory aside: a connection is free, or a new one may be opened
 abbrev pub can_lend : ℕ → ℕ → List Connection → Bool
@@ -251,7 +266,8 @@ abbrev pub count_at : Place → List Connection → ℕ
 count_at place cs = count_by (λ (c : Connection). stands_at place c.place) cs
 
 abbrev pub numbers_at : Place → List Connection → List ℕ
-numbers_at place cs = map (λ (c : Connection). c.number) (filter (λ (c : Connection). stands_at place c.place) cs)
+numbers_at place cs =
+    map (λ (c : Connection). c.number) (filter (λ (c : Connection). stands_at place c.place) cs)
 
 -- the free connection of this number
 abbrev pub free_one : ℕ → List Connection → Option Connection
@@ -285,7 +301,8 @@ taken_back_bytes number cs = cancel_bytes (held_one number cs)
 
 -- ---- Cleaning
 
--- why a connection can't be cleaned, if it can't, want of memory aside: it isn't free, or its client isn't idle
+-- why a connection can't be cleaned, if it can't, want of memory aside: it isn't free, or its
+-- client isn't idle
 abbrev pub refuses_clean : Option Connection → Option PoolRefusal
 refuses_clean None = Some refusals.Unknown
 refuses_clean (Some c) = unless_idle c.client.stage
@@ -297,23 +314,25 @@ asks_reset s request = sending.started (marked s Full) request
 -- a connection is being cleaned
 abbrev pub cleaning : ℕ → Request → List Connection → List Connection
 cleaning number request cs =
-    changed_in number (λ (c : Connection). record c { place = places.Cleaning; client = asks_reset c.client request }) cs
+    changed_in number (λ (c : Connection). record c
+    { place = places.Cleaning; client = asks_reset c.client request }) cs
 
--- behind a refusal the client is as it was, but where memory was wanting it is marked for a full reset, as the next lease
--- marks it too
+-- behind a refusal the client is as it was, but where memory was wanting it is marked for a full
+-- reset, as the next lease marks it too
 abbrev pub behind_refusal : PoolRefusal → ClientSession → ClientSession
 behind_refusal refusals.Memory s = marked s Full
 behind_refusal _ s = s
 
 abbrev pub not_cleaned : PoolRefusal → ℕ → List Connection → List Connection
-not_cleaned refusal number cs = changed_in number (λ (c : Connection). record c { client = behind_refusal refusal c.client }) cs
+not_cleaned refusal number cs =
+    changed_in number (λ (c : Connection). record c { client = behind_refusal refusal c.client }) cs
 
 -- whether a client has heard that its reset was done, and is in no transaction
 abbrev pub is_clean : ClientSession → Bool
 is_clean s = is_none s.heard.mark && (s.heard.descriptor == 0)
 
--- where a connection stands that is being cleaned: it is free once its client is idle, its reset was done, and it is in no
--- transaction; where one of these fails, or it is broken, it is taken out
+-- where a connection stands that is being cleaned: it is free once its client is idle, its reset
+-- was done, and it is in no transaction; where one of these fails, or it is broken, it is taken out
 abbrev pub rests_clean : ClientSession → Stage → Option Place
 rests_clean s Idle = if is_clean s then Some places.Free else None
 rests_clean s (Sending kind left packets) = Some places.Cleaning
@@ -323,8 +342,10 @@ rests_clean s (Broken fault) = None
 
 -- what a look at a connection that is being cleaned finds
 abbrev pub cleaned_to : ℕ → Option Place → List Connection → Returned
-cleaned_to number None cs = record { answer = given.Closed number; connections = taken_out number cs }
-cleaned_to number (Some places.Free) cs = record { answer = given.Free number; connections = at_place number places.Free cs }
+cleaned_to number None cs =
+    record { answer = given.Closed number; connections = taken_out number cs }
+cleaned_to number (Some places.Free) cs =
+    record { answer = given.Free number; connections = at_place number places.Free cs }
 cleaned_to number _ cs = record { answer = given.Draining number; connections = cs }
 
 abbrev pub looked_at_clean : Option Connection → List Connection → Returned
@@ -332,4 +353,5 @@ looked_at_clean None cs = record { answer = given.Unknown; connections = cs }
 looked_at_clean (Some c) cs = cleaned_to c.number (rests_clean c.client c.client.stage) cs
 
 abbrev pub cleaned : ℕ → List Connection → Returned
-cleaned number cs = looked_at_clean (only (λ (c : Connection). is_cleaning c.place) (numbered number cs)) cs
+cleaned number cs =
+    looked_at_clean (only (λ (c : Connection). is_cleaning c.place) (numbered number cs)) cs

@@ -1,4 +1,5 @@
--- What each field of a token leads to: what is due behind it. None of it need be trusted where the layout's law covers it.
+-- What each field of a token leads to: what is due behind it. None of it need be trusted where the
+-- layout's law covers it.
 use Rattle.std.specs.Prelude.{ℕ, zero, suc, ◌+◌, ◌-◌, ◌*◌, ◌%◌, ◌==◌, ◌&&◌, ◌||◌, nat_lt, Bool, true, false, List, [], ◌∷◌, ◌++◌, length, if◌then◌else◌, get_or, min, slice_set}
 use Rattle.tds_wire.specs.declared.fault.WireFault.{WireFault}
 use Rattle.tds_wire.specs.declared.fault.WireFault.TheVariants.{UnknownToken, NoColumns, UnknownType, ManyColumns}
@@ -26,7 +27,8 @@ use Rattle.tds_wire.specs.Layout.{has_length, has_long_length, is_ciphered, is_d
 use Rattle.tds_wire.specs.Numbers.{width_of, bytes_of}
 use Rattle.tds_wire.specs.Types.{type_of}
 
--- Where the cursor is, the columns that it knows, the null bitmap, how many columns it has room for, and what the login acknowledged.
+-- Where the cursor is, the columns that it knows, the null bitmap, how many columns it has room
+-- for, and what the login acknowledged.
 pub record Walk : Type 0 where
   pub at : At
   pub columns : List Shape
@@ -67,6 +69,9 @@ with_left w n = record w { at = record w.at { left = n } }
 abbrev pub with_parts : Walk → ℕ → Walk
 with_parts w n = record w { at = record w.at { parts = n } }
 
+abbrev pub with_ciphered : Walk → Bool → Walk
+with_ciphered w b = record w { at = record w.at { ciphered = b } }
+
 -- ---- Values
 
 -- the value of a column with bytes of this shape
@@ -80,17 +85,14 @@ value_due shape.Parts = number_due (field.Value in_value.PartsLow)
 
 abbrev pub has_no_bytes : Shape → Bool
 has_no_bytes (shape.Fixed n) = n == 0
-has_no_bytes shape.Byte = false
-has_no_bytes shape.Short = false
-has_no_bytes shape.Long = false
-has_no_bytes shape.Pointer = false
-has_no_bytes shape.Parts = false
+has_no_bytes _ = false
 
 abbrev pub shape_at : List Shape → ℕ → Shape
 shape_at columns i = get_or columns i shape.Byte
 
 abbrev pub is_skipped : Bool → List ℕ → List Shape → ℕ → Bool
-is_skipped with_nulls nulls columns i = (with_nulls && is_null nulls i) || has_no_bytes (shape_at columns i)
+is_skipped with_nulls nulls columns i =
+    (with_nulls && is_null nulls i) || has_no_bytes (shape_at columns i)
 
 -- the first column from this one on that has bytes, among so many
 unfoldable pub next_value : Bool → List ℕ → List Shape → ℕ → ℕ → ℕ
@@ -113,16 +115,14 @@ at_column with_nulls w i =
 
 -- the row goes on with the first column from this one on that has bytes
 abbrev pub row_from : Bool → Walk → ℕ → Walk
-row_from with_nulls w i = at_column with_nulls w (next_value with_nulls w.nulls w.columns i (length w.columns - i))
+row_from with_nulls w i =
+    at_column with_nulls w (next_value with_nulls w.nulls w.columns i (length w.columns - i))
 
 -- a value has been passed
 abbrev pub valued : Inside → Walk → Walk
-valued (inside.Columns left) w = ended w
-valued inside.Parameter w = ended w
 valued (inside.Row i) w = row_from false w (min 65535 (i + 1))
 valued (inside.NullRow i) w = row_from true w (min 65535 (i + 1))
-valued (inside.ColumnBase left) w = ended w
-valued (inside.ParameterBase s) w = ended w
+valued _ w = ended w
 
 -- ---- Columns and parameters
 
@@ -133,35 +133,27 @@ column_begun w = with_run w 4 (Then (field.Column in_column.Flags))
 -- so many columns, or the end of the token
 abbrev pub columns_begun : Inside → Walk → Walk
 columns_begun (inside.Columns left) w = if left == 0 then ended w else column_begun w
-columns_begun inside.Parameter w = ended w
-columns_begun (inside.Row i) w = ended w
-columns_begun (inside.NullRow i) w = ended w
-columns_begun (inside.ColumnBase left) w = ended w
-columns_begun (inside.ParameterBase s) w = ended w
+columns_begun _ w = ended w
 
 unfoldable pub parameter_typed : Walk → Walk
 parameter_typed w = if has_no_bytes w.at.shape then ended w else with_due w (value_due w.at.shape)
 
 -- crypto metadata
 abbrev pub based : Inside → Walk → Walk
-based (inside.Columns left) w = with_run (with_inside w (inside.ColumnBase left)) 6 (Then (field.Type in_type.Type))
-based inside.Parameter w = with_run (with_inside w (inside.ParameterBase w.at.shape)) 4 (Then (field.Type in_type.Type))
-based (inside.Row i) w = ended w
-based (inside.NullRow i) w = ended w
-based (inside.ColumnBase left) w = ended w
-based (inside.ParameterBase s) w = ended w
+based (inside.Columns left) w =
+    with_run (with_inside w (inside.ColumnBase left)) 6 (Then (field.Type in_type.Type))
+based inside.Parameter w =
+    with_run (with_inside w (inside.ParameterBase w.at.shape)) 4 (Then (field.Type in_type.Type))
+based _ w = ended w
 
 -- behind a column's type, and the name of its table where it has one
 unfoldable pub behind_table : Walk → Walk
-behind_table w = if w.at.ciphered then based w.at.inside w else with_number w (field.Column in_column.ColumnName)
+behind_table w =
+    if w.at.ciphered then based w.at.inside w else with_number w (field.Column in_column.ColumnName)
 
 abbrev pub behind_type : Shape → Walk → Walk
-behind_type (shape.Fixed n) w = behind_table w
-behind_type shape.Byte w = behind_table w
-behind_type shape.Short w = behind_table w
-behind_type shape.Long w = behind_table w
 behind_type shape.Pointer w = with_number w (field.Column in_column.TableParts)
-behind_type shape.Parts w = behind_table w
+behind_type _ w = behind_table w
 
 unfoldable pub column_described : Walk → Walk
 column_described w =
@@ -183,25 +175,24 @@ described (inside.ParameterBase s) w = with_number w (field.Column in_column.Cip
 
 -- crypto metadata have been passed
 abbrev pub ciphered : Inside → Walk → Walk
-ciphered (inside.Columns left) w = ended w
-ciphered inside.Parameter w = ended w
-ciphered (inside.Row i) w = ended w
-ciphered (inside.NullRow i) w = ended w
-ciphered (inside.ColumnBase left) w = with_number (with_inside w (inside.Columns left)) (field.Column in_column.ColumnName)
-ciphered (inside.ParameterBase s) w = parameter_typed (with_shape (with_inside w inside.Parameter) s)
+ciphered (inside.ColumnBase left) w =
+    with_number (with_inside w (inside.Columns left)) (field.Column in_column.ColumnName)
+ciphered (inside.ParameterBase s) w =
+    parameter_typed (with_shape (with_inside w inside.Parameter) s)
+ciphered _ w = ended w
 
 -- a part of a table's name has been passed
 unfoldable pub parted : Walk → Walk
-parted w = if nat_lt 1 w.at.parts then with_number (with_parts w (w.at.parts - 1)) (field.Column in_column.TablePart) else behind_table w
+parted w =
+    if nat_lt 1 w.at.parts
+    then with_number (with_parts w (w.at.parts - 1)) (field.Column in_column.TablePart)
+    else behind_table w
 
 -- a column's name has been passed
 abbrev pub named : Inside → Walk → Walk
-named (inside.Columns left) w = if nat_lt 1 left then column_begun (with_inside w (inside.Columns (left - 1))) else ended w
-named inside.Parameter w = ended w
-named (inside.Row i) w = ended w
-named (inside.NullRow i) w = ended w
-named (inside.ColumnBase left) w = ended w
-named (inside.ParameterBase s) w = ended w
+named (inside.Columns left) w =
+    if nat_lt 1 left then column_begun (with_inside w (inside.Columns (left - 1))) else ended w
+named _ w = ended w
 
 -- ---- Keys
 
@@ -209,22 +200,33 @@ abbrev pub key_begun : Walk → Walk
 key_begun w = with_run w 20 (Then (field.Key in_key.KeyValues))
 
 unfoldable pub key_passed : Walk → Walk
-key_passed w = if nat_lt 1 w.at.left then key_begun (with_left w (w.at.left - 1)) else columns_begun w.at.inside w
+key_passed w =
+    if nat_lt 1 w.at.left then key_begun (with_left w (w.at.left - 1))
+    else columns_begun w.at.inside w
 
 unfoldable pub key_valued : Walk → Walk
-key_valued w = if nat_lt 1 w.at.parts then with_number (with_parts w (w.at.parts - 1)) (field.Key in_key.KeyValue) else key_passed w
+key_valued w =
+    if nat_lt 1 w.at.parts
+    then with_number (with_parts w (w.at.parts - 1)) (field.Key in_key.KeyValue) else key_passed w
 
 -- ---- Data classification
 
 abbrev pub behind_labels : Bool → Walk → Walk
 behind_labels false w = with_number w (field.Label (in_label.Labels true))
-behind_labels true w = if w.features.ranks then with_run w 4 (Then (field.Label in_label.SensitiveColumns)) else with_number w (field.Label in_label.SensitiveColumns)
+behind_labels true w = if w.features.ranks
+    then with_run w 4 (Then (field.Label in_label.SensitiveColumns))
+    else with_number w (field.Label in_label.SensitiveColumns)
 
 unfoldable pub labelled : Bool → Walk → Walk
-labelled types w = if nat_lt 1 w.at.left then with_number (with_left w (w.at.left - 1)) (field.Label (in_label.LabelName types)) else behind_labels types w
+labelled types w =
+    if nat_lt 1 w.at.left
+    then with_number (with_left w (w.at.left - 1)) (field.Label (in_label.LabelName types))
+    else behind_labels types w
 
 unfoldable pub classified : Walk → Walk
-classified w = if nat_lt 1 w.at.left then with_number (with_left w (w.at.left - 1)) (field.Label in_label.Properties) else ended w
+classified w =
+    if nat_lt 1 w.at.left
+    then with_number (with_left w (w.at.left - 1)) (field.Label in_label.Properties) else ended w
 
 -- ---- Behind a run of bytes
 
@@ -275,7 +277,8 @@ begun w byte =
     else if byte == 0x81 then with_number w (field.Token in_token.Columns)
     else if byte == 0xE3 then with_number w (field.Token in_token.ChangeLength)
     else if byte == 0x79 then with_run w 4 Ended
-    else if byte == 0xAC then with_run (with_inside w inside.Parameter) 2 (Then (field.Column in_column.ParameterName))
+    else if byte == 0xAC
+    then with_run (with_inside w inside.Parameter) 2 (Then (field.Column in_column.ParameterName))
     else if has_long_length byte then with_number w (field.Token in_token.LongLength)
     else if byte == 0xAE then with_number w (field.Token in_token.Feature)
     else if byte == 0xA3 then with_number w (field.Label (in_label.Labels false))
@@ -286,7 +289,10 @@ abbrev pub in_columns : Walk → ℕ → Walk
 in_columns w n = with_inside (record w { columns = [] }) (inside.Columns n)
 
 abbrev pub columns_listed : Walk → ℕ → Walk
-columns_listed w n = if w.features.encryption then with_number (in_columns w n) (field.Key in_key.Keys) else columns_begun (inside.Columns n) (in_columns w n)
+columns_listed w n =
+    if w.features.encryption
+    then with_number (in_columns w n) (field.Key in_key.Keys)
+    else columns_begun (inside.Columns n) (in_columns w n)
 
 unfoldable pub columns_counted : Walk → ℕ → Walk
 columns_counted w n =
@@ -304,40 +310,51 @@ keeping_nulls w place byte = record w { nulls = keeping w.nulls place byte }
 unfoldable pub nulls_taken : Walk → ℕ → ℕ → Walk
 nulls_taken w place byte =
     if nat_lt (8 * (place + 1)) (length w.columns)
-    then with_number (with_inside (keeping_nulls w place byte) (inside.NullRow (place + 1))) (field.Column in_column.Nulls)
+    then with_number
+    (with_inside (keeping_nulls w place byte) (inside.NullRow (place + 1)))
+    (field.Column in_column.Nulls)
     else row_from true (keeping_nulls w place byte) 0
 
 abbrev pub null_byte : Inside → Walk → ℕ → Walk
-null_byte (inside.Columns left) w byte = ended w
-null_byte inside.Parameter w byte = ended w
-null_byte (inside.Row i) w byte = ended w
 null_byte (inside.NullRow i) w byte = nulls_taken w i byte
-null_byte (inside.ColumnBase left) w byte = ended w
-null_byte (inside.ParameterBase s) w byte = ended w
+null_byte _ w byte = ended w
 
 -- a number that has come
 abbrev pub arrive : Walk → Field → ℕ → Walk
 arrive w (field.Token in_token.Length) n = pass w n Ended
 arrive w (field.Token in_token.LongLength) n = pass w n Ended
-arrive w (field.Token in_token.ChangeLength) n = if n % 65536 == 0 then ended w else with_number w (field.Token (in_token.Change (n % 65536 - 1)))
-arrive w (field.Token (in_token.Change left)) n = if n == 15 then with_number w (field.Token in_token.PromotedLength) else pass w left Ended
-arrive w (field.Token in_token.PromotedLength) n = pass w n (Then (field.Token in_token.PromotedOld))
+arrive w (field.Token in_token.ChangeLength) n =
+    if n % 65536 == 0 then ended w
+    else with_number w (field.Token (in_token.Change (n % 65536 - 1)))
+arrive w (field.Token (in_token.Change left)) n =
+    if n == 15 then with_number w (field.Token in_token.PromotedLength) else pass w left Ended
+arrive w (field.Token in_token.PromotedLength) n =
+    pass w n (Then (field.Token in_token.PromotedOld))
 arrive w (field.Token in_token.PromotedOld) n = pass w n Ended
-arrive w (field.Token in_token.Feature) n = if n == 255 then ended w else with_number w (field.Token in_token.FeatureLength)
+arrive w (field.Token in_token.Feature) n =
+    if n == 255 then ended w else with_number w (field.Token in_token.FeatureLength)
 arrive w (field.Token in_token.FeatureLength) n = pass w n (Then (field.Token in_token.Feature))
 arrive w (field.Token in_token.Columns) n = columns_counted w (n % 65536)
-arrive w (field.Key in_key.Keys) n = if n % 65536 == 0 then columns_begun w.at.inside w else key_begun (with_left w (n % 65536))
-arrive w (field.Key in_key.KeyValues) n = if n % 256 == 0 then key_passed w else with_number (with_parts w (n % 256)) (field.Key in_key.KeyValue)
+arrive w (field.Key in_key.Keys) n =
+    if n % 65536 == 0 then columns_begun w.at.inside w else key_begun (with_left w (n % 65536))
+arrive w (field.Key in_key.KeyValues) n =
+    if n % 256 == 0 then key_passed w
+    else with_number (with_parts w (n % 256)) (field.Key in_key.KeyValue)
 arrive w (field.Key in_key.KeyValue) n = pass w n (Then (field.Key in_key.KeyStore))
 arrive w (field.Key in_key.KeyStore) n = pass w (2 * n) (Then (field.Key in_key.KeyPath))
 arrive w (field.Key in_key.KeyPath) n = pass w (2 * n) (Then (field.Key in_key.KeyAlgorithm))
 arrive w (field.Key in_key.KeyAlgorithm) n = pass w (2 * n) KeyValued
-arrive w (field.Column in_column.ParameterName) n = with_run w (2 * n + 5) (Then (field.Column in_column.Flags))
-arrive w (field.Column in_column.Flags) n = with_number (record w { at = record w.at { ciphered = is_ciphered w.features n } }) (field.Type in_type.Type)
+arrive w (field.Column in_column.ParameterName) n =
+    with_run w (2 * n + 5) (Then (field.Column in_column.Flags))
+arrive w (field.Column in_column.Flags) n =
+    with_number (with_ciphered w (is_ciphered w.features n)) (field.Type in_type.Type)
 arrive w (field.Type in_type.Type) n = typed w (type_of n)
 arrive w (field.Type (in_type.MaxLength collated)) n =
-    pass (with_shape w (if n == 65535 then shape.Parts else shape.Short)) (if collated then 5 else 0) Described
-arrive w (field.Type in_type.Schema) n = if n == 0 then go w Described else with_number w (field.Type in_type.XmlDatabase)
+    pass (with_shape w (if n == 65535 then shape.Parts else shape.Short))
+    (if collated then 5 else 0)
+    Described
+arrive w (field.Type in_type.Schema) n =
+    if n == 0 then go w Described else with_number w (field.Type in_type.XmlDatabase)
 arrive w (field.Type in_type.XmlDatabase) n = pass w (2 * n) (Then (field.Type in_type.XmlOwner))
 arrive w (field.Type in_type.XmlOwner) n = pass w (2 * n) (Then (field.Type in_type.XmlCollection))
 arrive w (field.Type in_type.XmlCollection) n = pass w (2 * n) Described
@@ -345,21 +362,36 @@ arrive w (field.Type in_type.UdtDatabase) n = pass w (2 * n) (Then (field.Type i
 arrive w (field.Type in_type.UdtSchema) n = pass w (2 * n) (Then (field.Type in_type.UdtName))
 arrive w (field.Type in_type.UdtName) n = pass w (2 * n) (Then (field.Type in_type.UdtAssembly))
 arrive w (field.Type in_type.UdtAssembly) n = pass w (2 * n) Described
-arrive w (field.Column in_column.TableParts) n = if n % 256 == 0 then behind_table w else with_number (with_parts w (n % 256)) (field.Column in_column.TablePart)
+arrive w (field.Column in_column.TableParts) n =
+    if n % 256 == 0 then behind_table w
+    else with_number (with_parts w (n % 256)) (field.Column in_column.TablePart)
 arrive w (field.Column in_column.TablePart) n = pass w (2 * n) Parted
-arrive w (field.Column in_column.Cipher) n = if n == 0 then with_number w (field.Column in_column.CipherName) else with_run w 2 Ciphered
+arrive w (field.Column in_column.Cipher) n =
+    if n == 0 then with_number w (field.Column in_column.CipherName) else with_run w 2 Ciphered
 arrive w (field.Column in_column.CipherName) n = with_run w (2 * n + 2) Ciphered
 arrive w (field.Column in_column.ColumnName) n = pass w (2 * n) Named
 arrive w (field.Column in_column.Nulls) n = null_byte w.at.inside w (n % 256)
 arrive w (field.Value in_value.ByteCount) n = pass w n Valued
 arrive w (field.Value in_value.ShortCount) n = if n == 65535 then go w Valued else pass w n Valued
-arrive w (field.Value in_value.LongCount) n = if n == 4294967295 then go w Valued else pass w n Valued
-arrive w (field.Value in_value.PointerCount) n = if n == 0 then go w Valued else with_run w (n + 8) (Then (field.Value in_value.LongCount))
-arrive w (field.Value in_value.PartsLow) n = with_number w (field.Value (in_value.PartsHigh (n == 4294967295)))
-arrive w (field.Value (in_value.PartsHigh ones)) n = if ones && (n == 4294967295) then go w Valued else with_number w (field.Value in_value.PartCount)
-arrive w (field.Value in_value.PartCount) n = if n == 0 then go w Valued else with_run w n (Then (field.Value in_value.PartCount))
-arrive w (field.Label (in_label.Labels types)) n = if n % 65536 == 0 then behind_labels types w else with_number (with_left w (n % 65536)) (field.Label (in_label.LabelName types))
-arrive w (field.Label (in_label.LabelName types)) n = pass w (2 * n) (Then (field.Label (in_label.LabelId types)))
+arrive w (field.Value in_value.LongCount) n =
+    if n == 4294967295 then go w Valued else pass w n Valued
+arrive w (field.Value in_value.PointerCount) n =
+    if n == 0 then go w Valued else with_run w (n + 8) (Then (field.Value in_value.LongCount))
+arrive w (field.Value in_value.PartsLow) n =
+    with_number w (field.Value (in_value.PartsHigh (n == 4294967295)))
+arrive w (field.Value (in_value.PartsHigh ones)) n =
+    if ones && (n == 4294967295) then go w Valued
+    else with_number w (field.Value in_value.PartCount)
+arrive w (field.Value in_value.PartCount) n =
+    if n == 0 then go w Valued else with_run w n (Then (field.Value in_value.PartCount))
+arrive w (field.Label (in_label.Labels types)) n =
+    if n % 65536 == 0 then behind_labels types w
+    else with_number (with_left w (n % 65536)) (field.Label (in_label.LabelName types))
+arrive w (field.Label (in_label.LabelName types)) n =
+    pass w (2 * n) (Then (field.Label (in_label.LabelId types)))
 arrive w (field.Label (in_label.LabelId types)) n = pass w (2 * n) (Labelled types)
-arrive w (field.Label in_label.SensitiveColumns) n = if n % 65536 == 0 then ended w else with_number (with_left w (n % 65536)) (field.Label in_label.Properties)
-arrive w (field.Label in_label.Properties) n = pass w (n * (if w.features.ranks then 8 else 4)) Classified
+arrive w (field.Label in_label.SensitiveColumns) n =
+    if n % 65536 == 0 then ended w
+    else with_number (with_left w (n % 65536)) (field.Label in_label.Properties)
+arrive w (field.Label in_label.Properties) n =
+    pass w (n * (if w.features.ranks then 8 else 4)) Classified
