@@ -1,4 +1,5 @@
--- Who holds which connection, and the ends of applications: how they move together, move by move. One total function.
+-- Who holds which connection, and the ends of applications: how they move together, move by move.
+-- One total function.
 use Rattle.std.specs.Prelude.{◌≡◌, ◌≢◌, ◌⊎◌, ℕ, ◌==◌, ◌&&◌, ◌||◌, Bool, true, false, List, [], ◌∷◌, Option, Some, None, Result, Ok, Err, if◌then◌else◌, option_map, slice_index_or, slice_set}
 use Rattle.tds_packet.specs.declared.status.Reset.{Reset}
 use Rattle.tds_packet.specs.declared.status.Reset.TheVariants.{Full, KeepTransaction}
@@ -31,11 +32,12 @@ use Rattle.tds_relay.specs.Ties.{Cause, Causes, sent_along}
 -- ---- The ends of all applications, by their keys
 
 pub data End : Type 0 where
-  -- its application is taken from, and told. It may have taken back its request, of which something had gone on: then it has nothing to do
-  -- with its connection until the server's acknowledgement of that. And its request may ask for a reset, full or not, of which it hasn't been
-  -- told yet
+  -- its application is taken from, and told. It may have taken back its request, of which something
+  -- had gone on: then it has nothing to do with its connection until the server's acknowledgement
+  -- of that. And its request may ask for a reset, full or not, of which it hasn't been told yet
   Open : (front : Front) (withdrawn : Bool) (asks : Option Reset) → End
-  -- nothing more is taken of it, and it is to be closed: for this, where it did what the protocol doesn't allow
+  -- nothing more is taken of it, and it is to be closed: for this, where it did what the protocol
+  -- doesn't allow
   Over : (why : Option FrontFault) → End
 
 abbrev pub EndList : Type 0
@@ -63,7 +65,8 @@ new_core sharing = record { pool = new_pool sharing; ends = [] }
 -- ---- How one moves
 
 abbrev pub move_stage : (Stage → Stage) → End → End
-move_stage by (Open front withdrawn asks) = Open (record front { stage = by front.stage }) withdrawn asks
+move_stage by (Open front withdrawn asks) =
+    Open (record front { stage = by front.stage }) withdrawn asks
 move_stage by (Over why) = Over why
 
 -- it is to be closed, for this
@@ -90,7 +93,8 @@ end_acknowledged (Open front true asks) = Open front false asks
 end_acknowledged (Open front false asks) = move_stage rules.acknowledged (Open front false asks)
 end_acknowledged (Over why) = Over why
 
--- A packet of its answer has come: it is told of the reset by now that its request asked for. Of what it took back it hears nothing.
+-- A packet of its answer has come: it is told of the reset by now that its request asked for. Of
+-- what it took back it hears nothing.
 abbrev pub end_hears : End → End
 end_hears (Open front withdrawn asks) = Open front withdrawn (if withdrawn then asks else None)
 end_hears (Over why) = Over why
@@ -129,7 +133,8 @@ abbrev pub hands_on : Said → Bool
 hands_on said.HandOn = true
 hands_on answer = false
 
--- A request that begins asks for this reset itself, or for none; of one that is taken back, none is told.
+-- A request that begins asks for this reset itself, or for none; of one that is taken back, none is
+-- told.
 abbrev pub asks_by : Said → Option Reset → Option Reset
 asks_by (said.Begin kind reset) asks = reset
 asks_by (said.Forget gone) asks = None
@@ -137,11 +142,13 @@ asks_by said.Acknowledge asks = None
 asks_by _ asks = asks
 
 abbrev pub end_behind : Front → Bool → Option Reset → Result Fed FrontFault → End
-end_behind front withdrawn asks (Ok fed) = Open front (takes_back fed.said || withdrawn) (asks_by fed.said asks)
+end_behind front withdrawn asks (Ok fed) =
+    Open front (takes_back fed.said || withdrawn) (asks_by fed.said asks)
 end_behind front withdrawn asks (Err fault) = Over (Some fault)
 
 abbrev pub feeds : List ℕ → End → End
-feeds bytes (Open front withdrawn asks) = end_behind (fed front bytes).front withdrawn asks (fed front bytes).brings
+feeds bytes (Open front withdrawn asks) =
+    end_behind (fed front bytes).front withdrawn asks (fed front bytes).brings
 feeds bytes (Over why) = Over why
 
 -- whether an attention goes out by them
@@ -186,7 +193,8 @@ events_of h (LetsGo key parks gives way) = pool.Leaves key gives way ∷ []
 events_of h (Loses number) = pool.Loses number ∷ []
 events_of h (Replaces number) = pool.Loses number ∷ []
 events_of h (Comes number part way) = pool.Comes number part way ∷ []
-events_of h (Feeds key bytes) = event_if (stops_of bytes (end_at h.ends key)) (pool.Does key pool.Stops)
+events_of h (Feeds key bytes) =
+    event_if (stops_of bytes (end_at h.ends key)) (pool.Does key pool.Stops)
 events_of h (Closes key) = []
 events_of h (Enters key ends) = []
 events_of h (Quits key gives way) = pool.Leaves key gives way ∷ []
@@ -201,11 +209,13 @@ holder d number = key_of (find_number number d.holds)
 
 abbrev pub ends_behind : Core → Move → EndList
 ends_behind h (Does event) = h.ends
-ends_behind h (Sends key action) = change_end key (end_goes_on (sent_by h.pool (pool.Does key action))) h.ends
+ends_behind h (Sends key action) =
+    change_end key (end_goes_on (sent_by h.pool (pool.Does key action))) h.ends
 ends_behind h (LetsGo key parks gives way) = change_end key lets_go h.ends
 ends_behind h (Loses number) = change_whose (holder h.pool number) closes h.ends
 ends_behind h (Replaces number) = change_whose (holder h.pool number) lets_go h.ends
-ends_behind h (Comes number part way) = change_whose (whose h.pool number) (end_told (what_in (dones_of_part h.pool number part))) h.ends
+ends_behind h (Comes number part way) = change_whose (whose h.pool number)
+    (end_told (what_in (dones_of_part h.pool number part))) h.ends
 ends_behind h (Feeds key bytes) = change_end key (feeds bytes) h.ends
 ends_behind h (Closes key) = change_end key closes h.ends
 ends_behind h (Enters key ends) = ends
@@ -225,16 +235,13 @@ abbrev pub IsHere : Stage → Type 0
 IsHere stages.Quiet = Unit {0}
 IsHere (stages.Receiving kind gone) = gone ≡ false
 IsHere (stages.Underway gone) = gone ≡ false
-IsHere stages.Stopping = ⊥
-IsHere (stages.Broken fault) = ⊥
+IsHere _ = ⊥
 
 -- Its request has begun; all of it has come.
 abbrev pub IsBegun : Stage → Type 0
-IsBegun stages.Quiet = ⊥
 IsBegun (stages.Receiving kind gone) = Unit {0}
 IsBegun (stages.Underway gone) = Unit {0}
-IsBegun stages.Stopping = ⊥
-IsBegun (stages.Broken fault) = ⊥
+IsBegun _ = ⊥
 
 abbrev pub HasWholeRequest : Stage → Type 0
 HasWholeRequest (stages.Underway gone) = Unit {0}
@@ -265,9 +272,11 @@ IsReset d key end = IfOpenAsks (λ asks. ResetsFor asks (find_key key d.holds) d
 
 -- Its request asks for a full reset; or for one that keeps its transaction, and it has none open.
 abbrev pub AsksToPart : Core → ℕ → Type 0
-AsksToPart h key = AsksFor Full (end_at h.ends key) ⊎ (AsksFor KeepTransaction (end_at h.ends key) × HasNoTransaction h.pool key)
+AsksToPart h key = AsksFor Full (end_at h.ends key)
+    ⊎ (AsksFor KeepTransaction (end_at h.ends key) × HasNoTransaction h.pool key)
 
--- It may be parted from its connection, and stay: its request asks for that, and nothing of it has gone on; or it is to be closed.
+-- It may be parted from its connection, and stay: its request asks for that, and nothing of it has
+-- gone on; or it is to be closed.
 abbrev pub MayPart : Core → ℕ → Type 0
 MayPart h key = IfOpen IsHere (end_at h.ends key) × AsksToPart h key
 
@@ -276,9 +285,11 @@ is_at_end None = false
 is_at_end (Some (Open front withdrawn asks)) = is_done_with front.stage withdrawn asks
 is_at_end (Some (Over why)) = false
 
--- It may be parked, where connections are shared by transactions: its end asks nothing, and the connection that it holds is clean.
+-- It may be parked, where connections are shared by transactions: its end asks nothing, and the
+-- connection that it holds is clean.
 abbrev pub may_park : Core → ℕ → Bool
-may_park h key = is_by_transactions h.pool.mode && (is_at_end (end_at h.ends key) && holds_clean (find_key key h.pool.holds) h.pool)
+may_park h key = is_by_transactions h.pool.mode
+    && (is_at_end (end_at h.ends key) && holds_clean (find_key key h.pool.holds) h.pool)
 
 abbrev pub is_in : ℕ → List ℕ → Bool
 is_in key [] = false
@@ -294,7 +305,8 @@ pub record IsThereAndAway (h : Core) (key : ℕ) : Type 0 where
   pub holds : find_key key h.pool.holds ≡ None
   pub waits : is_in key h.pool.line ≡ false
 
--- A request is asked, and put, where it has begun, its end where all of it has come; it may be taken back where nothing of it has gone on.
+-- A request is asked, and put, where it has begun, its end where all of it has come; it may be
+-- taken back where nothing of it has gone on.
 abbrev pub MayDo : Action → Option End → Type 0
 MayDo pool.Asks end = IfOpen IsBegun end
 MayDo (pool.Puts count) end = IfOpen IsBegun end
@@ -302,29 +314,27 @@ MayDo (pool.Ends count) end = IfOpen HasWholeRequest end
 MayDo pool.Stops end = IfOpen IsHere end
 
 abbrev pub IsPut : Action → Type 0
-IsPut pool.Asks = ⊥
 IsPut (pool.Puts count) = Unit {0}
 IsPut (pool.Ends count) = Unit {0}
-IsPut pool.Stops = ⊥
+IsPut _ = ⊥
 
 abbrev pub IsNotPut : Action → Type 0
 IsNotPut pool.Asks = Unit {0}
-IsNotPut (pool.Puts count) = ⊥
-IsNotPut (pool.Ends count) = ⊥
 IsNotPut pool.Stops = Unit {0}
+IsNotPut _ = ⊥
 
--- Nobody waits who has begun no request, holds a connection, or waits already; who waits does so until it asks nothing. A request is asked
--- where its reset is done. Who keeps a transaction by another lease asks for the reset that does so. What else moves an end isn't done alone.
+-- Nobody waits who has begun no request, holds a connection, or waits already; who waits does so
+-- until it asks nothing. A request is asked where its reset is done. Who keeps a transaction by
+-- another lease asks for the reset that does so. What else moves an end isn't done alone.
 abbrev pub MayDoAlone : Core → Event → Type 0
 MayDoAlone h (pool.Waits key) = IsThereAndAway h key × IfOpen IsBegun (end_at h.ends key)
 MayDoAlone h (pool.Unwaits key) = IfOpen AsksNothing (end_at h.ends key)
 MayDoAlone h pool.Serves = Unit {0}
 MayDoAlone h (pool.Brings gives way) = Unit {0}
-MayDoAlone h (pool.Does key action) = IsNotPut action × MayDo action (end_at h.ends key) × WhereAsked action (IsReset h.pool key (end_at h.ends key))
-MayDoAlone h (pool.Leaves key gives way) = ⊥
+MayDoAlone h (pool.Does key action) = IsNotPut action × MayDo action (end_at h.ends key)
+    × WhereAsked action (IsReset h.pool key (end_at h.ends key))
 MayDoAlone h (pool.Renews key resumes) = AsksFor KeepTransaction (end_at h.ends key)
-MayDoAlone h (pool.Comes number part way) = ⊥
-MayDoAlone h (pool.Loses number) = ⊥
+MayDoAlone h _ = ⊥
 
 -- where it is somebody's
 abbrev pub IfWhose : (ℕ → Type 0) → Option ℕ → Type 0
@@ -354,7 +364,8 @@ MayMoveAll h (move ∷ moves) = MayMove h move × MayMoveAll (moved h move) move
 
 -- ---- Who causes each
 
--- Its bytes, and its end, are an application's own, which is parked by that call alone; a packet is its connection's. The rest is as at the pool.
+-- Its bytes, and its end, are an application's own, which is parked by that call alone; a packet is
+-- its connection's. The rest is as at the pool.
 abbrev pub CausesMove : Cause → Move → Type 0
 CausesMove by (Does event) = Causes by event
 CausesMove by (Sends key action) = Unit {0}

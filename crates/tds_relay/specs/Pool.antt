@@ -1,4 +1,5 @@
--- Who holds which connection of a service, who waits for one, and which calls of the service are made. One total function.
+-- Who holds which connection of a service, who waits for one, and which calls of the service are
+-- made. One total function.
 use Rattle.std.specs.Prelude.{ℕ, suc, ◌+◌, ◌-◌, ◌^◌, min, ◌==◌, not, Bool, true, false, List, [], ◌∷◌, ◌++◌, filter, Option, Some, None, is_some, if◌then◌else◌}
 use Rattle.tds_wire.specs.declared.told.Token.{Token}
 use Rattle.tds_service.specs.Parts.{Part}
@@ -12,8 +13,9 @@ use Rattle.tds_service.specs.History.{Done}
 use Rattle.tds_service.specs.Service as calls
 use Rattle.tds_service.specs.Service.{Seat, Service, Call, Reply, ServiceStep, Unknown, AllInUse, NotNow, No, NoMemory, Lent, Ticket, Did, Back, Place, Leased, Cleaning, Kept, Free, Draining, step, service_after, new_service, lease_at, seat_numbered}
 
--- For how long an application keeps what it is lent; which one holds which connection, by which lease; whose requests wait for one, the
--- first one first; which connection was the last that broke the rules, and how; and how much was asked of the server for applications.
+-- For how long an application keeps what it is lent; which one holds which connection, by which
+-- lease; whose requests wait for one, the first one first; which connection was the last that broke
+-- the rules, and how; and how much was asked of the server for applications.
 pub record Pool : Type 0 where
   pub mode : Mode
   pub service : Service
@@ -28,9 +30,17 @@ pub record Sharing : Type 0 where
   pub mode : Mode
 
 abbrev pub new_pool : Sharing → Pool
-new_pool sharing = record { mode = sharing.mode; service = calls.new_service sharing.most; holds = []; line = []; broken = None; figures = record { requests = 0; cancels = 0 } }
+new_pool sharing = record {
+  mode = sharing.mode;
+  service = calls.new_service sharing.most;
+  holds = [];
+  line = [];
+  broken = None;
+  figures = record { requests = 0; cancels = 0 };
+}
 
--- How far a cleaning came: it was sent, in so many packets; or memory was refused to its first, second, third or fourth call.
+-- How far a cleaning came: it was sent, in so many packets; or memory was refused to its first,
+-- second, third or fourth call.
 pub data Way : Type 0 where
   Sent : (put finish : ℕ) → Way
   NotLent : Way
@@ -54,7 +64,8 @@ pub data Event : Type 0 where
   -- one comes that nobody asked for
   Brings : (gives : Bool) (way : Way) → Event
   Does : (key : ℕ) (action : Action) → Event
-  -- an application lets its connection go, to which memory was given or refused; keeps it with its transaction
+  -- an application lets its connection go, to which memory was given or refused; keeps it with its
+  -- transaction
   Leaves : (key : ℕ) (gives : Bool) (way : Way) → Event
   Renews : (key : ℕ) (resumes : Bool) → Event
   -- a packet comes on a connection
@@ -93,20 +104,25 @@ abbrev pub holding : ℕ → ℕ → ℕ → Hold
 holding key lease number = record { key = key; lease = lease; number = number }
 
 abbrev pub moves : Pool → List Hold → List ℕ → List (Call Token) → PoolTurn
-moves d holds line calls = record { pool = record { mode = d.mode; service = service_after d.service calls; holds = holds; line = line; broken = d.broken; figures = d.figures }; calls = calls }
+moves d holds line calls = record {
+  pool = record d { service = service_after d.service calls; holds = holds; line = line };
+  calls = calls;
+}
 
 abbrev pub pool_rests : Pool → PoolTurn
 pool_rests d = moves d d.holds d.line []
 
--- ---- A connection that nobody holds is cleaned: by a request of the relay's own, which asks for a reset
+-- ---- A connection that nobody holds is cleaned: by a request of the relay's own, with a reset
 
 -- the cleaning of a connection by a lease; where a call of it is refused, the connection is closed
 abbrev pub cleaning_by : ℕ → ℕ → Way → List (Call Token)
-cleaning_by number lease (Sent put finish) = calls.Clean number ∷ calls.Ask lease ∷ calls.Put lease put ∷ calls.Finish lease finish ∷ []
+cleaning_by number lease (Sent put finish) =
+    calls.Clean number ∷ calls.Ask lease ∷ calls.Put lease put ∷ calls.Finish lease finish ∷ []
 cleaning_by number lease NotLent = calls.Lost number ∷ []
 cleaning_by number lease NotAsked = calls.Clean number ∷ calls.Lost number ∷ []
 cleaning_by number lease NotPut = calls.Clean number ∷ calls.Ask lease ∷ calls.Lost number ∷ []
-cleaning_by number lease (NotEnded put) = calls.Clean number ∷ calls.Ask lease ∷ calls.Put lease put ∷ calls.Lost number ∷ []
+cleaning_by number lease (NotEnded put) =
+    calls.Clean number ∷ calls.Ask lease ∷ calls.Put lease put ∷ calls.Lost number ∷ []
 
 abbrev pub cleaning : Service → ℕ → Way → List (Call Token)
 cleaning s number way = cleaning_by number (suc s.given) way
@@ -120,8 +136,8 @@ abbrev pub frees : Reply → Bool
 frees (Back place) = is_free_at place
 frees _ = false
 
--- A lease is given back, by which what is underway is cancelled; a connection that is free then is cleaned at once. Where memory is
--- refused to that, it is closed.
+-- A lease is given back, by which what is underway is cancelled; a connection that is free then is
+-- cleaned at once. Where memory is refused to that, it is closed.
 abbrev pub releasing : Service → ℕ → ℕ → Bool → Way → List (Call Token)
 releasing s lease number false way = calls.Lost number ∷ []
 releasing s lease number true way =
@@ -130,11 +146,13 @@ releasing s lease number true way =
 
 -- ---- What comes
 
--- A request has its answer, or a cancel is acknowledged: an application's; a cleaning's, and a connection that
--- isn't clean is closed; or nobody's, and then it has drained.
+-- A request has its answer, or a cancel is acknowledged: an application's; a cleaning's, and a
+-- connection that isn't clean is closed; or nobody's, and then it has drained.
 abbrev pub cleaned_by : Service → ℕ → ℕ → List (Call Token)
 cleaned_by s number lease =
-    calls.Cleaned lease ∷ (if frees (step {T = Token} s (calls.Cleaned lease)).reply then [] else calls.Lost number ∷ [])
+    calls.Cleaned lease ∷
+    (if frees (step {T = Token} s (calls.Cleaned lease)).reply
+    then [] else calls.Lost number ∷ [])
 
 abbrev pub settles_of : Service → ℕ → ℕ → Way → Option Hold → List (Call Token)
 settles_of s number lease way (Some h) = []
@@ -163,8 +181,10 @@ hearing (done ∷ dones) = hearing_of done.answer
 
 abbrev pub comes_by : Pool → calls.Call Token → Service → ℕ → Way → Option ℕ → Hearing → PoolTurn
 comes_by d call s number way lease Goes = moves d d.holds d.line (call ∷ [])
-comes_by d call s number way lease Settled = moves d d.holds d.line (call ∷ settles d.holds s number way lease)
-comes_by d call s number way lease Wrong = moves d (without_number number d.holds) d.line (call ∷ calls.Lost number ∷ [])
+comes_by d call s number way lease Settled =
+    moves d d.holds d.line (call ∷ settles d.holds s number way lease)
+comes_by d call s number way lease Wrong =
+    moves d (without_number number d.holds) d.line (call ∷ calls.Lost number ∷ [])
 
 -- The connection of this number has broken the rules by that, or not.
 abbrev pub broken_of : ℕ → line.Answer → Option Broken → Option Broken
@@ -176,12 +196,14 @@ last_broken number [] had = had
 last_broken number (done ∷ dones) had = broken_of number done.answer had
 
 abbrev pub with_broken : ℕ → List (Done Token) → PoolTurn → PoolTurn
-with_broken number dones t = record { pool = record t.pool { broken = last_broken number dones t.pool.broken }; calls = t.calls }
+with_broken number dones t =
+    record t { pool = record t.pool { broken = last_broken number dones t.pool.broken } }
 
 abbrev pub packet_comes : Pool → ℕ → Part Token → Way → PoolTurn
 packet_comes d number part way =
     let heard = step {T = Token} d.service (calls.Came number part) in
-    with_broken number heard.dones (comes_by d (calls.Came number part) heard.service number way (lease_at (seat_numbered number d.service.seats)) (hearing heard.dones))
+    with_broken number heard.dones (comes_by d (calls.Came number part) heard.service number way
+    (lease_at (seat_numbered number d.service.seats)) (hearing heard.dones))
 
 -- how it broke them
 abbrev pub fault_among : ℕ → Option Broken → Option ListenFault
@@ -227,15 +249,18 @@ ticket_in _ = None
 
 abbrev pub serves_by : Pool → ℕ → List ℕ → Option Loan → PoolTurn
 serves_by d key others None = pool_rests d
-serves_by d key others (Some lent) = moves d (d.holds ++ holding key lent.lease lent.number ∷ []) others (calls.Lease ∷ [])
+serves_by d key others (Some lent) =
+    moves d (d.holds ++ holding key lent.lease lent.number ∷ []) others (calls.Lease ∷ [])
 
 abbrev pub serves : Pool → List ℕ → PoolTurn
 serves d [] = pool_rests d
-serves d (key ∷ others) = serves_by d key others (lent_in (step {T = Token} d.service calls.Lease).reply)
+serves d (key ∷ others) =
+    serves_by d key others (lent_in (step {T = Token} d.service calls.Lease).reply)
 
 abbrev pub brings_by : Pool → Service → Bool → Way → Option Loan → PoolTurn
 brings_by d s gives way None = pool_rests d
-brings_by d s gives way (Some lent) = moves d d.holds d.line (calls.Lease ∷ releasing s lent.lease lent.number gives way)
+brings_by d s gives way (Some lent) =
+    moves d d.holds d.line (calls.Lease ∷ releasing s lent.lease lent.number gives way)
 
 abbrev pub brings : Pool → Bool → Way → PoolTurn
 brings d gives way =
@@ -254,7 +279,8 @@ next n = min (n + 1) (2 ^ 64 - 1)
 
 -- A request is counted that its connection was asked, and an attention that goes out for one.
 abbrev pub tallied : line.Answer → Figures → Figures
-tallied (line.Asked request descriptor) f = record { requests = next f.requests; cancels = f.cancels }
+tallied (line.Asked request descriptor) f =
+    record { requests = next f.requests; cancels = f.cancels }
 tallied (line.Stopped request) f = record { requests = f.requests; cancels = next f.cancels }
 tallied answer f = f
 
@@ -274,23 +300,31 @@ with_figures f t = record { pool = record t.pool { figures = f }; calls = t.call
 abbrev pub holder_does : Pool → Action → Option Hold → PoolTurn
 holder_does d action None = pool_rests d
 holder_does d action (Some h) =
-    with_figures (figures_behind action (step {T = Token} d.service (call_of h.lease action)).dones d.figures) (moves d d.holds d.line (call_of h.lease action ∷ []))
+    with_figures
+    (figures_behind action (step {T = Token} d.service (call_of h.lease action)).dones d.figures)
+    (moves d d.holds d.line (call_of h.lease action ∷ []))
 
 abbrev pub leaves : Pool → ℕ → Bool → Way → Option Hold → PoolTurn
 leaves d key gives way None = moves d d.holds (without key d.line) []
-leaves d key gives way (Some h) = moves d (without_lease h.lease d.holds) (without key d.line) (releasing d.service h.lease h.number gives way)
+leaves d key gives way (Some h) =
+    moves d (without_lease h.lease d.holds) (without key d.line)
+    (releasing d.service h.lease h.number gives way)
 
--- A connection with an open transaction is lent to the same application by another lease, with a reset that keeps the transaction. Where
--- memory is refused to that, it is closed.
+-- A connection with an open transaction is lent to the same application by another lease, with a
+-- reset that keeps the transaction. Where memory is refused to that, it is closed.
 abbrev pub renews_by : Pool → Hold → ℕ → Option Loan → Bool → PoolTurn
-renews_by d h ticket lent false = moves d (without_number h.number d.holds) d.line (calls.Keep h.lease ∷ calls.Lost h.number ∷ [])
-renews_by d h ticket None true = moves d (without_number h.number d.holds) d.line (calls.Keep h.lease ∷ calls.Lost h.number ∷ [])
+renews_by d h ticket lent false =
+    moves d (without_number h.number d.holds) d.line (calls.Keep h.lease ∷ calls.Lost h.number ∷ [])
+renews_by d h ticket None true =
+    moves d (without_number h.number d.holds) d.line (calls.Keep h.lease ∷ calls.Lost h.number ∷ [])
 renews_by d h ticket (Some lent) true =
-    moves d (without_lease h.lease d.holds ++ holding h.key lent.lease lent.number ∷ []) d.line (calls.Keep h.lease ∷ calls.Resume ticket ∷ [])
+    moves d (without_lease h.lease d.holds ++ holding h.key lent.lease lent.number ∷ []) d.line
+    (calls.Keep h.lease ∷ calls.Resume ticket ∷ [])
 
 abbrev pub keeps_by : Pool → Hold → Bool → Service → Option ℕ → PoolTurn
 keeps_by d h resumes s None = pool_rests d
-keeps_by d h resumes s (Some ticket) = renews_by d h ticket (lent_in (step {T = Token} s (calls.Resume ticket)).reply) resumes
+keeps_by d h resumes s (Some ticket) =
+    renews_by d h ticket (lent_in (step {T = Token} s (calls.Resume ticket)).reply) resumes
 
 abbrev pub renews : Pool → Bool → Option Hold → PoolTurn
 renews d resumes None = pool_rests d

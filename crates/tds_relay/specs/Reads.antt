@@ -26,7 +26,8 @@ link_at number (l ∷ ls) = if l.number == number then Some l else link_at numbe
 -- where it is, the first one of these at this place
 abbrev pub place_from : ℕ → ℕ → List Link → Option ℕ
 place_from place number [] = None
-place_from place number (l ∷ ls) = if l.number == number then Some place else place_from (suc place) number ls
+place_from place number (l ∷ ls) =
+    if l.number == number then Some place else place_from (suc place) number ls
 
 abbrev pub place_of : ℕ → List Link → Option ℕ
 place_of number ls = place_from 0 number ls
@@ -112,7 +113,8 @@ open_answer number ls = if_open (open_at number ls) (answer_at number ls)
 abbrev pub open_fullness : ℕ → List Link → Option Fullness
 open_fullness number ls = if_open (open_at number ls) (fullness_at number ls)
 
--- It waits there still, in order, and more may have been put behind it; or the connection is there no more.
+-- It waits there still, in order, and more may have been put behind it; or the connection is there
+-- no more.
 abbrev pub FillsAt : Option (List ℕ) → Option (List ℕ) → Type 0
 FillsAt old None = Unit {0}
 FillsAt None (Some new) = ⊥
@@ -129,7 +131,8 @@ abbrev pub StaysAt : {A : Type 0} → Option A → Option A → Type 0
 StaysAt old None = Unit {0}
 StaysAt old (Some new) = old ≡ Some new
 
--- What is known of the message stays, or the next one begins, for whatever reason; or the connection is there no more.
+-- What is known of the message stays, or the next one begins, for whatever reason; or the
+-- connection is there no more.
 abbrev pub MayBegin : Option Answer → Option Answer → Type 0
 MayBegin old new = StaysAt old new ⊎ StaysAt (option_map at_its_beginning old) new
 
@@ -149,9 +152,11 @@ CalledAt (Some old) new = IsCalled old.1 old.2 new
 
 -- Wherever it was so on one, it is.
 abbrev pub HoldsOnLinks : List Link → List Link → Type 0
-HoldsOnLinks old new = (number : ℕ) (had : Option Seen) → StaysAt had (seen_at number old) → StaysAt had (seen_at number new)
+HoldsOnLinks old new = (number : ℕ) (had : Option Seen) → StaysAt had (seen_at number old)
+    → StaysAt had (seen_at number new)
 
--- And what waited on one waits there still, which is as full, and no more are there; what is known of a message stays, or the next one begins.
+-- And what waited on one waits there still, which is as full, and no more are there; what is known
+-- of a message stays, or the next one begins.
 pub record LinksStay (old new : List Link) : Type 0 where
   pub few : length new ≤ length old
   pub seen : HoldsOnLinks old new
@@ -161,10 +166,12 @@ pub record LinksStay (old new : List Link) : Type 0 where
 
 -- No connection is full that wasn't, whether it is open or yet to be opened.
 abbrev pub NoneFills : List Link → List Link → Type 0
-NoneFills old new = (number size : ℕ) → fullness_at number new ≡ Some (size, true) → fullness_at number old ≡ Some (size, true)
+NoneFills old new = (number size : ℕ) → fullness_at number new ≡ Some (size, true)
+    → fullness_at number old ≡ Some (size, true)
 
--- Each connection that is open was so, with the same of a packet, and as full, and what waited there waits still. Others may be there that are yet
--- to be opened, and none is full that wasn't. Each is called as it was. What is known of a message stays, or the next one begins.
+-- Each connection that is open was so, with the same of a packet, and as full, and what waited
+-- there waits still. Others may be there that are yet to be opened, and none is full that wasn't.
+-- Each is called as it was. What is known of a message stays, or the next one begins.
 pub record Opens (old new : List Link) : Type 0 where
   pub opens : (number : ℕ) → StaysAt (open_at number old) (open_at number new)
   pub fills : (number : ℕ) → FillsAt (open_waits number old) (open_waits number new)
@@ -173,11 +180,13 @@ pub record Opens (old new : List Link) : Type 0 where
   pub full : NoneFills old new
   pub called : (number : ℕ) → CalledAt (seen_at number old) (seen_at number new)
 
--- Of the one of this number that it was open, how full it was, what waited there, and what it is called, alone.
+-- Of the one of this number that it was open, how full it was, what waited there, and what it is
+-- called, alone.
 pub record OpensOthers (number : ℕ) (old new : List Link) : Type 0 where
   pub opens : (other : ℕ) → other ≢ number → StaysAt (open_at other old) (open_at other new)
   pub fills : (other : ℕ) → FillsAt (open_waits other old) (open_waits other new)
-  pub begins : (other : ℕ) → other ≢ number → MayBegin (open_answer other old) (open_answer other new)
+  pub begins : (other : ℕ) → other ≢ number
+      → MayBegin (open_answer other old) (open_answer other new)
   pub fullness : (other : ℕ) → StaysAt (open_fullness other old) (open_fullness other new)
   pub full : NoneFills old new
   pub called : (other : ℕ) → CalledAt (seen_at other old) (seen_at other new)
@@ -191,35 +200,47 @@ abbrev pub with_open : Seen → Seen
 with_open seen = (seen.0, true, seen.2)
 
 abbrev pub opened_seen : ℕ → ℕ → List Link → Option Seen
-opened_seen number other ls = if other == number then option_map with_open (seen_at other ls) else seen_at other ls
+opened_seen number other ls =
+    if other == number then option_map with_open (seen_at other ls) else seen_at other ls
 
 -- and what is seen when that one is called so
 abbrev pub with_tag : ℕ → Seen → Seen
 with_tag tag seen = (seen.0, seen.1, Some tag)
 
 abbrev pub named_seen : ℕ → ℕ → ℕ → List Link → Option Seen
-named_seen tag number other ls = if other == number then option_map (with_tag tag) (seen_at other ls) else seen_at other ls
+named_seen tag number other ls =
+    if other == number then option_map (with_tag tag) (seen_at other ls) else seen_at other ls
 
--- The one of this number is opened, with what its reader had, and what waited there, as full as it was, and none is full that wasn't.
+-- The one of this number is opened, with what its reader had, and what waited there, as full as it
+-- was, and none is full that wasn't.
 pub record OpensOne (number : ℕ) (old new : List Link) : Type 0 where
   pub opens : (other : ℕ) → StaysAt (opened_at number other old) (open_at other new)
-  pub fills : (other : ℕ) → FillsAt (if_open (opened_at number other old) (waits_on other old)) (open_waits other new)
-  pub begins : (other : ℕ) → MayBegin (if_open (opened_at number other old) (answer_at other old)) (open_answer other new)
-  pub fullness : (other : ℕ) → StaysAt (if_open (opened_at number other old) (fullness_at other old)) (open_fullness other new)
+  pub fills : (other : ℕ)
+      → FillsAt (if_open (opened_at number other old) (waits_on other old)) (open_waits other new)
+  pub begins : (other : ℕ)
+      → MayBegin (if_open (opened_at number other old) (answer_at other old))
+      (open_answer other new)
+  pub fullness : (other : ℕ)
+      → StaysAt (if_open (opened_at number other old) (fullness_at other old))
+      (open_fullness other new)
   pub full : NoneFills old new
   pub called : (other : ℕ) → CalledAt (opened_seen number other old) (seen_at other new)
 
--- One has come that is open, with nothing of a packet, no other is open, and none is full; or none has.
+-- One has come that is open, with nothing of a packet, no other is open, and none is full; or none
+-- has.
 abbrev pub OpensFirst : Option ℕ → List Link → List Link → Type 0
 OpensFirst None old new = new ≡ old
-OpensFirst (Some number) old new = (other : ℕ) → IfSome (open_at other new) (λ r. (other ≡ number) × (r.taken ≡ [])) × IfSome (fullness_at other new) (λ f. f.1 ≡ false)
+OpensFirst (Some number) old new = (other : ℕ)
+    → IfSome (open_at other new) (λ r. (other ≡ number) × (r.taken ≡ []))
+    × IfSome (fullness_at other new) (λ f. f.1 ≡ false)
 
 -- ---- Packets that are handed on
 
 -- those that come by steps, as they came, also those that are withheld
 abbrev pub packets_in_steps : List Step → List (List ℕ)
 packets_in_steps [] = []
-packets_in_steps (Hands number header content part way manner ∷ steps) = (header_bytes header ++ content) ∷ packets_in_steps steps
+packets_in_steps (Hands number header content part way manner ∷ steps) =
+    (header_bytes header ++ content) ∷ packets_in_steps steps
 packets_in_steps (step ∷ steps) = packets_in_steps steps
 
 -- What stands behind them is less than one, and the reader has it; or the connection is lost.
@@ -228,22 +249,26 @@ Holds r rest None = Unit {0}
 Holds r rest (Some now) = (now ≡ with_taken r rest) × IsLess r rest
 
 -- What the reader had, and these bytes behind it, are these packets and what stands behind them.
-pub record ReaderTakes (r : Reading) (bytes : List ℕ) (packets : List (List ℕ)) (now : Option Reading) : Type 0 where
+pub record ReaderTakes (r : Reading) (bytes : List ℕ) (packets : List (List ℕ))
+    (now : Option Reading) : Type 0 where
   pub rest : List ℕ
   pub each : AllByRecursion (IsOnePacket r) packets
   pub are : r.taken ++ bytes ≡ joined packets ++ rest
   pub holds : Holds r rest now
 
--- On a connection that isn't open nothing comes. A reader that has less than a packet has so behind each call.
+-- On a connection that isn't open nothing comes. A reader that has less than a packet has so behind
+-- each call.
 abbrev pub ReadsBy : Option Reading → List ℕ → List (List ℕ) → Option Reading → Type 0
 ReadsBy None bytes packets now = (packets ≡ []) × (now ≡ None)
 ReadsBy (Some r) bytes packets now = IsLess r r.taken → ReaderTakes r bytes packets now
 
 -- ---- In a call
 
--- These bytes were heard, up to these: the packets among them come, in order, by steps that this connection causes. Each is read from where
--- the one before has left its connection's parser.
-pub record ReadsPackets (number : ℕ) (had : Option Reading) (old : Machine) (from : services.Service) (bytes left : List ℕ) (now : Option Reading) (new : Machine) (to : services.Service) : Type 0 where
+-- These bytes were heard, up to these: the packets among them come, in order, by steps that this
+-- connection causes. Each is read from where the one before has left its connection's parser.
+pub record ReadsPackets (number : ℕ) (had : Option Reading) (old : Machine)
+    (from : services.Service) (bytes left : List ℕ) (now : Option Reading) (new : Machine)
+    (to : services.Service) : Type 0 where
   pub steps : List Step
   pub heard : List ℕ
   pub are : after_all old steps ≡ new
@@ -259,7 +284,8 @@ IsLessAt None = Unit {0}
 IsLessAt (Some r) = IsLess r r.taken
 
 -- All of them; also where the connection is lost among them, whose bytes are nothing from there on.
-pub record StreamsAll (number : ℕ) (had : Option Reading) (old : Machine) (from : services.Service) (bytes : List ℕ) (now : Option Reading) (new : Machine) (to : services.Service) : Type 0 where
+pub record StreamsAll (number : ℕ) (had : Option Reading) (old : Machine) (from : services.Service)
+    (bytes : List ℕ) (now : Option Reading) (new : Machine) (to : services.Service) : Type 0 where
   pub left : List ℕ
   pub streams : ReadsPackets number had old from bytes left now new to
   pub all : left ≡ []
@@ -269,9 +295,10 @@ abbrev pub if_heard : Option Heard → Option Reading → Option Reading
 if_heard None now = None
 if_heard (Some heard) now = now
 
--- Bytes that come are heard, and then those who wait are served, by which nothing comes: the connection has just what was left of them,
--- or isn't open.
-pub record BytesCome (number : ℕ) (had : Option Reading) (old : Machine) (from : services.Service) (bytes : List ℕ) (now : Option Reading) (new : Machine) (to : services.Service) : Type 0 where
+-- Bytes that come are heard, and then those who wait are served, by which nothing comes: the
+-- connection has just what was left of them, or isn't open.
+pub record BytesCome (number : ℕ) (had : Option Reading) (old : Machine) (from : services.Service)
+    (bytes : List ℕ) (now : Option Reading) (new : Machine) (to : services.Service) : Type 0 where
   pub mid : Machine
   pub left : Option Reading
   pub at : services.Service
@@ -283,11 +310,14 @@ pub record BytesCome (number : ℕ) (had : Option Reading) (old : Machine) (from
 
 -- ---- Over calls
 
--- What a call says of the connection of a number, which is open before it and behind it: from what its reader had to what it has, and from
--- where its parser stood to where it stands. Bytes come on the connection; or it is left so by another call.
+-- What a call says of the connection of a number, which is open before it and behind it: from what
+-- its reader had to what it has, and from where its parser stood to where it stands. Bytes come on
+-- the connection; or it is left so by another call.
 pub data CallOn (number : ℕ) : Type 0 where
-  Came : (had now : Reading) (bytes : List ℕ) (old new : Machine) (from to : services.Service) → BytesCome number (Some had) old from bytes (Some now) new to → CallOn number
-  Another : (had now : Reading) (from to : services.Service) → StaysAt (Some had) (Some now) → AllStand from to → CallOn number
+  Came : (had now : Reading) (bytes : List ℕ) (old new : Machine) (from to : services.Service)
+      → BytesCome number (Some had) old from bytes (Some now) new to → CallOn number
+  Another : (had now : Reading) (from to : services.Service) → StaysAt (Some had) (Some now)
+      → AllStand from to → CallOn number
 
 abbrev pub had_before : {number : ℕ} → CallOn number → Reading
 had_before (Came had now bytes old new from to comes) = had
@@ -311,24 +341,30 @@ bytes_in (Another had now from to stays stand ∷ calls) = bytes_in calls
 -- the packets that come by their steps
 abbrev pub packets_in : {number : ℕ} → List (CallOn number) → List (List ℕ)
 packets_in [] = []
-packets_in (Came had now bytes old new from to comes ∷ calls) = packets_in_steps comes.streams.streams.steps ++ packets_in calls
+packets_in (Came had now bytes old new from to comes ∷ calls) =
+    packets_in_steps comes.streams.streams.steps ++ packets_in calls
 packets_in (Another had now from to stays stand ∷ calls) = packets_in calls
 
 -- They follow each other from this service to this one.
-abbrev pub FollowAt : {number : ℕ} → services.Service → List (CallOn number) → services.Service → Type 0
+abbrev pub FollowAt : {number : ℕ} → services.Service → List (CallOn number) → services.Service
+    → Type 0
 FollowAt from [] to = from ≡ to
-FollowAt from (Came had now bytes old new before behind comes ∷ calls) to = (from ≡ before) × FollowAt behind calls to
-FollowAt from (Another had now before behind stays stand ∷ calls) to = (from ≡ before) × FollowAt behind calls to
+FollowAt from (Came had now bytes old new before behind comes ∷ calls) to =
+    (from ≡ before) × FollowAt behind calls to
+FollowAt from (Another had now before behind stays stand ∷ calls) to =
+    (from ≡ before) × FollowAt behind calls to
 
 -- where the connection's parser stands behind them
 abbrev pub stands_in : {number : ℕ} → parsers.Parser → List (CallOn number) → parsers.Parser
 stands_in r [] = r
-stands_in {number} r (Came had now bytes old new from to comes ∷ calls) = stands_in (stands_behind number r old comes.streams.streams.steps) calls
+stands_in {number} r (Came had now bytes old new from to comes ∷ calls) =
+    stands_in (stands_behind number r old comes.streams.streams.steps) calls
 stands_in r (Another had now from to stays stand ∷ calls) = stands_in r calls
 
 -- Each packet in them is read from where the one before has left it.
 abbrev pub AreReadIn : {number : ℕ} → parsers.Parser → List (CallOn number) → Type 0
 AreReadIn r [] = Unit {0}
 AreReadIn {number} r (Came had now bytes old new from to comes ∷ calls) =
-    AreRead number r old comes.streams.streams.steps × AreReadIn (stands_behind number r old comes.streams.streams.steps) calls
+    AreRead number r old comes.streams.streams.steps
+    × AreReadIn (stands_behind number r old comes.streams.streams.steps) calls
 AreReadIn r (Another had now from to stays stand ∷ calls) = AreReadIn r calls

@@ -72,59 +72,75 @@ IsUnheld key d = find_key key d.holds.items ≡ None
 -- These bytes are refused; or they are taken, and the end of their message is refused.
 pub data IsUntaken (whole : Bool) (more : List ℕ) (key : ℕ) (d : pools.Pool) : Type 0 where
   OfBytes : RefusesThere calls.Put key d → IsUntaken whole more key d
-  OfEnd : whole ≡ true → (mid : pools.Pool) (before after : List ℕ) → ClientPuts false more key d mid before after → RefusesThere calls.Finish key mid → IsUntaken whole more key d
+  OfEnd : whole ≡ true → (mid : pools.Pool) (before after : List ℕ)
+      → ClientPuts false more key d mid before after → RefusesThere calls.Finish key mid
+      → IsUntaken whole more key d
 
 -- No request has begun, or all of it is to be put and hasn't come.
 abbrev pub IsUnbegun : Bool → Stage → Type 0
-IsUnbegun whole stages.Quiet = Unit {0}
 IsUnbegun whole (stages.Receiving kind gone) = whole ≡ true
 IsUnbegun whole (stages.Underway gone) = ⊥
-IsUnbegun whole stages.Stopping = Unit {0}
-IsUnbegun whole (stages.Broken fault) = Unit {0}
+IsUnbegun whole _ = Unit {0}
 
 -- More would wait there behind these than may.
 abbrev pub HasNoRoom : ℕ → List ℕ → List Link → Type 0
-HasNoRoom number bytes links = option_map (λ (l : Link). fits (queue_in l.out) bytes) (link_at number links) ≡ Some false
+HasNoRoom number bytes links =
+    option_map (λ (l : Link). fits (queue_in l.out) bytes) (link_at number links) ≡ Some false
 
-pub data CannotPut (whole : Bool) (more : List ℕ) (key : ℕ) (end : Option End) (d : pools.Pool) (links : List Link) : Type 0 where
+pub data CannotPut (whole : Bool) (more : List ℕ) (key : ℕ) (end : Option End) (d : pools.Pool)
+    (links : List Link) : Type 0 where
   Unheld : IsUnheld key d → CannotPut whole more key end d links
   Unbegun : IfOpen (IsUnbegun whole) end → CannotPut whole more key end d links
   Untaken : IsUntaken whole more key d → CannotPut whole more key end d links
   -- its client puts them, and what goes out by that doesn't fit
-  Unfit : (mid : pools.Pool) (out : List ℕ) (puts : ClientPuts whole more key d mid [] out) → HasNoRoom puts.hold.number out links → CannotPut whole more key end d links
+  Unfit : (mid : pools.Pool) (out : List ℕ) (puts : ClientPuts whole more key d mid [] out)
+      → HasNoRoom puts.hold.number out links → CannotPut whole more key end d links
 
 -- ---- A request that waits isn't asked on the connection that its application holds
 
 -- This is open, and what its application took back is acknowledged.
-pub record IsReadyThere (key : ℕ) (end : Option End) (d : pools.Pool) (links : List Link) : Type 0 where
-  pub hold : Hold
-  pub its : find_key key d.holds.items ≡ Some hold
-  pub open_there : IsSome (open_at hold.number links)
-  pub drained : ¬ IsTakenBack end
+pub record IsReadyThere (key : ℕ) (end : Option End) (d : pools.Pool) (links : List Link) : Type 0
+  where
+    pub hold : Hold
+    pub its : find_key key d.holds.items ≡ Some hold
+    pub open_there : IsSome (open_at hold.number links)
+    pub drained : ¬ IsTakenBack end
 
 -- That is refused; or it is asked, and what was kept of it isn't put.
-pub data CannotAsk (kind : MessageKind) (bytes : List ℕ) (whole : Bool) (key : ℕ) (end : Option End) (d : pools.Pool) (links : List Link) : Type 0 where
-  Unasked : RefusesThere (λ lease count. calls.Ask lease) key d → CannotAsk kind bytes whole key end d links
-  Unput : (hold : Hold) → find_key key d.holds.items ≡ Some hold → (mid : pools.Pool) → Turns (pool.Does key pool.Asks) (pool_in d) (pool_in mid) [] [] → BeginsMessage kind hold.lease d.service mid.service
+pub data CannotAsk (kind : MessageKind) (bytes : List ℕ) (whole : Bool) (key : ℕ) (end : Option End)
+    (d : pools.Pool) (links : List Link) : Type 0 where
+  Unasked : RefusesThere (λ lease count. calls.Ask lease) key d
+      → CannotAsk kind bytes whole key end d links
+  Unput : (hold : Hold) → find_key key d.holds.items ≡ Some hold → (mid : pools.Pool)
+      → Turns (pool.Does key pool.Asks) (pool_in d) (pool_in mid) [] []
+      → BeginsMessage kind hold.lease d.service mid.service
       → CannotPut whole bytes key end mid links → CannotAsk kind bytes whole key end d links
 
 -- That is ready for it, and it isn't asked there.
 abbrev pub CannotStart : ℕ → Option End → pools.Pool → List Link → Body → Type 0
-CannotStart key end d links (Kept kind bytes whole) = IsReadyThere key end d links × CannotAsk kind bytes whole key end d links
+CannotStart key end d links (Kept kind bytes whole) =
+    IsReadyThere key end d links × CannotAsk kind bytes whole key end d links
 CannotStart key end d links _ = ⊥
 
 -- with what a relay has
 abbrev pub CannotStartAt : ℕ → code.Relay → Type 0
-CannotStartAt key r = CannotStart key (end_at (ends_in r.applications) key) r.pool r.links.items (body_of key r)
+CannotStartAt key r =
+    CannotStart key (end_at (ends_in r.applications) key) r.pool r.links.items (body_of key r)
 
--- Or it is ready, and none has begun, to which no call leads; or the reset that the request asks for isn't done with it there.
-pub data IsTurnedAway (key : ℕ) (end : Option End) (d : pools.Pool) (links : List Link) (body : Body) : Type 0 where
+-- Or it is ready, and none has begun, to which no call leads; or the reset that the request asks
+-- for isn't done with it there.
+pub data IsTurnedAway (key : ℕ) (end : Option End) (d : pools.Pool) (links : List Link)
+    (body : Body) : Type 0 where
   Unstarted : CannotStart key end d links body → IsTurnedAway key end d links body
-  NoneBegun : IsKept body → IsReadyThere key end d links → IfOpen (IsUnbegun false) end → IsTurnedAway key end d links body
-  Unreset : IsKept body → (ready : IsReadyThere key end d links) → IfOpenAsks (λ asks. ¬ ResetsFor asks (Some ready.hold) (pool_in d)) end → IsTurnedAway key end d links body
+  NoneBegun : IsKept body → IsReadyThere key end d links → IfOpen (IsUnbegun false) end
+      → IsTurnedAway key end d links body
+  Unreset : IsKept body → (ready : IsReadyThere key end d links)
+      → IfOpenAsks (λ asks. ¬ ResetsFor asks (Some ready.hold) (pool_in d)) end
+      → IsTurnedAway key end d links body
 
 abbrev pub IsTurnedAwayAt : ℕ → code.Relay → Type 0
-IsTurnedAwayAt key r = IsTurnedAway key (end_at (ends_in r.applications) key) r.pool r.links.items (body_of key r)
+IsTurnedAwayAt key r =
+    IsTurnedAway key (end_at (ends_in r.applications) key) r.pool r.links.items (body_of key r)
 
 -- ---- They can't go on
 
@@ -133,18 +149,21 @@ abbrev pub room_left : Option Application → ℕ
 room_left None = 0
 room_left (Some a) = room_to_keep a
 
--- They are more than may be kept of a request that waits; or none has begun; or with them it is turned away from the connection that its
--- application holds.
+-- They are more than may be kept of a request that waits; or none has begun; or with them it is
+-- turned away from the connection that its application holds.
 abbrev pub CannotGoOn : Bool → List ℕ → ℕ → Option End → ℕ → pools.Pool → List Link → Body → Type 0
 CannotGoOn whole more key end room d links Closed = Unit {0}
 CannotGoOn whole more key end room d links Nowhere = Unit {0}
-CannotGoOn whole more key end room d links (Kept kind bytes was) = (room < length more) ⊎ (IfOpen (IsUnbegun false) end ⊎ IsTurnedAway key end d links (Kept kind (bytes ++ more) whole))
-CannotGoOn whole more key end room d links Astray = CannotPut whole more key end d links
-CannotGoOn whole more key end room d links (Going number client waits) = CannotPut whole more key end d links
+CannotGoOn whole more key end room d links (Kept kind bytes was) =
+    (room < length more) ⊎ (IfOpen (IsUnbegun false) end
+    ⊎ IsTurnedAway key end d links (Kept kind (bytes ++ more) whole))
+CannotGoOn whole more key end room d links _ = CannotPut whole more key end d links
 
 -- with what a relay has
 abbrev pub CannotGoOnAt : Bool → List ℕ → ℕ → code.Relay → Type 0
-CannotGoOnAt whole more key r = CannotGoOn whole more key (end_at (ends_in r.applications) key) (room_left (get r.applications key)) r.pool r.links.items (body_of key r)
+CannotGoOnAt whole more key r =
+    CannotGoOn whole more key (end_at (ends_in r.applications) key)
+    (room_left (get r.applications key)) r.pool r.links.items (body_of key r)
 
 -- ---- A request can't begin
 
@@ -153,37 +172,49 @@ abbrev pub HasGoneOut : Stage → Type 0
 HasGoneOut stages.Quiet = ⊥
 HasGoneOut (stages.Receiving kind gone) = gone ≡ true
 HasGoneOut (stages.Underway gone) = gone ≡ true
-HasGoneOut stages.Stopping = Unit {0}
-HasGoneOut (stages.Broken fault) = Unit {0}
+HasGoneOut _ = Unit {0}
 
--- An application isn't parted from its connection: something is out there, or it has one still behind letting it go.
+-- An application isn't parted from its connection: something is out there, or it has one still
+-- behind letting it go.
 pub data CannotPart (key : ℕ) (end : Option End) (d : pools.Pool) : Type 0 where
   Out : IfOpen HasGoneOut end → CannotPart key end d
-  Held : (mid : pools.Pool) → Leaving key (pool_in d) (pool_in mid) → IsSome (find_key key mid.holds.items) → CannotPart key end d
+  Held : (mid : pools.Pool) → Leaving key (pool_in d) (pool_in mid)
+      → IsSome (find_key key mid.holds.items) → CannotPart key end d
 
 -- A transaction is open on the connection that it holds.
 abbrev pub HasTransaction : Pool → ℕ → Type 0
-HasTransaction d key = (hold : Hold) × (find_key key d.holds ≡ Some hold) × (open_on d hold.number ≡ Some true)
+HasTransaction d key =
+    (hold : Hold) × (find_key key d.holds ≡ Some hold) × (open_on d hold.number ≡ Some true)
 
--- What it holds isn't lent to it by another lease, and has to stay; or it is lent so, and turns its request away.
-pub data IsUnrenewed (Stays : Type 0) (key : ℕ) (end : Option End) (d : pools.Pool) (links : List Link) (body : Body) : Type 0 where
-  Unkept : (resumes : Bool) → (turn (pool_in d) (pool.Renews key resumes)).pool ≡ pool_in d → Stays → IsUnrenewed Stays key end d links body
-  Unserved : (resumes : Bool) (mid : pools.Pool) → MayKeep (pool_in d) key → pool_in mid ≡ (turn (pool_in d) (pool.Renews key resumes)).pool → IsTurnedAway key end mid links body → IsUnrenewed Stays key end d links body
+-- What it holds isn't lent to it by another lease, and has to stay; or it is lent so, and turns its
+-- request away.
+pub data IsUnrenewed (Stays : Type 0) (key : ℕ) (end : Option End) (d : pools.Pool)
+    (links : List Link) (body : Body) : Type 0 where
+  Unkept : (resumes : Bool) → (turn (pool_in d) (pool.Renews key resumes)).pool ≡ pool_in d → Stays
+      → IsUnrenewed Stays key end d links body
+  Unserved : (resumes : Bool) (mid : pools.Pool) → MayKeep (pool_in d) key
+      → pool_in mid ≡ (turn (pool_in d) (pool.Renews key resumes)).pool
+      → IsTurnedAway key end mid links body → IsUnrenewed Stays key end d links body
 
--- Packets of its type are no request. Or it isn't asked on the connection that its application holds; or one that is to keep its transaction
--- doesn't: this is open still, and the acknowledgement of what was taken back isn't what it waits for; or it isn't parted from it. That is so of
--- one that asks for a full reset too, but no call leads to it: who begins has nothing out, and holds none behind letting it go.
+-- Packets of its type are no request. Or it isn't asked on the connection that its application
+-- holds; or one that is to keep its transaction doesn't: this is open still, and the
+-- acknowledgement of what was taken back isn't what it waits for; or it isn't parted from it. That
+-- is so of one that asks for a full reset too, but no call leads to it: who begins has nothing out,
+-- and holds none behind letting it go.
 abbrev pub CannotBegin : Kind → Option Reset → ℕ → Option End → pools.Pool → List Link → Type 0
-CannotBegin kind None key end d links = IsNoRequest kind ⊎ (IsReadyThere key end d links × (message : MessageKind) × (packets_are message ≡ kind) × CannotAsk message [] false key end d links)
+CannotBegin kind None key end d links =
+    IsNoRequest kind
+    ⊎ (IsReadyThere key end d links × (message : MessageKind) × (packets_are message ≡ kind)
+    × CannotAsk message [] false key end d links)
 CannotBegin kind (Some KeepTransaction) key end d links =
     IsNoRequest kind
-    ⊎ (IsSome (find_key key d.holds.items) × (IsTakenBack end → HasNoTransaction (pool_in d) key) × (message : MessageKind) × (packets_are message ≡ kind)
-    × IsUnrenewed (HasTransaction (pool_in d) key ⊎ CannotPart key end d) key end d links (Kept message [] false))
+    ⊎ (IsSome (find_key key d.holds.items) × (IsTakenBack end → HasNoTransaction (pool_in d) key)
+    × (message : MessageKind) × (packets_are message ≡ kind)
+    × IsUnrenewed (HasTransaction (pool_in d) key ⊎ CannotPart key end d) key end d links
+    (Kept message [] false))
 CannotBegin kind (Some Full) key end d links = IsNoRequest kind ⊎ CannotPart key end d
 
--- ---- It can't be taken back
-
--- The service refuses to cancel it.
+-- It can't be taken back: the service refuses to cancel it.
 abbrev pub IsUncancelled : ℕ → pools.Pool → Type 0
 IsUncancelled key d = RefusesThere (λ lease count. calls.Cancel lease) key d
 
@@ -223,52 +254,60 @@ pub record WaitsNoMore (Cannot : pools.Pool → Type 0) (d : pools.Pool) : Type 
 -- It is said to go on, and its application holds no connection; or this is to be closed.
 abbrev pub IsAstray : Body → Type 0
 IsAstray Closed = Unit {0}
-IsAstray Nowhere = ⊥
-IsAstray (Kept kind bytes whole) = ⊥
 IsAstray Astray = Unit {0}
-IsAstray (Going number client waits) = ⊥
+IsAstray _ = ⊥
 
 -- of which something has gone on or not
 abbrev pub CannotForget : Bool → ℕ → Option End → pools.Pool → List Link → Body → Type 0
-CannotForget false key end d links body = IsAstray body ⊎ WaitsNoMore (λ mid. CannotUnask key end mid links) d
+CannotForget false key end d links body =
+    IsAstray body ⊎ WaitsNoMore (λ mid. CannotUnask key end mid links) d
 CannotForget true key end d links body = WaitsNoMore (λ mid. CannotStop key mid links) d
 
 -- More would wait for it than may.
 abbrev pub IsOverfull : Option Queue → Type 0
 IsOverfull queue = option_map (λ (p : Queue). p.is_full) queue ≡ Some true
 
--- ---- By what an application says
-
--- A request can't begin, its bytes can't go on, or it can't be taken back; by what says nothing nobody is closed.
-abbrev pub MayClose : Said → List ℕ → ℕ → Option End → ℕ → pools.Pool → List Link → Queues → Body → Type 0
+-- By what an application says: a request can't begin, its bytes can't go on, or it can't be taken
+-- back; by what says nothing nobody is closed.
+abbrev pub MayClose : Said → List ℕ → ℕ → Option End → ℕ → pools.Pool → List Link → Queues → Body
+    → Type 0
 MayClose said.Nothing taken key end room d links queues body = ⊥
-MayClose (said.Begin kind reset) taken key end room d links queues body = CannotBegin kind reset key end d links
-MayClose (said.Body count) taken key end room d links queues body = CannotGoOn false (last_of count taken) key end room d links body
-MayClose (said.End count) taken key end room d links queues body = CannotGoOn true (last_of count taken) key end room d links body
-MayClose (said.Forget gone) taken key end room d links queues body = CannotForget gone key end d links body
-MayClose said.Acknowledge taken key end room d links queues body = CannotForget false key end d links body ⊎ IsOverfull (queue_at (give key acknowledgement queues) key)
+MayClose (said.Begin kind reset) taken key end room d links queues body =
+    CannotBegin kind reset key end d links
+MayClose (said.Body count) taken key end room d links queues body =
+    CannotGoOn false (last_of count taken) key end room d links body
+MayClose (said.End count) taken key end room d links queues body =
+    CannotGoOn true (last_of count taken) key end room d links body
+MayClose (said.Forget gone) taken key end room d links queues body =
+    CannotForget gone key end d links body
+MayClose said.Acknowledge taken key end room d links queues body =
+    CannotForget false key end d links body
+    ⊎ IsOverfull (queue_at (give key acknowledgement queues) key)
 MayClose said.HandOn taken key end room d links queues body = CannotStop key d links
 
 -- with what a relay has; this is its end
 abbrev pub MayCloseAt : Said → List ℕ → ℕ → Option End → code.Relay → Type 0
-MayCloseAt answer taken key end r = MayClose answer taken key end (room_left (get r.applications key)) r.pool r.links.items (queues_in r.applications) (body_of key r)
+MayCloseAt answer taken key end r =
+    MayClose answer taken key end (room_left (get r.applications key)) r.pool r.links.items
+    (queues_in r.applications) (body_of key r)
 
-abbrev pub ReasonWith : List ℕ → ℕ → code.Relay → Front → Bool → Option Reset → Result Fed FrontFault → Type 0
-ReasonWith bytes key r front withdrawn asks (Ok taken) = MayCloseAt taken.said (take taken.count bytes) key (Some (Open front withdrawn (asks_by taken.said asks))) r
+abbrev pub ReasonWith : List ℕ → ℕ → code.Relay → Front → Bool → Option Reset
+    → Result Fed FrontFault → Type 0
+ReasonWith bytes key r front withdrawn asks (Ok taken) =
+    MayCloseAt taken.said (take taken.count bytes) key
+    (Some (Open front withdrawn (asks_by taken.said asks))) r
 ReasonWith bytes key r front withdrawn asks (Err fault) = Unit {0}
 
 abbrev pub ReasonBy : List ℕ → ℕ → code.Relay → Option End → Type 0
-ReasonBy bytes key r None = ⊥
-ReasonBy bytes key r (Some (Open front withdrawn asks)) = ReasonWith bytes key r (fed front bytes).front withdrawn asks (fed front bytes).brings
-ReasonBy bytes key r (Some (Over why)) = ⊥
+ReasonBy bytes key r (Some (Open front withdrawn asks)) =
+    ReasonWith bytes key r (fed front bytes).front withdrawn asks (fed front bytes).brings
+ReasonBy bytes key r _ = ⊥
 
 -- The first piece of these breaks the rules; or what is asked by it can't be done.
 abbrev pub GivesReason : List ℕ → ℕ → code.Relay → Type 0
 GivesReason bytes key r = ReasonBy bytes key r (end_at (ends_in r.applications) key)
 
--- ---- Whom it may close
-
--- This one, for that.
+-- Whom it may close: this one, for that.
 abbrev pub ItselfFor : ℕ → Type 0 → ℕ → Type 0
 ItselfFor key Reason other = (other ≡ key) × Reason
 
@@ -276,32 +315,39 @@ ItselfFor key Reason other = (other ≡ key) × Reason
 
 -- What this application took back is acknowledged, unless it is to be closed.
 abbrev pub HasTakenBack : Option ℕ → EndList → Type 0
-HasTakenBack key ends = (whose : ℕ) × (key ≡ Some whose) × (IsTakenBack (end_at ends whose) ⊎ IsDeaf (end_at ends whose))
+HasTakenBack key ends = (whose : ℕ) × (key ≡ Some whose)
+    × (IsTakenBack (end_at ends whose) ⊎ IsDeaf (end_at ends whose))
 
--- Whoever is handed it is closed where more would wait for it than may, or its connection is closed for what the server said there.
+-- Whoever is handed it is closed where more would wait for it than may, or its connection is closed
+-- for what the server said there.
 abbrev pub LosesBy : What → Option ℕ → EndList → Queues → ℕ → Type 0
-LosesBy whats.Goes key ends queues other = (key ≡ Some other) × IsOverfull (queue_at queues other)
-LosesBy whats.Finished key ends queues other = (key ≡ Some other) × IsOverfull (queue_at queues other)
-LosesBy whats.Acknowledged key ends queues other = (key ≡ Some other) × IsOverfull (queue_at queues other)
 LosesBy whats.Closed key ends queues other = key ≡ Some other
+LosesBy _ key ends queues other = (key ≡ Some other) × IsOverfull (queue_at queues other)
 
--- It isn't parted from its connection, and stays: something is out there, or none has begun; or a transaction is open, or it isn't one that asks
--- to keep that.
+-- It isn't parted from its connection, and stays: something is out there, or none has begun; or a
+-- transaction is open, or it isn't one that asks to keep that.
 abbrev pub CannotMove : ℕ → Option End → Pool → Type 0
-CannotMove key end d = (IfOpen HasGoneOut end ⊎ IfOpen (IsUnbegun false) end) ⊎ (HasTransaction d key ⊎ (¬ AsksFor KeepTransaction end))
+CannotMove key end d = (IfOpen HasGoneOut end ⊎ IfOpen (IsUnbegun false) end)
+    ⊎ (HasTransaction d key ⊎ (¬ AsksFor KeepTransaction end))
 
 -- What it asks next is turned away; or is to keep its transaction, and doesn't.
 abbrev pub CannotResume : ℕ → Option End → pools.Pool → List Link → Body → Type 0
 CannotResume key end d links body =
-    ((¬ AsksFor KeepTransaction end) × IsTurnedAway key end d links body) ⊎ (AsksFor KeepTransaction end × IsUnrenewed (CannotMove key end (pool_in d)) key end d links body)
+    ((¬ AsksFor KeepTransaction end) × IsTurnedAway key end d links body)
+    ⊎ (AsksFor KeepTransaction end
+    × IsUnrenewed (CannotMove key end (pool_in d)) key end d links body)
 
--- This one was told so, and what it asks doesn't go on. Or it holds none, or another holds the connection of this number: to these no call leads.
+-- This one was told so, and what it asks doesn't go on. Or it holds none, or another holds the
+-- connection of this number: to these no call leads.
 abbrev pub ResumesNot : ℕ → Option ℕ → EndList → pools.Pool → List Link → Body → ℕ → Type 0
 ResumesNot number key ends d links body other =
-    ((key ≡ Some other) × (IsUnheld other d ⊎ CannotResume other (end_at ends other) d links body)) ⊎ ((key ≢ Some other) × IsWho (holder (pool_in d) number) other)
+    ((key ≡ Some other) × (IsUnheld other d ⊎ CannotResume other (end_at ends other) d links body))
+    ⊎ ((key ≢ Some other) × IsWho (holder (pool_in d) number) other)
 
 abbrev pub ResumesNotAt : ℕ → ℕ → code.Relay → ℕ → Type 0
-ResumesNotAt number key r other = ResumesNot number (Some key) (ends_in r.applications) r.pool r.links.items (body_of other r) other
+ResumesNotAt number key r other =
+    ResumesNot number (Some key) (ends_in r.applications) r.pool r.links.items (body_of other r)
+    other
 
 -- So is who holds it, where a header isn't one.
 abbrev pub LosesFor : ℕ → Option Heard → Pool → EndList → Queues → ℕ → Type 0
@@ -319,14 +365,17 @@ Cleans who heard before after = IsLeftOpen heard → MayClean who before after
 
 -- ---- By bytes that come
 
--- These bytes of a connection that is open are heard so, up to the end of a packet: by its reader, and by the service.
-pub record IsHeardAs (number : ℕ) (left : List ℕ) (heard : Option Heard) (r : code.Relay) (new : Machine) : Type 0 where
+-- These bytes of a connection that is open are heard so, up to the end of a packet: by its reader,
+-- and by the service.
+pub record IsHeardAs (number : ℕ) (left : List ℕ) (heard : Option Heard) (r : code.Relay)
+    (new : Machine) : Type 0 where
   pub link : Link
   pub there : link_at number r.links.items ≡ Some link
   pub is_open : link.is_open ≡ true
   pub next : Link
   pub count : ℕ
-  pub hears : HearsBy number (reading_on number r.pool.service) link next left count heard (machine_in r) new
+  pub hears : HearsBy number (reading_on number r.pool.service) link next left count heard
+      (machine_in r) new
 
 -- Nothing was.
 abbrev pub HearsNothing : Option Heard → Type 0
@@ -339,6 +388,11 @@ IsIdle old new = (new.pool ≡ old.pool) × (new.outbox.items ≡ [])
 
 -- It closes this one; or behind what it took back its next request doesn't go on.
 pub data LosesOn (number : ℕ) (left : List ℕ) (r : code.Relay) (other : ℕ) : Type 0 where
-  OfPacket : (heard : Option Heard) (new : Machine) → IsHeardAs number left heard r new → LosesFor number heard (pool_in r.pool) (ends_in r.applications) new.queues other → LosesOn number left r other
-  OfResuming : (heard : Heard) (new : Machine) → IsHeardAs number left (Some heard) r new → heard.what ≡ whats.Acknowledged → HasTakenBack heard.key (ends_in r.applications)
-      → (d : pools.Pool) → pool_in d ≡ new.core.pool → ResumesNot number heard.key new.core.ends d r.links.items (body_of other r) other → LosesOn number left r other
+  OfPacket : (heard : Option Heard) (new : Machine) → IsHeardAs number left heard r new
+      → LosesFor number heard (pool_in r.pool) (ends_in r.applications) new.queues other
+      → LosesOn number left r other
+  OfResuming : (heard : Heard) (new : Machine) → IsHeardAs number left (Some heard) r new
+      → heard.what ≡ whats.Acknowledged → HasTakenBack heard.key (ends_in r.applications)
+      → (d : pools.Pool) → pool_in d ≡ new.core.pool
+      → ResumesNot number heard.key new.core.ends d r.links.items (body_of other r) other
+      → LosesOn number left r other
