@@ -307,7 +307,10 @@ due_by (due.Data left) spot byte run =
 abbrev pub moved : Direction → Run → Run
 moved direction run =
     framed direction
-    (record (frame_of direction run) { offset = min 18446744073709551615 ((frame_of direction run).offset + 1) }) run
+    (record (frame_of direction run) {
+      offset = min 18446744073709551615
+          ((frame_of direction run).offset + 1);
+    }) run
 
 abbrev pub spot_of : Direction → ℕ → Run → Spot
 spot_of direction time run = record {

@@ -107,8 +107,8 @@ impl TdsSeat {
     #[inline(always)]
     #[tactic(auto, unfolding(crate::specs::service::Plain::stage_at))]
     pub(crate) fn how_cancelled(&self) -> Result<Cancelled, Stop>
-        ensures how { IfOk result (λ how. (line_turn {T = Token} (line_of self.now) line.Cancel).answer
-            ≡ cancel_answer self.now.asked how) }
+        ensures how { IfOk result (λ how. (line_turn {T = Token} (line_of self.now)
+            line.Cancel).answer ≡ cancel_answer self.now.asked how) }
         ensures refused { IfErr result (λ stop. (stop ≡ Stop.Refused Refusal.Broken)
             × ((line_turn {T = Token} (line_of self.now) line.Cancel).answer
             ≡ line.Refused clients.Broken)) }
