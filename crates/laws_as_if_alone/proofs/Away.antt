@@ -10,7 +10,7 @@ use Rattle.tds_service.specs.History.{line_after}
 use Rattle.tds_service.specs.Service.{Service, on, steps}
 use Rattle.laws_conforming_server.specs.Lawful.{Session}
 use Rattle.tds_relay.specs.declared.pool.Hold.{Hold}
-use Rattle.tds_relay.specs.Away.{IsAway}
+use Rattle.tds_relay.specs.Law.{IsAway}
 use Rattle.tds_relay.specs.Pool as pool
 use Rattle.tds_relay.specs.Pool.{Pool, Event, find_key, turn, whose}
 use Rattle.tds_relay.specs.Promises.{comes_to_wait}

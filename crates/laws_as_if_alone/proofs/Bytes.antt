@@ -8,7 +8,7 @@ use Rattle.tds_wire.specs.Reading.{Parser}
 use Rattle.tds_service.specs.Packets.{items_from}
 use Rattle.tds_service.specs.Parts.{Item, Part}
 use Rattle.tds_service.specs.Service.{Seat, lease_at, seat_numbered}
-use Rattle.tds_relay.specs.Away.{done_since}
+use Rattle.tds_relay.specs.Law.{done_since}
 use Rattle.tds_relay.specs.Behind.{events_along}
 use Rattle.tds_relay.specs.Pool as pool
 use Rattle.tds_relay.specs.Pool.{Pool, Event, Sharing, pool_after, new_pool, turn, whose, whose_by}

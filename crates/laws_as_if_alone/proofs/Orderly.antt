@@ -2,7 +2,7 @@
 use Rattle.std.proofs.Common.{◌≡◌, ◌∙◌, ◌==◌, ℕ, Bool, true, false, List, [], ◌∷◌, refl, sym, ap}
 use Rattle.std.specs.Prelude.{Option, Some, None}
 use Rattle.std.proofs.lemmas.Bool.{eq-eqb}
-use Rattle.tds_relay.specs.Away.{IsAway}
+use Rattle.tds_relay.specs.Law.{IsAway}
 use Rattle.tds_relay.specs.Pool as pool
 use Rattle.tds_relay.specs.Pool.{Pool, Event, PoolTurn, whose}
 use Rattle.tds_relay.specs.Promises.{comes_to_wait}

@@ -3,7 +3,7 @@ use Rattle.std.proofs.Common.{◌≡◌, ◌∙◌, ℕ, Bool, true, false, List
 use Rattle.std.specs.Prelude.{Option, nat_lt, if◌then◌else◌}
 use Rattle.tds_packet.specs.declared.status.Reset.{Reset}
 use Rattle.tds_service.specs.Line.{Packet, OfRequest, Ignore, Attention}
-use Rattle.tds_relay.specs.Away.{IsAway, WaitsAway, done_before, done_since}
+use Rattle.tds_relay.specs.Law.{IsAway, WaitsAway, done_before, done_since}
 use Rattle.tds_relay.specs.Pool as pool
 use Rattle.tds_relay.specs.Pool.{Event, Sharing, pool_after, new_pool, turn}
 use Rattle.tds_relay.specs.Giving.{Visit}

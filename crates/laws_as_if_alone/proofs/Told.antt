@@ -11,7 +11,7 @@ use Rattle.tds_service.specs.Line.{LineStage}
 use Rattle.tds_service.specs.Service.{Seat}
 use Rattle.laws_conforming_server.specs.Lawful.{Session, reset_by}
 use Rattle.tds_relay.specs.declared.pool.Hold.{Hold}
-use Rattle.tds_relay.specs.Away.{IsAway}
+use Rattle.tds_relay.specs.Law.{IsAway}
 use Rattle.tds_relay.specs.Pool as pool
 use Rattle.tds_relay.specs.Pool.{Event, Sharing, find_key, new_pool, turn}
 use Rattle.tds_relay.specs.Promises.{comes_to_wait}

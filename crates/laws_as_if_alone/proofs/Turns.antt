@@ -10,7 +10,7 @@ use Rattle.tds_service.specs.Line.{LineStage}
 use Rattle.tds_service.specs.Service.{Seat, seat_numbered}
 use Rattle.laws_conforming_server.specs.Lawful.{Session}
 use Rattle.tds_relay.specs.declared.pool.Hold.{Hold}
-use Rattle.tds_relay.specs.Away.{IsAway}
+use Rattle.tds_relay.specs.Law.{IsAway}
 use Rattle.tds_relay.specs.Pool.{Sharing, find_key, turn}
 use Rattle.tds_relay.proofs.held.Lists.{none_theirs, theirs_found}
 use Rattle.tds_relay.proofs.held.Seated.{AllSit, turn_sits}

@@ -1,6 +1,6 @@
 -- A visit's moments, in which an application comes to wait only where it's away.
 use Rattle.std.proofs.Common.{◌≡◌, ◌∙◌, ℕ, Bool, List, [], ◌∷◌, refl, sym, ap, subst}
-use Rattle.tds_relay.specs.Away.{IsAway, WaitsAway, done_before, done_since}
+use Rattle.tds_relay.specs.Law.{IsAway, WaitsAway, done_before, done_since}
 use Rattle.tds_relay.specs.Pool.{Pool, Event, Sharing, pool_after, new_pool, turn}
 use Rattle.tds_relay.specs.Giving.{Visit}
 use Rattle.laws_as_if_alone.specs.Alone.{AllOrderly, AsIfAlone}

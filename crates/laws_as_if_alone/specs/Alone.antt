@@ -11,7 +11,7 @@ use Rattle.tds_service.specs.Service as calls
 use Rattle.tds_service.specs.Service.{Leased, Seat, seat_numbered, step}
 use Rattle.laws_conforming_server.specs.Lawful.{Session}
 use Rattle.tds_relay.specs.declared.pool.Hold.{Hold}
-use Rattle.tds_relay.specs.Away.{IsAway}
+use Rattle.tds_relay.specs.Law.{IsAway}
 use Rattle.tds_relay.specs.Pool as pool
 use Rattle.tds_relay.specs.Pool.{Action, Pool, Event, Hearing, PoolTurn, find_key, hearing_of, ticket_in, whose}
 use Rattle.tds_relay.specs.Promises.{comes_to_wait}

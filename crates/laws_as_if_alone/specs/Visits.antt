@@ -1,6 +1,6 @@
 -- The moments of a visit to a relay.
 use Rattle.std.specs.Prelude.{◌≡◌, ℕ, List, [], ◌∷◌, map}
-use Rattle.tds_relay.specs.Away.{done_before, done_since}
+use Rattle.tds_relay.specs.Law.{done_before, done_since}
 use Rattle.tds_relay.specs.Pool.{Pool, Event, Sharing, PoolTurn}
 use Rattle.tds_relay.specs.Giving.{Visit}
 use Rattle.laws_as_if_alone.specs.Alone.{IsSaid}

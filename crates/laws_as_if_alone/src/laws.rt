@@ -3,7 +3,7 @@
 ghost use Rattle.std.specs.Prelude.{◌≡◌, ◌++◌, ℕ, Bool, List};
 ghost use Rattle.tds_service.specs.Service.{Seat};
 ghost use Rattle.tds_relay.specs.declared.pool.Hold.{Hold};
-ghost use Rattle.tds_relay.specs.Away.{IsAway};
+ghost use Rattle.tds_relay.specs.Law.{IsAway};
 ghost use Rattle.tds_relay.specs.Pool.{Sharing, turn};
 ghost use Rattle.tds_relay.specs.Giving.{ReadVisit, Visit, machine_at_visit};
 ghost use Rattle.laws_as_if_alone.specs.Serving.{Moment, Server, World, fresh, new_world, reached};

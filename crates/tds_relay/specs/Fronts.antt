@@ -1,6 +1,6 @@
 -- The ends of applications, as the code has them beside its pool; what it hears of a packet, and how its calls lead from core to core.
-use Rattle.std.specs.Prelude.{◌≡◌, ◌⊎◌, ℕ, Bool, true, false, List, [], ◌∷◌, Option, Some, None, Ok, if◌then◌else◌, map, option_map, slice_set}
-use Rattle.slab.specs.Slab.{Slab}
+use Rattle.std.specs.Prelude.{◌≡◌, ◌⊎◌, ℕ, Bool, true, false, List, [], ◌∷◌, Option, Some, None, Ok, if◌then◌else◌, map, option_map, slice_set, ◌&&◌}
+use Rattle.slab.specs.Slab.{Slab, get}
 use Rattle.tds_packet.specs.declared.status.Reset.{Reset}
 use Rattle.tds_front.specs.declared.front.Front.{Front}
 use Rattle.tds_front.specs.declared.front.Said.{Said}
@@ -17,11 +17,14 @@ use Rattle.tds_relay.specs.declared.pool.coming.What.{What}
 use Rattle.tds_relay.specs.declared.relay.Relay as code
 use Rattle.tds_relay.specs.Pool as pool
 use Rattle.tds_relay.specs.Pool.{Pool, Way}
-use Rattle.tds_relay.specs.Core.{End, Open, Over, EndList, Core, Feeds, IsBegun, HasWholeRequest, LetsGo, Moves, asks_by, change_whose, end_at, move_stage, moved, end_told, what_in}
+use Rattle.tds_relay.specs.Core.{End, Open, Over, EndList, Core, Feeds, IsBegun, HasWholeRequest, LetsGo, Moves, asks_by, change_whose, end_at, move_stage, moved, end_told, what_in, may_park}
 use Rattle.tds_relay.specs.Machine.{Machine}
 use Rattle.tds_relay.specs.Queues.{Queues, acknowledgement, give, queues_in}
 use Rattle.tds_relay.specs.Taking.{IsDeaf}
 use Rattle.tds_relay.specs.Ties.{Application as ByApplication, Cause, Turns, pool_in}
+use Rattle.tds_relay.specs.declared.application.Asking.{Asking}
+use Rattle.tds_relay.specs.declared.application.Asking.TheVariants as asking
+use Rattle.tds_relay.specs.declared.relay.Relay as code
 
 abbrev pub own_end : Application → End
 own_end a = if a.is_over then Over a.fault else Open a.front a.is_withdrawn a.reset
@@ -138,3 +141,18 @@ abbrev pub FedOn : ℕ → Said → Pool → EndList → Core → Type 0
 FedOn key answer d now new =
     (before : EndList) (bytes : List ℕ) → IsFed key before now bytes answer
     → TakesBetween key (core_of_ends d before) bytes new ⊎ ClosesInstead key answer (core_of_ends d before) new
+
+-- ---- When an application may be parked
+
+-- There is no request of it that waits or goes on.
+abbrev pub is_asking_nothing : Asking → Bool
+is_asking_nothing asking.Nothing = true
+is_asking_nothing (asking.Waits kind whole) = false
+is_asking_nothing asking.Goes = false
+
+abbrev pub has_no_request : Option Application → Bool
+has_no_request None = false
+has_no_request (Some a) = is_asking_nothing a.asking
+
+abbrev pub may_park_in : code.Relay → ℕ → Bool
+may_park_in r key = may_park (core_in r) key && has_no_request (get r.applications key)

@@ -1,5 +1,5 @@
 -- What a user of a relay is promised, in its own words.
-use Rattle.std.specs.Prelude.{◌≡◌, true, ◌⊎◌, ℕ, false, List, [], ◌∷◌, ◌++◌, drop, take, Option, Some, None, if◌then◌else◌}
+use Rattle.std.specs.Prelude.{◌≡◌, true, ◌⊎◌, ℕ, false, List, [], ◌∷◌, ◌++◌, drop, take, Option, Some, None, if◌then◌else◌, ◌==◌, filter}
 use Rattle.tds_packet.specs.declared.status.Reset.{Reset}
 use Rattle.tds_packet.specs.declared.status.Reset.TheVariants.{Full, KeepTransaction}
 use Rattle.tds_relay.specs.Machine.{after_all}
@@ -15,10 +15,12 @@ use Rattle.tds_front.specs.declared.stage.Stage.TheVariants.{Quiet}
 use Rattle.tds_relay.specs.declared.order.Order.{Order}
 use Rattle.tds_relay.specs.declared.order.Order.TheVariants as orders
 use Rattle.tds_relay.specs.Pool as pool
-use Rattle.tds_relay.specs.Pool.{Sharing, Wrong, find_key, hearing, owes_reset}
+use Rattle.tds_relay.specs.Pool.{Sharing, Wrong, find_key, hearing, owes_reset, Pool, Event, turn}
 use Rattle.tds_relay.specs.Places.{HasNoTransaction, open_on}
-use Rattle.tds_relay.specs.Giving.{Visit, machine_at_visit}
-use Rattle.tds_relay.specs.Core.{Core, Move, Does, LetsGo, Loses, Replaces, Comes, Quits, AsksFor, IfOpen, IsHere, Open, dones_of_part, end_at, moved}
+use Rattle.tds_relay.specs.Giving.{Visit, machine_at_visit, moves_in}
+use Rattle.tds_relay.specs.Core.{Core, Move, Does, LetsGo, Loses, Replaces, Comes, Quits, AsksFor, IfOpen, IsHere, Open, dones_of_part, end_at, moved, new_core}
+use Rattle.tds_relay.specs.Behind.{events_along}
+use Rattle.tds_relay.specs.Promises.{comes_to_wait}
 
 -- ---- (1) What leaves
 
@@ -126,3 +128,22 @@ abbrev pub went_out : List ℕ → List Wire → List ℕ
 went_out waits [] = []
 went_out waits (Fills old new fills ∷ wires) = went_out new wires
 went_out waits (Sends count ∷ wires) = take count waits ++ went_out (drop count waits) wires
+
+-- ---- Who has nothing at the pool, and where one comes to wait
+
+-- It holds no connection, and waits for none.
+pub record IsAway (key : ℕ) (d : Pool) : Type 0 where
+  pub holds : find_key key d.holds ≡ None
+  pub waits : filter (λ (k : ℕ). k == key) d.line ≡ []
+
+-- Along these events it comes to wait only where it's away.
+abbrev pub WaitsAway : ℕ → Pool → List Event → Type 0
+WaitsAway key d [] = Unit {0}
+WaitsAway key d (event ∷ events) = (comes_to_wait event ≡ key ∷ [] → IsAway key d) × WaitsAway key (turn d event).pool events
+
+-- What is done at the pool before an application comes, and since.
+abbrev pub done_before : {sharing : Sharing} {key : ℕ} → Visit sharing key → List Event
+done_before {sharing} v = events_along (new_core sharing) (moves_in v.before)
+
+abbrev pub done_since : {sharing : Sharing} {key : ℕ} → Visit sharing key → List Event
+done_since v = events_along (machine_at_visit v).core (moves_in v.since)

@@ -1,10 +1,8 @@
 pub mod Anew
 pub mod Apart
 pub mod Asking
-pub mod Away
 pub mod Behind
 pub mod Bodies
-pub mod Bounds
 pub mod Cleaning
 pub mod Coming
 pub mod Closings
@@ -21,7 +19,6 @@ pub mod Holding
 pub mod Machine
 pub mod News
 pub mod Ordering
-pub mod Parking
 pub mod Places
 pub mod Law
 pub mod Lent

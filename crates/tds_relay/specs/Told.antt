@@ -1,5 +1,5 @@
 -- What whoever asks is told of applications and connections: where they are, what they are called, and how much of them may be read.
-use Rattle.std.specs.Prelude.{◌≡◌, ℕ, ◌+◌, ◌-◌, ◌*◌, ◌/◌, min, ◌||◌, Bool, true, false, is_some, List, length, Option, Some, None, option_and_then, option_map, if◌then◌else◌, vec_len}
+use Rattle.std.specs.Prelude.{◌≡◌, ℕ, ◌+◌, ◌-◌, ◌*◌, ◌/◌, min, ◌||◌, Bool, true, false, is_some, List, length, Option, Some, None, option_and_then, option_map, if◌then◌else◌, vec_len, ◌≤◌}
 use Rattle.slab.specs.Slab.{get}
 use Rattle.tds_front.specs.declared.stage.Stage.{Stage}
 use Rattle.tds_front.specs.declared.stage.Stage.TheVariants as stages
@@ -20,8 +20,35 @@ use Rattle.tds_relay.specs.Reads.{link_at, waits_on}
 use Rattle.tds_relay.specs.declared.application.TheConstants.{MOST_HELD}
 use Rattle.tds_relay.specs.declared.outgoing.TheConstants.{ACKNOWLEDGED, ATTENTION, BESIDE, PIECE}
 use Rattle.tds_relay.specs.declared.relay.Relay as code
-use Rattle.tds_relay.specs.Bounds.{waiting_for, waiting_in}
 use Rattle.tds_relay.specs.Ties.{pool_in}
+use Rattle.tds_relay.specs.declared.outgoing.Outgoing.{Outgoing}
+use Rattle.tds_relay.specs.declared.link.News.{News}
+
+-- ---- How much is kept
+
+-- the bytes that wait to be sent
+abbrev pub waiting_in : Outgoing → ℕ
+waiting_in o = vec_len o.bytes - o.sent
+
+-- the bytes that wait for an application, and how many may: as many as a packet has, and 32 KB
+abbrev pub waiting_for : Option Application → ℕ
+waiting_for None = 0
+waiting_for (Some a) = waiting_in a.out
+
+abbrev pub most_for : Option Application → ℕ
+most_for None = 0
+most_for (Some a) = a.out.size + 32768
+
+-- the length of the news of a reset, where this is told
+abbrev pub news_length : Bool → ℕ
+news_length true = 14
+news_length false = 0
+
+-- there is room for a packet so long, which isn't set anew, and for the news of a reset where this is told before it
+pub record IsRoom (goes : News) (o : Outgoing) (count : ℕ) : Type 0 where
+  pub whole : goes.is_cut ≡ false
+  pub room : o.is_full ≡ false
+  pub fits : waiting_in o + (news_length goes.is_told + count) ≤ o.size + 32768
 
 -- ---- Where an application is
 

@@ -65,7 +65,7 @@ impl Application {
     ghost use Rattle.tds_relay.specs.Core.{AsksFor, IfOpen, IsHere, Open, end_acknowledged, asks_by, closes_for, end_hears, is_at_end, lets_go, move_stage};
     ghost use Rattle.tds_relay.specs.Machine.{hears_of_reset, is_said};
     ghost use Rattle.tds_relay.specs.Queues.{tagged, empty_queue, queue_of};
-    ghost use Rattle.tds_relay.specs.Parking.{has_no_request};
+    ghost use Rattle.tds_relay.specs.Fronts.{has_no_request};
     ghost use Rattle.tds_relay.specs.Places.{begun_more};
     ghost use Rattle.tds_relay.specs.Reasons.{HasGoneOut, IsUnbegun};
     ghost use Rattle.tds_relay.specs.Told.{own_room, room_to_keep};

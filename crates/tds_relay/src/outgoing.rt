@@ -42,7 +42,7 @@ pub(crate) struct Outgoing {
 }
 
 impl Outgoing {
-    ghost use Rattle.tds_relay.specs.Bounds.{news_length, waiting_in};
+    ghost use Rattle.tds_relay.specs.Told.{news_length, waiting_in};
     ghost use Rattle.tds_relay.specs.Queues.{fits, empty_queue, queue_in, put_behind, put_news, without_first};
 
     pub(crate) fn new(alloc: Global, size: PacketSize) -> Outgoing

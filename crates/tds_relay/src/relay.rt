@@ -7,7 +7,7 @@ ghost use Rattle.tds_service.specs.Sizes.{AllSized};
 ghost use Rattle.tds_relay.specs.Apart.{SparesOthers};
 ghost use Rattle.tds_relay.specs.Asking.{IsUnderway};
 ghost use Rattle.tds_relay.specs.Bodies.{AskAsBefore, Nowhere, body_of};
-ghost use Rattle.tds_relay.specs.Bounds.{waiting_for};
+ghost use Rattle.tds_relay.specs.Told.{waiting_for};
 ghost use Rattle.tds_relay.specs.Closings.{ClosesOnly, NoKey, register_in};
 ghost use Rattle.tds_relay.specs.Pool.{find_key, find_number, key_of, new_pool};
 ghost use Rattle.tds_relay.specs.Fronts.{Moved, ends_in, core_in, machine_in};

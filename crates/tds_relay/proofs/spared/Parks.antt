@@ -11,9 +11,8 @@ use Rattle.tds_relay.specs.declared.relay.Relay as code
 use Rattle.tds_relay.specs.Apart.{UnlessServed}
 use Rattle.tds_relay.specs.Bodies.{AskOn, Body, Closed, Spared, body_by, body_in, body_of, going_of}
 use Rattle.tds_relay.specs.Few.{Few, NoneNew}
-use Rattle.tds_relay.specs.Fronts.{core_in}
+use Rattle.tds_relay.specs.Fronts.{core_in, has_no_request, is_asking_nothing, may_park_in}
 use Rattle.tds_relay.specs.Core.{End, EndList, Core, change_end, end_at, is_in, lets_go, may_park}
-use Rattle.tds_relay.specs.Parking.{has_no_request, is_asking_nothing, may_park_in}
 use Rattle.tds_relay.specs.Sparing.{AllGo, OthersRest, Rests}
 use Rattle.tds_relay.specs.Ties.{IsReached, Leaving, pool_in}
 use Rattle.tds_relay.proofs.spared.Apart.{set_apart}

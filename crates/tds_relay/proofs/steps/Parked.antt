@@ -15,9 +15,8 @@ use Rattle.tds_relay.specs.declared.pool.Mode.{Mode}
 use Rattle.tds_relay.specs.declared.pool.Mode.TheVariants.{Sessions, Transactions}
 use Rattle.tds_relay.specs.Pool.{Pool, find_key, owes_of}
 use Rattle.tds_relay.specs.Core.{End, Open, Over, Core, IfOpen, IsHere, MayPart, end_at, is_at_end, may_park}
-use Rattle.tds_relay.specs.Fronts.{own_end, ends_in}
+use Rattle.tds_relay.specs.Fronts.{own_end, ends_in, has_no_request}
 use Rattle.tds_relay.specs.Law.{Rested}
-use Rattle.tds_relay.specs.Parking.{has_no_request}
 use Rattle.tds_relay.specs.Places.{holds_clean, is_by_transactions, is_clean_of, is_clean_on, is_done_with}
 use Rattle.tds_relay.proofs.steps.Fed.{end_there}
 use Rattle.tds_relay.proofs.steps.Fronts as ends

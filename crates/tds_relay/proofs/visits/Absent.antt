@@ -1,7 +1,7 @@
 -- An application has nothing at the pool where it enters; and since, it comes to wait only where it has nothing there.
 use Rattle.std.proofs.Common.{◌≡◌, ◌∙◌, ℕ, Bool, true, false, List, [], ◌∷◌, ◌++◌, refl, sym, ap, subst}
 use Rattle.std.specs.Prelude.{None}
-use Rattle.tds_relay.specs.Away.{IsAway, WaitsAway, done_before, done_since}
+use Rattle.tds_relay.specs.Law.{IsAway, WaitsAway, done_before, done_since}
 use Rattle.tds_relay.specs.Behind.{events_along}
 use Rattle.tds_relay.specs.Pool as pool
 use Rattle.tds_relay.specs.Pool.{Pool, Event, Sharing, pool_after, new_pool, turn}

@@ -22,7 +22,7 @@ ghost use Rattle.tds_packet.specs.Stream.{IsLess};
 ghost use Rattle.tds_relay.specs.Reads.{BytesCome, IsLessAt, OpensOthers, StreamsAll};
 ghost use Rattle.tds_relay.specs.Reads.{answer_at, if_heard, open_at, open_waits, waits_on};
 ghost use Rattle.tds_relay.specs.Reads.{queue_on, seen_at};
-ghost use Rattle.tds_relay.specs.Bounds.{IsRoom};
+ghost use Rattle.tds_relay.specs.Told.{IsRoom};
 ghost use Rattle.tds_relay.specs.Ordering.{GrowsByOrders, OpensNew, StayOrdered, opens_in};
 ghost use Rattle.tds_relay.specs.Sending.{sending_at};
 ghost use Rattle.tds_relay.specs.Sparing.{OffGo, OffHold};

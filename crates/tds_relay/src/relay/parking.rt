@@ -11,7 +11,7 @@ ghost use Rattle.tds_relay.specs.Fronts.{ends_in, core_in, machine_in};
 ghost use Rattle.tds_relay.specs.Core.{IsThereAndAway, change_end, holder, lets_go};
 ghost use Rattle.tds_relay.specs.Machine.{IsLedTo, Steps};
 ghost use Rattle.tds_relay.specs.Ordering.{GrowsByOrders, OpensNew, StayOrdered};
-ghost use Rattle.tds_relay.specs.Parking.{may_park_in};
+ghost use Rattle.tds_relay.specs.Fronts.{may_park_in};
 ghost use Rattle.tds_relay.specs.Places.{held_by};
 ghost use Rattle.tds_relay.specs.Queues.{queues_in};
 ghost use Rattle.tds_relay.specs.Reads.{Opens};

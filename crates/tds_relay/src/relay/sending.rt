@@ -4,7 +4,7 @@ ghost use Rattle.std.specs.Prelude.{◌++◌, IfOk, IsSome, List, false, option_
 ghost use Rattle.slab.specs.Slab.{get};
 ghost use Rattle.tds_relay.specs.Apart.{Alone, SparesOthers};
 ghost use Rattle.tds_relay.specs.Bodies.{AskAsBefore, AskOn};
-ghost use Rattle.tds_relay.specs.Bounds.{most_for};
+ghost use Rattle.tds_relay.specs.Told.{most_for};
 ghost use Rattle.tds_relay.specs.Closings.{ClosesOnly, IsWho, NoKey, register_in, times_closed};
 ghost use Rattle.tds_relay.specs.Pool.{find_number};
 ghost use Rattle.tds_relay.specs.Fronts.{MovedOn, ends_in, core_in, machine_in};

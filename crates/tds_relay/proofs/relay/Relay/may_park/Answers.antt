@@ -1,9 +1,8 @@
 use Rattle.std.proofs.Common.{◌∙◌, ap, inl, inr, rules, sym}
 use Rattle.slab.specs.Slab.{get}
 use Rattle.tds_relay.specs.Pool.{find_key}
-use Rattle.tds_relay.specs.Fronts.{ends_in}
+use Rattle.tds_relay.specs.Fronts.{ends_in, has_no_request}
 use Rattle.tds_relay.specs.Core.{end_at, is_at_end}
-use Rattle.tds_relay.specs.Parking.{has_no_request}
 use Rattle.tds_relay.specs.Places.{holds_clean, is_by_transactions}
 use Rattle.tds_relay.specs.Ties.{pool_in}
 use Rattle.tds_relay.proofs.steps.Parked.{never, nobodys_end}

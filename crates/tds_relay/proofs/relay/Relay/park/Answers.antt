@@ -1,7 +1,6 @@
 use Rattle.std.proofs.Common.{◌≡◌, ◌∙◌, rules, sym, true, Some, ℕ, inl, subst}
 use Rattle.tds_relay.specs.Closings.{IsWaiting, NoKey, register_in}
-use Rattle.tds_relay.specs.Fronts.{ends_in, core_in, machine_in}
-use Rattle.tds_relay.specs.Parking.{may_park_in}
+use Rattle.tds_relay.specs.Fronts.{ends_in, core_in, machine_in, may_park_in}
 use Rattle.tds_relay.specs.Queues.{queues_in}
 use Rattle.tds_relay.specs.Ties.{Application, Parking, pool_in}
 use Rattle.tds_relay.proofs.spared.Closings.{closes_both, closes_more, closes_nobody}
