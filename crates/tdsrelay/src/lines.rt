@@ -119,7 +119,7 @@ impl Program {
             },
             at: socket.seen.at,
             seconds: self.seconds_since(socket.seen.since),
-            limit: limit_of(socket.seen.at, &self.limits_of(socket.role_kind())),
+            limit: limit_of(socket.seen.at, &self.limits_for(socket.role_kind())),
             partner: socket.partner,
             names: socket.names(),
             peer: socket.peer,

@@ -5,7 +5,7 @@ use relay_groups::{Group, RelayState, relay_of};
 use relay_settings::server_of;
 use relay_sockets::{Role, RoleKind};
 use relay_status::{
-    At, FAR, Figures, NO_HTTP, PAGES, Page, STRANGE, UNMEANT, put_answer, put_metrics, put_server,
+    FAR, Figures, NO_HTTP, PAGES, Page, STRANGE, UNMEANT, put_answer, put_metrics, put_server,
     put_text_figures, put_user, put_users, sum,
 };
 use std::io::{self, Write};
@@ -159,7 +159,7 @@ impl Program {
         for (_, entry) in sockets.iter() {
             let socket = &entry.value;
             figures.add(socket.told(), socket.seen.at);
-            if matches!(socket.seen.at, At::Waiting | At::Opening | At::TakenBack) {
+            if socket.seen.at.is_wait() {
                 figures.waited(now.saturating_sub(socket.seen.since) / 1000);
             }
         }

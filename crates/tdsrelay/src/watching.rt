@@ -52,7 +52,7 @@ impl Program {
             At::Free => why_free(groups, role_kind),
             _ => None,
         };
-        let (now, limits) = (self.event_loop.now(), self.limits_of(role_kind));
+        let (now, limits) = (self.event_loop.now(), self.limits_for(role_kind));
         let socket = self.event_loop.state.sockets.get_mut(key)?;
         socket.see(at, mark, now);
         let lasted = now.saturating_sub(socket.seen.since);
@@ -74,7 +74,7 @@ impl Program {
     /// are; what it is asked behind the login has the time of one more. Who waits until they authenticate is told what
     /// becomes of it, so has all their shares, that time, and the times from one look at limits to the next. A
     /// connection that isn't shared may be idle as long as its application is there.
-    pub fn limits_of(&self, role_kind: RoleKind) -> Limits {
+    pub fn limits_for(&self, role_kind: RoleKind) -> Limits {
         let mut limits = self.event_loop.asked.limits;
         let (login, servers) = (limits.login, self.event_loop.asked.servers.count());
         match role_kind {
@@ -167,7 +167,18 @@ impl Program {
                 .state
                 .put_refusal(key, UNANSWERED),
             (_, Why::Login | Why::Cancel) => self.event_loop.ended(rt, key, Cause::Silent),
-            _ => self.event_loop.ended(rt, key, Cause::Own),
+            (
+                _,
+                Why::Wait
+                | Why::Hold
+                | Why::Transaction
+                | Why::Request
+                | Why::Idle
+                | Why::Old
+                | Why::End
+                | Why::Paused
+                | Why::Over,
+            ) => self.event_loop.ended(rt, key, Cause::Own),
         }
     }
 
