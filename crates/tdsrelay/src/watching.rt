@@ -6,7 +6,7 @@ use crate::why::{Why, why_late};
 use relay_groups::{Group, RelayState, relay_of};
 use relay_logins::{Groups, UNANSWERED};
 use relay_settings::{Limits, is_beyond};
-use relay_sockets::{Cause, Role, RoleKind};
+use relay_sockets::{Role, RoleKind};
 use relay_status::{At, raise};
 use std::io;
 use std::net::Net;
@@ -166,19 +166,7 @@ impl Program {
                 .event_loop
                 .state
                 .put_refusal(key, UNANSWERED),
-            (_, Why::Login | Why::Cancel) => self.event_loop.ended(rt, key, Cause::Silent),
-            (
-                _,
-                Why::Wait
-                | Why::Hold
-                | Why::Transaction
-                | Why::Request
-                | Why::Idle
-                | Why::Old
-                | Why::End
-                | Why::Paused
-                | Why::Over,
-            ) => self.event_loop.ended(rt, key, Cause::Own),
+            _ => self.event_loop.ended(rt, key, why.cause()),
         }
     }
 

@@ -1,6 +1,7 @@
 //! Why what has lasted too long is closed, and what is told of that.
 
 use relay_settings::{Limits, is_beyond};
+use relay_sockets::Cause;
 use relay_status::At;
 
 /// Why something is closed.
@@ -37,6 +38,22 @@ impl Why {
             Why::Paused => "is closed, since its group is paused",
             Why::Over => "is closed, since its login isn't authenticated any more (--judge-again)",
             Why::End => "is closed, since the relay ends",
+        }
+    }
+
+    /// Who has to do with it, where no application is told: a socket that was silent, or the relay.
+    pub fn cause(self) -> Cause {
+        match self {
+            Why::Login | Why::Cancel => Cause::Silent,
+            Why::Wait
+            | Why::Hold
+            | Why::Transaction
+            | Why::Request
+            | Why::Idle
+            | Why::Old
+            | Why::Paused
+            | Why::Over
+            | Why::End => Cause::Own,
         }
     }
 
