@@ -1,5 +1,5 @@
--- A server that keeps the rules of MS-TDS, as far as a client's session rests on them. It is any server: what it answers may depend on
--- all that its users do, so what it says to each request is by the request's number too.
+-- A server that keeps the rules of MS-TDS, as far as a client's session rests on them. It is any server: what it answers may depend
+-- on all that its users do, which no session has: so each request has an answer of its own, by the request's number.
 use Rattle.std.specs.Prelude.{◌≡◌, ℕ, ◌||◌, not, Bool, true, false, List, [], ◌∷◌, Option, Some, None}
 use Rattle.tds_packet.specs.declared.status.Reset.{Reset}
 use Rattle.tds_packet.specs.Layout.{has_bit}
@@ -38,8 +38,8 @@ abbrev pub reset_by : {V : Type 0} → V → Reset → Session V → Session V
 reset_by settings reset s = record { transaction = header_descriptor (Some reset) s.transaction; settings = settings }
 
 -- The session behind a token. A transaction begins and ends with its change alone (MS-TDS 2.2.7.9, types 8, 9, 10). Where a reset is
--- asked for and isn't done yet, it is done first, which is told (type 18); the transaction that it ends may be told to be rolled back.
--- A request that resets its session by itself (`sp_reset_connection`) may be told alike: the transaction has ended then.
+-- asked for and isn't done yet, it is done first, which the server tells (type 18); that the transaction which it ends was rolled
+-- back may be told too (type 10), and of a request that resets its session by itself (`sp_reset_connection`) both may.
 abbrev pub Leads : {V : Type 0} → V → Option Reset → Session V → Sign → Session V → Type 0
 Leads settings None s signs.Nothing after = after.transaction ≡ s.transaction
 Leads settings None s (signs.Change change) after = change_placed None s.transaction change ≡ Some after.transaction
@@ -77,7 +77,7 @@ IsAnswer settings reset s final (Breaks ∷ steps) = ⊥
 
 -- ---- Attentions (MS-TDS 2.2.1.7)
 
--- Behind an attention nothing is run. The transaction may be rolled back, which is told.
+-- After an attention nothing is run. The transaction may be rolled back, which the server tells.
 abbrev pub LeadsOut : {V : Type 0} → Session V → Sign → Session V → Type 0
 LeadsOut s signs.Nothing after = after.transaction ≡ s.transaction
 LeadsOut s (signs.Change (changes.Rollback d)) after = ended_at s.transaction d ≡ Some after.transaction

@@ -37,7 +37,7 @@ abbrev pub SaidAsOwed : {V T : Type 0} → V → Option Reset → Session V → 
 SaidAsOwed settings (Some reset) s (Says item after ∷ due) = Leads settings (Some reset) s item.sign after ⊎ LeadsOut s item.sign after
 SaidAsOwed settings owed s due = Unit {0}
 
--- So it is along these moves, also behind a loss of the connection.
+-- So it is along these moves; where the connection is lost among them, also after that.
 abbrev pub StartsFresh : {V T : Type 0} → Engine V T → Option Reset → Link V T → List (Move T) → Type 0
 StartsFresh engine owed link [] = Unit {0}
 StartsFresh engine owed link (Here d ∷ moves) = StartsFresh engine (owed_here owed d.act d.answer) (goes engine link (Here d)) moves
