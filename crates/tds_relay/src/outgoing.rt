@@ -110,7 +110,7 @@ impl Outgoing {
     }
 
     /// Appends bytes that are to be sent, all of them or none.
-    #[tactic(auto, unfolding(crate::specs::Queues::put))]
+    #[tactic(auto, unfolding(crate::specs::Queues::put_behind))]
     pub(crate) fn append(&mut self, bytes: &[u8]) -> Result<(), NoMemory>
         ensures ok { OnOk result (self.new.bytes.items ≡ (if self.new.is_full
             then self.old.bytes.items else self.old.bytes.items ++ bytes.now)) }
@@ -132,7 +132,7 @@ impl Outgoing {
     }
 
     /// Appends a packet, all of it or nothing.
-    #[tactic(auto, unfolding(crate::specs::Queues::put))]
+    #[tactic(auto, unfolding(crate::specs::Queues::put_behind))]
     pub(crate) fn put_packet(&mut self, header: Header, content: &[u8]) -> Result<(), NoMemory>
         requires { header.length ≡ 8 + length content.now }
         ensures ok { OnOk result (self.new.bytes.items ≡ (if self.new.is_full

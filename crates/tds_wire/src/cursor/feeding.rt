@@ -12,7 +12,7 @@ use crate::memory::Memory;
 
 impl Cursor {
     /// Takes a byte.
-    #[tactic(auto, unfolding(crate::specs::Bytes::step))]
+    #[tactic(auto, unfolding(crate::specs::Bytes::walk_step))]
     fn take(&mut self, memory: &mut Memory, byte: u8)
         ensures { walk_of self.new memory.new ≡ walk_step (walk_of self.old memory.old) byte }
     {
