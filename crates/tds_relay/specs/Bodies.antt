@@ -2,6 +2,8 @@
 use Rattle.std.specs.Prelude.{◌≡◌, ◌⊎◌, ◌-◌, ℕ, Bool, true, false, List, [], ◌∷◌, ◌++◌, drop, length, take, Option, Some, None, Ok, option_map, if◌then◌else◌}
 use Rattle.slab.specs.Slab.{Slab, get}
 use Rattle.tds_packet.specs.declared.kind.Kind.{Kind}
+use Rattle.tds_packet.specs.declared.status.Reset.{Reset}
+use Rattle.tds_packet.specs.declared.status.Reset.TheVariants.{Full}
 use Rattle.tds_client.specs.declared.message.MessageKind.{MessageKind}
 use Rattle.tds_client.specs.Session.{ClientSession}
 use Rattle.tds_client.specs.Streamed.{Streams}
@@ -95,8 +97,9 @@ abbrev pub ArePut : Bool → List ℕ → ClientSession → ClientSession → Li
 ArePut false more from to out = put from more ≡ Ok (record { answer = tt; session = to; bytes = out })
 ArePut true more from to out = Streams from (more ∷ []) out to
 
--- It stays, or its application is to be closed; of one that is astray nothing is said. Or one that has waited is put as it was kept, all of
--- it, by a client that begins a request of its kind; what goes out by that waits behind what waited on its connection.
+-- It stays, or its application is to be closed; of one that is astray nothing is said. Or one that has
+-- waited is put as it was kept, all of it, by a client that begins a request of its kind; what goes out
+-- by that waits last on its connection, behind some bytes (which those are, `StartsInPlace` says).
 pub data Starts : Body → Body → Type 0 where
   Stays : {b : Body} → Starts b b
   Closes : {b : Body} → Starts b Closed
@@ -212,9 +215,15 @@ pub record PutsFrom (waits : ℕ → Option (List ℕ)) (mid : Body) (new : Body
 abbrev pub GoesFrom : BodyAndWaits → BodyAndWaits → Type 0
 GoesFrom old new = PutsFrom old.1 old.0 new
 
--- where a request begins
-abbrev pub BeginsFrom : Kind → BodyAndWaits → BodyAndWaits → Type 0
-BeginsFrom kind old new = (mid : Body) × BeginsBody kind mid × PutsFrom old.1 mid new
+-- Where a request begins, it starts so. Where it asks for no reset, and nothing of it goes on, nothing
+-- is put; of one that asks for a full one nothing goes on yet.
+pub record BeginsFrom (kind : Kind) (reset : Option Reset) (old new : BodyAndWaits) : Type 0 where
+  pub mid : Body
+  pub begins : BeginsBody kind mid
+  pub starts : StartsInPlace old.1 mid new.0
+  pub still : reset ≡ None → IsStill mid → IsStill new.0
+      → (number : ℕ) → StaysAt (old.1 number) (new.1 number)
+  pub parts : reset ≡ Some Full → Spared mid new.0
 
 -- where these bytes of it have come
 abbrev pub GrowsFrom : Bool → List ℕ → BodyAndWaits → BodyAndWaits → Type 0
@@ -224,10 +233,13 @@ GrowsFrom whole more old new = (mid : Body) × Grows whole more old.0 mid × Put
 abbrev pub PutsNothing : BodyAndWaits → BodyAndWaits → Type 0
 PutsNothing old new = IsStill old.0 → (number : ℕ) → StaysAt (old.1 number) (new.1 number)
 
--- By a piece of a request nothing is put but what goes out of that; of one that begins, and asks for a reset, nothing is said.
+-- While nothing of a request goes on, nothing is put by a piece of it; of one that goes on, its body
+-- says what waits on its connection, and of others nothing is said. Nor is it of what is put where one
+-- that begins asks for a reset, but of its own bytes, and where one that has gone on is taken back, or
+-- an attention handed on.
 abbrev pub PutsSaid : Said → List ℕ → BodyAndWaits → BodyAndWaits → Type 0
 PutsSaid said.Nothing taken old new = GoesFrom old new
-PutsSaid (said.Begin kind reset) taken old new = reset ≡ None → BeginsFrom kind old new
+PutsSaid (said.Begin kind reset) taken old new = BeginsFrom kind reset old new
 PutsSaid (said.Body count) taken old new = GrowsFrom false (last_of count taken) old new
 PutsSaid (said.End count) taken old new = GrowsFrom true (last_of count taken) old new
 PutsSaid (said.Forget false) taken old new = PutsNothing old new
@@ -260,7 +272,8 @@ pub record Heeds (answer : Said) (taken : List ℕ) (old new : BodyAndWaits) : T
   pub cancels : CancelsSaid answer old.0 new
   pub puts : PutsSaid answer taken old new
 
--- Piece by piece of what steps take of an application: as AreFollowed, with what waits; between them nothing is put.
+-- Piece by piece of what steps take of an application: as AreFollowed, with what waits; between them
+-- nothing is put, or its application is to be closed, and then anything.
 abbrev pub AreHeeded : ℕ → Machine → List Step → BodyAndWaits → BodyAndWaits → Type 0
 AreHeeded key h [] old new = RestsFrom old new
 AreHeeded key h (Takes other bytes ∷ steps) old new =

@@ -325,7 +325,8 @@ IsNotPut _ = ⊥
 
 -- Nobody waits who has begun no request, holds a connection, or waits already; who waits does so
 -- until it asks nothing. A request is asked where its reset is done. Who keeps a transaction by
--- another lease asks for the reset that does so. What else moves an end isn't done alone.
+-- another lease asks for the reset that does so, and memory is given to that: refused, it would lose
+-- the connection, and be told nothing. What else moves an end isn't done alone.
 abbrev pub MayDoAlone : Core → Event → Type 0
 MayDoAlone h (pool.Waits key) = IsThereAndAway h key × IfOpen IsBegun (end_at h.ends key)
 MayDoAlone h (pool.Unwaits key) = IfOpen AsksNothing (end_at h.ends key)
@@ -333,7 +334,8 @@ MayDoAlone h pool.Serves = Unit {0}
 MayDoAlone h (pool.Brings gives way) = Unit {0}
 MayDoAlone h (pool.Does key action) = IsNotPut action × MayDo action (end_at h.ends key)
     × WhereAsked action (IsReset h.pool key (end_at h.ends key))
-MayDoAlone h (pool.Renews key resumes) = AsksFor KeepTransaction (end_at h.ends key)
+MayDoAlone h (pool.Renews key resumes) = (resumes ≡ true)
+    × AsksFor KeepTransaction (end_at h.ends key)
 MayDoAlone h _ = ⊥
 
 -- where it is somebody's

@@ -38,10 +38,15 @@ waiting_on number ls = or_nothing (waits_on number ls)
 abbrev pub PartsFor : (Reset → Type 0) → ℕ → Core → Type 0
 PartsFor Asks key h = IfOpen IsHere (end_at h.ends key) × (Asks Full ⊎ (Asks KeepTransaction × HasNoTransaction h.pool key))
 
--- The only ways in which it may hold that no more: its request asks for a reset that does so; it has left; or its connection is lost, or says
--- what no server may.
+-- It holds the connection of this number.
+abbrev pub HoldsThat : ℕ → ℕ → Core → Type 0
+HoldsThat key number h = (hold : Hold) × (find_key key h.pool.holds ≡ Some hold) × (hold.number ≡ number)
+
+-- The only ways in which it may hold that no more: its request asks for a reset that does so, and by one that keeps its transaction it holds
+-- the same connection by another lease, where it isn't parted; it has left; or its connection is lost, or says what no server may.
 abbrev pub Parts : (Reset → Type 0) → ℕ → Hold → Core → Move → Type 0
-Parts Asks key hold h (Does (pool.Renews other resumes)) = (other ≡ key) × Asks KeepTransaction
+Parts Asks key hold h (Does (pool.Renews other resumes)) =
+    (other ≡ key) × Asks KeepTransaction × HoldsThat key hold.number (moved h (Does (pool.Renews other resumes)))
 Parts Asks key hold h (LetsGo other parks gives way) = (other ≡ key) × PartsFor Asks key h
 Parts Asks key hold h (Replaces number) = (number ≡ hold.number) × PartsFor Asks key h
 Parts Asks key hold h (Quits other gives way) = other ≡ key

@@ -190,10 +190,10 @@ HasTransaction d key =
 -- request away.
 pub data IsUnrenewed (Stays : Type 0) (key : ℕ) (end : Option End) (d : pools.Pool)
     (links : List Link) (body : Body) : Type 0 where
-  Unkept : (resumes : Bool) → (turn (pool_in d) (pool.Renews key resumes)).pool ≡ pool_in d → Stays
+  Unkept : (turn (pool_in d) (pool.Renews key true)).pool ≡ pool_in d → Stays
       → IsUnrenewed Stays key end d links body
-  Unserved : (resumes : Bool) (mid : pools.Pool) → MayKeep (pool_in d) key
-      → pool_in mid ≡ (turn (pool_in d) (pool.Renews key resumes)).pool
+  Unserved : (mid : pools.Pool) → MayKeep (pool_in d) key
+      → pool_in mid ≡ (turn (pool_in d) (pool.Renews key true)).pool
       → IsTurnedAway key end mid links body → IsUnrenewed Stays key end d links body
 
 -- Packets of its type are no request. Or it isn't asked on the connection that its application

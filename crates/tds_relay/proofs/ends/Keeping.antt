@@ -9,14 +9,15 @@ use Rattle.tds_service.specs.Parts.{Part}
 use Rattle.tds_relay.specs.declared.pool.Hold.{Hold}
 use Rattle.tds_relay.specs.declared.pool.Mode.TheVariants.{Sessions, Transactions}
 use Rattle.tds_relay.specs.Pool as pool
-use Rattle.tds_relay.specs.Pool.{Action, Pool, Event, Hearing, Sharing, Way, pool_after, find_key, new_pool, turn}
+use Rattle.tds_relay.specs.Pool.{Action, Pool, PoolTurn, Event, Hearing, Sharing, Way, pool_after, find_key, holding, new_pool, turn}
 use Rattle.tds_relay.specs.Core as core
 use Rattle.tds_relay.specs.Core.{AsksFor, Core, IfWhose, MayDoAlone, MayMove, MayMoveAll, MayPart, Move, dones_of_part, end_at, event_if, events_of, holder, may_park, moved, moved_all, new_core, stops_of}
 use Rattle.tds_relay.specs.Law.{IsParked, KeepsTransaction, Parts}
 use Rattle.tds_relay.proofs.promises.Caring.{Sound}
 use Rattle.tds_relay.proofs.held.Away.{WaitsOnce, no_place}
 use Rattle.tds_relay.proofs.held.Lists.{places, theirs_found, theirs_none}
-use Rattle.tds_relay.proofs.held.Others.{IsOthers, found, passes}
+use Rattle.tds_relay.proofs.held.Kept.{Goes, Lends, Renewed, Rests, renewed}
+use Rattle.tds_relay.proofs.held.Others.{IsOthers, found, number_is, passes}
 use Rattle.tds_relay.proofs.held.Ours.{came_done, actions, heard_of, hears_right}
 use Rattle.tds_relay.proofs.held.Seated.{AllSit}
 use Rattle.tds_relay.proofs.ends.Standing.{AtPool, HoldsOne, own_holder}
@@ -58,11 +59,19 @@ module _ (h : Core) (key : ℕ) (sound : Sound h.pool) (sit : AllSit h.pool) (k 
   waits other true e away = absurd (never_waits d key sound sit k (subst (λ (x : ℕ). find_key x d.holds ≡ None) (eqb-true other key e) away.holds))
   waits other false e away = inl (others (pool.Waits other) e)
 
-  renews : (other : ℕ) (resumes b : Bool) → (other == key) ≡ b → AsksFor KeepTransaction (end_at h.ends other) → Keeps (core.Does (pool.Renews other resumes))
-  renews other resumes true e may =
+  renews_own : Renewed d key k.hold k.seat true → AsksFor KeepTransaction (end_at h.ends key) → Keeps (core.Does (pool.Renews key true))
+  renews_own (Rests none is) asks = inl (ap (λ (t : PoolTurn). find_key key t.pool.holds) is ∙ still)
+  renews_own (Lends ticket some given idle lent) asks =
+      let its : Hold = holding k.hold.key lent.lease k.seat.number in
+      inr (inl (refl, asks, (its, theirs_found key its (turn d (pool.Renews key true)).pool.holds lent.its.sole, number_is d key k.hold k.seat sound k.its)))
+  renews_own (Goes ticket some given idle gone) asks = absurd (let u : ⊥ = cc in u)
+
+  renews : (other : ℕ) (resumes b : Bool) → (other == key) ≡ b → resumes ≡ true → AsksFor KeepTransaction (end_at h.ends other) → Keeps (core.Does (pool.Renews other resumes))
+  renews other resumes true e given asks =
       let is = eqb-true other key e in
-      inr (inl (is, subst (λ (x : ℕ). AsksFor KeepTransaction (end_at h.ends x)) is may))
-  renews other resumes false e may = inl (others (pool.Renews other resumes) e)
+      let own : Keeps (core.Does (pool.Renews key true)) = renews_own (renewed d key k.hold k.seat sound k.its true) (subst (λ (x : ℕ). AsksFor KeepTransaction (end_at h.ends x)) is asks) in
+      subst (λ (x : ℕ). Keeps (core.Does (pool.Renews x resumes))) (sym is) (subst (λ (b : Bool). Keeps (core.Does (pool.Renews key b))) (sym given) own)
+  renews other resumes false e given asks = inl (others (pool.Renews other resumes) e)
 
   lets : (other : ℕ) (parks gives : Bool) (way : Way) (b : Bool) → (other == key) ≡ b → MayMove h (core.LetsGo other parks gives way) → Keeps (core.LetsGo other parks gives way)
   lets other false gives way true e may =
@@ -107,7 +116,7 @@ module _ (h : Core) (key : ℕ) (sound : Sound h.pool) (sit : AllSit h.pool) (k 
   alone (pool.Brings gives way) may = inl (others (pool.Brings gives way) tt)
   alone (pool.Does other action) may = inl (does other action (other == key) refl)
   alone (pool.Leaves other gives way) may = absurd may
-  alone (pool.Renews other resumes) may = renews other resumes (other == key) refl may
+  alone (pool.Renews other resumes) may = renews other resumes (other == key) refl may.0 may.1
   alone (pool.Comes number part way) may = absurd may
   alone (pool.Loses number) may = absurd may
 

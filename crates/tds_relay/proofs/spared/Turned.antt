@@ -246,8 +246,8 @@ turned_kept key end d links body (Unreset kept ready not) = kept
 -- ---- What is to keep its transaction
 
 pub renewed_as : (Stays : Type 0) (key : ℕ) (end : Option End) (d : pools.Pool) (a b : List Link) (body was : Body) → KeepsQueues a b → (IsKept body → was ≡ body) → IsUnrenewed Stays key end d b body → IsUnrenewed Stays key end d a was
-renewed_as Stays key end d a b body was alike same (reasons.Unkept resumes is stays) = reasons.Unkept resumes is stays
-renewed_as Stays key end d a b body was alike same (reasons.Unserved resumes mid may is why) = reasons.Unserved resumes mid may is (turned_as key end mid a b body was alike same why)
+renewed_as Stays key end d a b body was alike same (reasons.Unkept is stays) = reasons.Unkept is stays
+renewed_as Stays key end d a b body was alike same (reasons.Unserved mid may is why) = reasons.Unserved mid may is (turned_as key end mid a b body was alike same why)
 
 resume_as : (key : ℕ) (end : Option End) (d : pools.Pool) (a b : List Link) (body was : Body) → KeepsQueues a b → (IsKept body → was ≡ body) → CannotResume key end d b body → CannotResume key end d a was
 resume_as key end d a b body was alike same (inl x) = inl (x.0, turned_as key end d a b body was alike same x.1)
@@ -313,12 +313,12 @@ pub resumes_for : (number key other : ℕ) (old : code.Relay) → other ≡ key 
     → IsUnrenewed (CannotMove key (end_at (ends_in old.applications) key) (pool_in old.pool)) key (end_at (ends_in old.applications) key) old.pool old.links.items (body_of key old) → ResumesNotAt number key old other
 resumes_for number key other old same asks why = inl (ap (λ (k : ℕ). Some k) (sym same), inr (subst (λ (k : ℕ). CannotResumeAt k old) (sym same) (inr (asks, why))))
 
-pub stays_for : (number key other : ℕ) (old : code.Relay) (d : Pool) → AsksFor KeepTransaction (end_at (ends_in old.applications) key) → d ≡ pool_in old.pool → (resumes : Bool) → (turn (pool_in old.pool) (Renews key resumes)).pool ≡ pool_in old.pool
+pub stays_for : (number key other : ℕ) (old : code.Relay) (d : Pool) → AsksFor KeepTransaction (end_at (ends_in old.applications) key) → d ≡ pool_in old.pool → (turn (pool_in old.pool) (Renews key true)).pool ≡ pool_in old.pool
     → (other ≡ key) ⊎ (other ≢ key) → IsWho (holder d number) other × CannotMove other (end_at (ends_in old.applications) other) d → ResumesNotAt number key old other
-stays_for number key other old d asks is resumes still (inl same) why =
+stays_for number key other old d asks is still (inl same) why =
     resumes_for number key other old same asks
-    (reasons.Unkept resumes still (subst (λ (k : ℕ). CannotMove k (end_at (ends_in old.applications) k) (pool_in old.pool)) same (subst (λ (e : Pool). CannotMove other (end_at (ends_in old.applications) other) e) is why.1)))
-stays_for number key other old d asks is resumes still (inr differs) why =
+    (reasons.Unkept still (subst (λ (k : ℕ). CannotMove k (end_at (ends_in old.applications) k) (pool_in old.pool)) same (subst (λ (e : Pool). CannotMove other (end_at (ends_in old.applications) other) e) is why.1)))
+stays_for number key other old d asks is still (inr differs) why =
     inr ((λ e. differs (let u : Some key ≡ Some other = e in cc)), subst (λ (e : Pool). IsWho (holder e number) other) is why.0)
 
 -- ---- A connection is written back

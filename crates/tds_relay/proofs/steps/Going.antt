@@ -158,8 +158,8 @@ pub waits_any : (o : Option Application) (whole : Bool) (g h : Body) → waits_o
 waits_any None whole g h e = refl
 waits_any (Some a) whole g h e = ap (λ (x : Body). if a.is_over then Closed else x) (waits_by a.asking whole a.held.items g h e)
 
-pub waits_starts : (m n : Option Application) (whole : Bool) (g h x : Body) → waits_of m ≡ Some whole → Spared (body_in m h) (body_in n h) → x ≡ body_in n h → Starts (body_in m g) x
-waits_starts m n whole g h x e spared is = subst (λ (b : Body). Starts b x) (waits_any m whole h g e) (subst (Starts (body_in m h)) (sym is) (spared_starts (body_in m h) (body_in n h) spared))
+pub waits_spared : (m n : Option Application) (whole : Bool) (g h x : Body) → waits_of m ≡ Some whole → Spared (body_in m h) (body_in n h) → x ≡ body_in n h → Spared (body_in m g) x
+waits_spared m n whole g h x e spared is = subst (λ (b : Body). Spared b x) (waits_any m whole h g e) (subst (Spared (body_in m h)) (sym is) spared)
 
 pub waits_from : (m n : Option Application) (whole : Bool) (g h x : Body) → waits_of m ≡ Some whole → n ≡ m → Starts (body_in n h) x → Starts (body_in m g) x
 waits_from m n whole g h x e same s = subst (λ (b : Body). Starts b x) (ap (λ (o : Option Application). body_in o h) same ∙ waits_any m whole h g e) s

@@ -2,6 +2,9 @@
 use Rattle.std.proofs.Common.{◌≡◌, ◌∙◌, ◌⊎◌, ℕ, Bool, true, false, List, Option, Some, None, inl, inr, refl, sym, ap, subst, if◌then◌else◌}
 use Rattle.std.specs.Prelude.{IsSome}
 use Rattle.slab.specs.Slab.{Slab, get, with_value}
+use Rattle.tds_packet.specs.declared.kind.Kind.{Kind}
+use Rattle.tds_packet.specs.declared.status.Reset.{Reset}
+use Rattle.tds_packet.specs.declared.status.Reset.TheVariants.{Full}
 use Rattle.tds_client.specs.declared.message.MessageKind.{MessageKind}
 use Rattle.tds_client.specs.Session.{ClientSession}
 use Rattle.tds_client.specs.Streams.{opened}
@@ -14,10 +17,12 @@ use Rattle.tds_relay.specs.declared.pool.Pool as pools
 use Rattle.tds_relay.specs.declared.pool.Hold.{Hold}
 use Rattle.tds_relay.specs.declared.link.Link.{Link}
 use Rattle.tds_relay.specs.declared.relay.Relay as code
-use Rattle.tds_relay.specs.Bodies.{Body, BodyAndWaits, Closed, Closing, Follows, Going, Grows, IsStill, Kept, PutsFrom, Remains, Sends, Shuts, Spared, StartsInPlace, body_by, body_in, body_of, going, going_by, going_of, standing_in}
+use Rattle.tds_relay.specs.Asking.{waits_of}
+use Rattle.tds_relay.specs.Bodies.{BeginsBody, BeginsFrom, Body, BodyAndWaits, Closed, Closing, Follows, Going, Grows, IsStill, Kept, PutsFrom, Refuses, Remains, Sends, Shuts, Spared, StartsInPlace, Wanders, body_by, body_in, body_of, going, going_by, going_of, standing_in}
 use Rattle.tds_relay.specs.Pool.{find_key}
 use Rattle.tds_relay.specs.Reads.{StaysAt, waits_on}
 use Rattle.tds_relay.proofs.steps.Bodied.{written_body}
+use Rattle.tds_relay.proofs.steps.Going.{waits_any}
 
 pub same_at : (o : Option (List ℕ)) → StaysAt o o
 same_at None = tt
@@ -99,6 +104,29 @@ put_going X waits key s a b new is goes (inr puts) =
       starts = Remains;
       still = λ was still number. absurd (moves_asked b.is_over b.asking b.held.items g goes (moves new.pool.service new.links.items (find_key key new.pool.holds.items)) (subst IsStill one still));
     }
+
+-- ---- It begins
+
+pub begins_put : (kind : Kind) (reset : Option Reset) (mid : Body) (old new : BodyAndWaits) → BeginsBody kind mid → (reset ≡ Some Full → Spared mid new.0) → PutsFrom old.1 mid new → BeginsFrom kind reset old new
+begins_put kind reset mid old new begins parts p = record { mid = mid; begins = begins; starts = p.starts; still = λ none. p.still; parts = parts }
+
+pub begins_shut : (kind : Kind) (reset : Option Reset) (old new : BodyAndWaits) → new.0 ≡ Closed → BeginsFrom kind reset old new
+begins_shut kind reset old new shut = begins_put kind reset Closed old new Refuses (λ full. inl shut) (put_shut old.1 Closed new shut)
+
+-- wherever the same waits
+place_as : (w v : ℕ → Option (List ℕ)) (a b : Body) → ((number : ℕ) → v number ≡ w number) → StartsInPlace v a b → StartsInPlace w a b
+place_as w v a b same Remains = Remains
+place_as w v a b same Closing = Closing
+place_as w v a b same Wanders = Wanders
+place_as w v a b same (Follows was out from is put) = Follows was out from (sym (same _) ∙ is) put
+
+pub waits_place : (w v : ℕ → Option (List ℕ)) (m n : Option Application) (whole : Bool) (g h x : Body) → waits_of m ≡ Some whole → n ≡ m → ((number : ℕ) → v number ≡ w number) → StartsInPlace v (body_in n h) x → StartsInPlace w (body_in m g) x
+waits_place w v m n whole g h x e alike same s =
+    subst (λ (b : Body). StartsInPlace w b x) (ap (λ (o : Option Application). body_in o h) alike ∙ waits_any m whole h g e) (place_as w v (body_in n h) x same s)
+
+pub spared_place : (w : ℕ → Option (List ℕ)) (a b : Body) → Spared a b → StartsInPlace w a b
+spared_place w a b (inl e) = subst (StartsInPlace w a) (sym e) Remains
+spared_place w a b (inr shut) = subst (StartsInPlace w a) (sym shut) Closing
 
 -- ---- It is taken back
 

@@ -40,7 +40,7 @@ module _ (A B : Reset → Type 0) (leads : (reset : Reset) → A reset → B res
   parts_by (core.Does (pool.Brings gives way)) p = absurd p
   parts_by (core.Does (pool.Does other action)) p = absurd p
   parts_by (core.Does (pool.Leaves other gives way)) p = absurd p
-  parts_by (core.Does (pool.Renews other resumes)) p = (p.0, leads KeepTransaction p.1)
+  parts_by (core.Does (pool.Renews other resumes)) p = (p.0, leads KeepTransaction p.1, p.2)
   parts_by (core.Does (pool.Comes number part way)) p = absurd p
   parts_by (core.Does (pool.Loses number)) p = absurd p
   parts_by (core.Sends other action) p = absurd p

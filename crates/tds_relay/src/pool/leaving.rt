@@ -183,10 +183,10 @@ impl Pool {
         }))
     }
 
-    /// An application keeps its connection with the transaction that is open there.
+    /// An application keeps its connection with the transaction that is open there, by another lease.
     pub fn renew(&mut self, key: usize) -> Result<Renewed, NoMemory>
-        ensures turns { IfOk result (λ renewed. (resumes : Bool) × Turns (Renews key resumes)
-            (pool_in self.old) (pool_in self.new) [] []) }
+        ensures turns { OnOk result (Turns (Renews key true) (pool_in self.old)
+            (pool_in self.new) [] []) }
         ensures stand { OnOk result (AllStand self.old.service self.new.service) }
         ensures seats { IsReached (pool_in self.old) → IfOk result (λ renewed. RenewsSeat renewed
             (pool_in self.old).service (pool_in self.new).service) }

@@ -5,7 +5,7 @@ ghost use Rattle.slab.specs.Slab.{get};
 ghost use Rattle.tds_relay.specs.Asking.{IsTakenBack, IsUnderway, waits_of};
 ghost use Rattle.tds_client.specs.Streams.{packets_are};
 ghost use Rattle.tds_packet.specs.declared.status.Reset.TheVariants.{KeepTransaction};
-ghost use Rattle.tds_relay.specs.Bodies.{BeginsBody, BeginsFrom, Body, Starts};
+ghost use Rattle.tds_relay.specs.Bodies.{BeginsBody, BeginsFrom, Body, Spared, Starts, StartsInPlace};
 ghost use Rattle.tds_relay.specs.Bodies.{body_of, standing_in};
 ghost use Rattle.tds_relay.specs.Closings.{ClosesOnly, IsNoRequest, register_in};
 ghost use Rattle.tds_relay.specs.Few.{IsSeated};
@@ -64,7 +64,7 @@ impl Relay {
         ensures opening { opens_in self.new.orders.items ≡ opens_in self.old.orders.items }
         ensures aside { IsReached (pool_in self.old.pool)
             → OnOk result (OthersKeepAt key self.old self.new) }
-        ensures puts { OnOk result (reset ≡ None → BeginsFrom kind (standing_in key self.old)
+        ensures puts { OnOk result (BeginsFrom kind reset (standing_in key self.old)
             (standing_in key self.new)) }
         ensures right { OnOk result (IsRightlyKept key self.new) }
     {
@@ -129,7 +129,7 @@ impl Relay {
         ensures stand { OnOk result (AllStand self.old.pool.service
             self.new.pool.service) }
         ensures body { (whole : Bool) → waits_of (get self.old.applications key) ≡ Some whole
-            → OnOk result (Starts (body_of key self.old) (body_of key self.new)) }
+            → OnOk result (Spared (body_of key self.old) (body_of key self.new)) }
         ensures closes { OnOk result (ClosesOnly (ItselfFor key (CannotPart key
             (end_at (ends_in self.old.applications) key) self.old.pool))
             (register_in self.old) (register_in self.new)) }
@@ -181,6 +181,9 @@ impl Relay {
         ensures aside { IsReached (pool_in self.old.pool)
             → OnOk result (OthersKeepAt key self.old self.new) }
         ensures right { OnOk result (IsRightlyKept key self.new) }
+        ensures puts { (whole : Bool) → waits_of (get self.old.applications key) ≡ Some whole
+            → OnOk result (StartsInPlace (standing_in key self.old).1 (body_of key self.old)
+            (body_of key self.new)) }
     {
         match self.pool.renew(key)? {
             Renewed::Kept(hold) => {

@@ -9,7 +9,7 @@ use Rattle.tds_relay.proofs.steps.Reaching.{ok_if, ok_more}
 use Rattle.tds_relay.proofs.steps.Staying.{stays_refl, stays_same}
 use Rattle.tds_relay.specs.Bodies.{Closed, Refuses, Stays, body_of, going_of, Kept, body_in, standing_in}
 use Rattle.slab.specs.Slab.{get, with_value}
-use Rattle.tds_relay.proofs.steps.Bodied.{none_closed, same_starts, shut_starts, shut}
+use Rattle.tds_relay.proofs.steps.Bodied.{none_closed, same_starts, shut_starts, shut, spared_starts}
 use Rattle.tds_relay.proofs.steps.Going.{begun}
 use Rattle.tds_relay.proofs.steps.Underway.{waits_written, written_there}
 use Rattle.tds_relay.proofs.steps.Queueing.{queues_kept}
@@ -28,7 +28,7 @@ use Rattle.tds_relay.specs.Places.{HasNoTransaction}
 use Rattle.tds_relay.proofs.spared.Turned.{as_refl, begun_kept, held_asks, renewed_as}
 use Rattle.tds_relay.proofs.spared.Elsewhere.{aside_own, aside_refl, aside_waits, keeps_own, keeps_waited}
 use Rattle.tds_relay.specs.Reads.{waits_on}
-use Rattle.tds_relay.proofs.steps.Still.{none_shut, put_refl, put_same, put_shut}
+use Rattle.tds_relay.proofs.steps.Still.{begins_put, begins_shut, none_shut, put_refl, put_same, spared_place}
 use Rattle.tds_relay.proofs.spared.Rightly.{deaf_right_on, held_right_on, unkept_right, waits_right_on}
 use Rattle.tds_relay.proofs.spared.Starting.{unkept_none}
 use Rattle.tds_relay.proofs.relay.Relay.begin.Goals as goal
@@ -102,7 +102,7 @@ pub returns-else-may_keep_later-clause-body : goal.returns-else-may_keep_later-c
 returns-else-may_keep_later-clause-body c = ok_more c.renew.result _ _ (λ s. (_, begun (get (with_value c.args.self.now.applications c.args.key c.forget.new.self) c.args.key) _ c.forget.new.self c.args.kind c.in-Some-message_kind.kind (written_there c.args.self.now.applications c.args.key c.in-Some.application.now c.forget.new.self c.in-Some.ensures.value) c.forget.ensures.asking c.forget.ensures.body.1 (search rules), s)) (c.renew.ensures.body false (waits_written c.args.self.now.applications c.args.key c.in-Some.application.now c.forget.new.self _ false c.in-Some.ensures.value c.forget.ensures.asking))
 
 pub returns-in-true-Some-Full-clause-body : goal.returns-in-true-Some-Full-clause-body
-returns-in-true-Some-Full-clause-body c = ok_more c.change.result _ _ (λ s. (_, begun (get (with_value c.args.self.now.applications c.args.key c.forget.new.self) c.args.key) _ c.forget.new.self c.args.kind c.in-Some-message_kind.kind (written_there c.args.self.now.applications c.args.key c.in-Some.application.now c.forget.new.self c.in-Some.ensures.value) c.forget.ensures.asking c.forget.ensures.body.1 (search rules), s)) (c.change.ensures.body false (waits_written c.args.self.now.applications c.args.key c.in-Some.application.now c.forget.new.self _ false c.in-Some.ensures.value c.forget.ensures.asking))
+returns-in-true-Some-Full-clause-body c = ok_more c.change.result _ _ (λ s. (_, begun (get (with_value c.args.self.now.applications c.args.key c.forget.new.self) c.args.key) _ c.forget.new.self c.args.kind c.in-Some-message_kind.kind (written_there c.args.self.now.applications c.args.key c.in-Some.application.now c.forget.new.self c.in-Some.ensures.value) c.forget.ensures.asking c.forget.ensures.body.1 (search rules), spared_starts _ (body_of c.args.key c.change.new.self) s)) (c.change.ensures.body false (waits_written c.args.self.now.applications c.args.key c.in-Some.application.now c.forget.new.self _ false c.in-Some.ensures.value c.forget.ensures.asking))
 
 pub returns-in-false-default-clause-body : goal.returns-in-false-default-clause-body
 returns-in-false-default-clause-body c = ok_if c.wait.result _ (_, begun (get (with_value c.args.self.now.applications c.args.key c.forget.new.self) c.args.key) _ c.forget.new.self c.args.kind c.in-Some-message_kind.kind (written_there c.args.self.now.applications c.args.key c.in-Some.application.now c.forget.new.self c.in-Some.ensures.value) c.forget.ensures.asking c.forget.ensures.body.1 (search rules), same_starts _ (body_of c.args.key c.wait.new.self) (c.wait.ensures.body c.args.key))
@@ -221,35 +221,57 @@ pub returns-in-true-Some-Full-clause-aside : goal.returns-in-true-Some-Full-clau
 returns-in-true-Some-Full-clause-aside c = λ reached. c.change.ensures.aside reached
 
 pub returns-in_default-clause-puts : goal.returns-in_default-clause-puts
-returns-in_default-clause-puts c = λ none. (Closed, Refuses, put_shut _ Closed (standing_in c.args.key c.args.self.now) (none_shut c.args.self.now.applications c.args.key (going_of c.args.key c.args.self.now) (search rules)))
+returns-in_default-clause-puts c = begins_shut c.args.kind c.args.reset (standing_in c.args.key c.args.self.now) (standing_in c.args.key c.args.self.now) (none_shut c.args.self.now.applications c.args.key (going_of c.args.key c.args.self.now) (search rules))
 
 pub returns-in_default-message_kind-clause-puts : goal.returns-in_default-message_kind-clause-puts
-returns-in_default-message_kind-clause-puts c = ok_more c.expel.result _ _ (λ d none. (Closed, Refuses, put_shut _ Closed (standing_in c.args.key c.expel.new.self) (shut c.expel.new.self.applications c.args.key (going_of c.args.key c.expel.new.self) d))) c.expel.ensures.over
+returns-in_default-message_kind-clause-puts c = ok_more c.expel.result _ _ (λ d. begins_shut c.args.kind c.args.reset (standing_in c.args.key c.args.self.now) (standing_in c.args.key c.expel.new.self) (shut c.expel.new.self.applications c.args.key (going_of c.args.key c.expel.new.self) d)) c.expel.ensures.over
 
 pub returns-in-true-None-clause-puts : goal.returns-in-true-None-clause-puts
-returns-in-true-None-clause-puts c = ok_more c.start.result _ _ (λ s none. (_, begun (get (with_value c.args.self.now.applications c.args.key c.forget.new.self) c.args.key) _ c.forget.new.self c.args.kind c.in-Some-message_kind.kind (written_there c.args.self.now.applications c.args.key c.in-Some.application.now c.forget.new.self c.in-Some.ensures.value) c.forget.ensures.asking c.forget.ensures.body.1 (search rules), s)) c.start.ensures.puts
+returns-in-true-None-clause-puts c =
+    let none : c.args.reset ≡ None = search rules in
+    ok_more c.start.result _ _
+    (λ s. begins_put c.args.kind c.args.reset _ (standing_in c.args.key c.args.self.now) (standing_in c.args.key c.start.new.self) (begun (get (with_value c.args.self.now.applications c.args.key c.forget.new.self) c.args.key) _ c.forget.new.self c.args.kind c.in-Some-message_kind.kind (written_there c.args.self.now.applications c.args.key c.in-Some.application.now c.forget.new.self c.in-Some.ensures.value) c.forget.ensures.asking c.forget.ensures.body.1 (search rules))
+    (λ full. absurd (let u : None ≡ Some Full = sym none ∙ full in let v : ⊥ = cc in v)) s)
+    c.start.ensures.puts
 
 pub returns-then-may_keep_later-clause-puts : goal.returns-then-may_keep_later-clause-puts
-returns-then-may_keep_later-clause-puts c = λ none. (_, begun (get (with_value c.args.self.now.applications c.args.key c.forget.new.self) c.args.key) _ c.forget.new.self c.args.kind c.in-Some-message_kind.kind (written_there c.args.self.now.applications c.args.key c.in-Some.application.now c.forget.new.self c.in-Some.ensures.value) c.forget.ensures.asking c.forget.ensures.body.1 (search rules), put_refl (body_in (get (with_value c.args.self.now.applications c.args.key c.forget.new.self) c.args.key) (going_of c.args.key c.args.self.now), λ (number : ℕ). waits_on number c.args.self.now.links.items))
+returns-then-may_keep_later-clause-puts c =
+    begins_put c.args.kind c.args.reset _ (standing_in c.args.key c.args.self.now) (body_in (get (with_value c.args.self.now.applications c.args.key c.forget.new.self) c.args.key) (going_of c.args.key c.args.self.now), λ (number : ℕ). waits_on number c.args.self.now.links.items) (begun (get (with_value c.args.self.now.applications c.args.key c.forget.new.self) c.args.key) _ c.forget.new.self c.args.kind c.in-Some-message_kind.kind (written_there c.args.self.now.applications c.args.key c.in-Some.application.now c.forget.new.self c.in-Some.ensures.value) c.forget.ensures.asking c.forget.ensures.body.1 (search rules))
+    (λ full. inl refl) (put_refl (body_in (get (with_value c.args.self.now.applications c.args.key c.forget.new.self) c.args.key) (going_of c.args.key c.args.self.now), λ (number : ℕ). waits_on number c.args.self.now.links.items))
 
 pub returns-else-may_keep_later-clause-puts : goal.returns-else-may_keep_later-clause-puts
 returns-else-may_keep_later-clause-puts c =
     let keeps : c.args.reset ≡ Some KeepTransaction = search rules in
-    ok_if c.renew.result _ (λ none. absurd (let u : Some KeepTransaction ≡ None = sym keeps ∙ none in let v : ⊥ = cc in v))
+    ok_more c.renew.result _ _
+    (λ s. record {
+      mid = _;
+      begins = (begun (get (with_value c.args.self.now.applications c.args.key c.forget.new.self) c.args.key) _ c.forget.new.self c.args.kind c.in-Some-message_kind.kind (written_there c.args.self.now.applications c.args.key c.in-Some.application.now c.forget.new.self c.in-Some.ensures.value) c.forget.ensures.asking c.forget.ensures.body.1 (search rules));
+      starts = s;
+      still = λ none. absurd (let u : Some KeepTransaction ≡ None = sym keeps ∙ none in let v : ⊥ = cc in v);
+      parts = λ full. absurd (let u : Some KeepTransaction ≡ Some Full = sym keeps ∙ full in let v : ⊥ = cc in v);
+    })
+    (c.renew.ensures.puts false (waits_written c.args.self.now.applications c.args.key c.in-Some.application.now c.forget.new.self _ false c.in-Some.ensures.value c.forget.ensures.asking))
 
 pub returns-in-true-Some-Full-clause-puts : goal.returns-in-true-Some-Full-clause-puts
 returns-in-true-Some-Full-clause-puts c =
     let full : c.args.reset ≡ Some Full = search rules in
-    ok_if c.change.result _ (λ none. absurd (let u : Some Full ≡ None = sym full ∙ none in let v : ⊥ = cc in v))
+    ok_more c.change.result _ _
+    (λ s. record {
+      mid = _;
+      begins = (begun (get (with_value c.args.self.now.applications c.args.key c.forget.new.self) c.args.key) _ c.forget.new.self c.args.kind c.in-Some-message_kind.kind (written_there c.args.self.now.applications c.args.key c.in-Some.application.now c.forget.new.self c.in-Some.ensures.value) c.forget.ensures.asking c.forget.ensures.body.1 (search rules));
+      starts = spared_place (λ (number : ℕ). waits_on number c.args.self.now.links.items) _ (body_of c.args.key c.change.new.self) s;
+      still = λ none. absurd (let u : Some Full ≡ None = sym full ∙ none in let v : ⊥ = cc in v);
+      parts = λ is. s;
+    })
+    (c.change.ensures.body false (waits_written c.args.self.now.applications c.args.key c.in-Some.application.now c.forget.new.self _ false c.in-Some.ensures.value c.forget.ensures.asking))
 
 pub returns-in-false-default-clause-puts : goal.returns-in-false-default-clause-puts
 returns-in-false-default-clause-puts c =
-    ok_if c.wait.result _ (λ none. (
-      _,
-      begun (get (with_value c.args.self.now.applications c.args.key c.forget.new.self) c.args.key) _ c.forget.new.self c.args.kind c.in-Some-message_kind.kind (written_there c.args.self.now.applications c.args.key c.in-Some.application.now c.forget.new.self c.in-Some.ensures.value) c.forget.ensures.asking c.forget.ensures.body.1 (search rules),
-      put_same (body_in (get (with_value c.args.self.now.applications c.args.key c.forget.new.self) c.args.key) (going_of c.args.key c.args.self.now), λ (number : ℕ). waits_on number c.args.self.now.links.items) (standing_in c.args.key c.wait.new.self)
-          (c.wait.ensures.body c.args.key) (λ number. ap (waits_on number) c.wait.ensures.links),
-    ))
+    ok_if c.wait.result _
+    (begins_put c.args.kind c.args.reset _ (standing_in c.args.key c.args.self.now) (standing_in c.args.key c.wait.new.self) (begun (get (with_value c.args.self.now.applications c.args.key c.forget.new.self) c.args.key) _ c.forget.new.self c.args.kind c.in-Some-message_kind.kind (written_there c.args.self.now.applications c.args.key c.in-Some.application.now c.forget.new.self c.in-Some.ensures.value) c.forget.ensures.asking c.forget.ensures.body.1 (search rules))
+    (λ full. inl (c.wait.ensures.body c.args.key))
+    (put_same (body_in (get (with_value c.args.self.now.applications c.args.key c.forget.new.self) c.args.key) (going_of c.args.key c.args.self.now), λ (number : ℕ). waits_on number c.args.self.now.links.items) (standing_in c.args.key c.wait.new.self)
+    (c.wait.ensures.body c.args.key) (λ number. ap (waits_on number) c.wait.ensures.links)))
 
 pub returns-in_default-clause-right : goal.returns-in_default-clause-right
 returns-in_default-clause-right c = unkept_right c.args.key c.args.self.now (unkept_none c.args.self.now.applications c.args.key (going_of c.args.key c.args.self.now) (search rules))

@@ -1,4 +1,4 @@
-use Rattle.std.proofs.Common.{refl, rules, subst, sym}
+use Rattle.std.proofs.Common.{inr, refl, rules, subst, sym}
 use Rattle.tds_relay.specs.Ties.{Application}
 use Rattle.tds_relay.proofs.steps.Fronts.{moves_closes, moves_lets_go}
 use Rattle.tds_relay.proofs.steps.Reaching.{ok_if, ok_more, reaches_left}
@@ -7,8 +7,8 @@ use Rattle.tds_relay.specs.Asking.{Closes}
 use Rattle.tds_relay.proofs.bytes.Calls.{stand_on}
 use Rattle.tds_relay.specs.Bodies.{body_of, going_of}
 use Rattle.slab.specs.Slab.{get}
-use Rattle.tds_relay.proofs.steps.Bodied.{shut_starts}
-use Rattle.tds_relay.proofs.steps.Going.{waits_starts}
+use Rattle.tds_relay.proofs.steps.Bodied.{shut}
+use Rattle.tds_relay.proofs.steps.Going.{waits_spared}
 use Rattle.tds_relay.specs.Closings.{Itself, NoKey}
 use Rattle.tds_relay.specs.Reasons.{Held, Out}
 use Rattle.tds_relay.proofs.spared.Reasons.{for_reason}
@@ -66,14 +66,14 @@ pub returns-then-is_some-clause-stand : goal.returns-then-is_some-clause-stand
 returns-then-is_some-clause-stand c = stand_on c.expel-then-is_some.result _ _ _ c.in_ok-release.ensures.stand c.expel-then-is_some.ensures.stand
 
 pub returns-then-not-has_nothing_out-clause-body : goal.returns-then-not-has_nothing_out-clause-body
-returns-then-not-has_nothing_out-clause-body c = λ whole waits. ok_more c.expel.result _ _ (λ d. shut_starts c.expel.new.self.applications c.args.key (body_of c.args.key c.args.self.now) (going_of c.args.key c.expel.new.self) d) c.expel.ensures.over
+returns-then-not-has_nothing_out-clause-body c = λ whole waits. ok_more c.expel.result _ _ (λ d. inr (shut c.expel.new.self.applications c.args.key (going_of c.args.key c.expel.new.self) d)) c.expel.ensures.over
 
 pub returns-then-is_some-clause-body : goal.returns-then-is_some-clause-body
-returns-then-is_some-clause-body c = λ whole waits. ok_more c.expel-then-is_some.result _ _ (λ d. shut_starts c.expel-then-is_some.new.self.applications c.args.key (body_of c.args.key c.args.self.now) (going_of c.args.key c.expel-then-is_some.new.self) d) c.expel-then-is_some.ensures.over
+returns-then-is_some-clause-body c = λ whole waits. ok_more c.expel-then-is_some.result _ _ (λ d. inr (shut c.expel-then-is_some.new.self.applications c.args.key (going_of c.args.key c.expel-then-is_some.new.self) d)) c.expel-then-is_some.ensures.over
 
 pub returns-clause-body : goal.returns-clause-body
 returns-clause-body c = λ whole waits.
-    ok_if c.wait.result _ (waits_starts (get c.args.self.now.applications c.args.key) (get c.release.new.self.applications c.args.key) whole (going_of c.args.key c.args.self.now) (going_of c.args.key c.release.new.self) (body_of c.args.key c.wait.new.self) waits
+    ok_if c.wait.result _ (waits_spared (get c.args.self.now.applications c.args.key) (get c.release.new.self.applications c.args.key) whole (going_of c.args.key c.args.self.now) (going_of c.args.key c.release.new.self) (body_of c.args.key c.wait.new.self) waits
     (c.in_ok-release.ensures.asks c.args.key (going_of c.args.key c.release.new.self)) (c.wait.ensures.body c.args.key))
 
 pub returns-then-not-has_nothing_out-clause-closes : goal.returns-then-not-has_nothing_out-clause-closes

@@ -33,20 +33,20 @@ use Rattle.tds_relay.proofs.relay.Relay.keep.Goals as goal
 pub returns-in-Kept-clause-goes : goal.returns-in-Kept-clause-goes
 returns-in-Kept-clause-goes c =
     ok_more c.start_kept.result _ _
-    (λ g from h. g (Connection c.args.number) from (subst (λ (d : code.Pool). Reaches (Connection c.args.number) from (pool_in d)) (sym c.restart.ensures.pool) (reaches_turn (Connection c.args.number) from _ _ _ _ _ c.in_ok-hold.ensures.turns.1 tt h)))
+    (λ g from h. g (Connection c.args.number) from (subst (λ (d : code.Pool). Reaches (Connection c.args.number) from (pool_in d)) (sym c.restart.ensures.pool) (reaches_turn (Connection c.args.number) from _ _ _ _ _ c.in_ok-hold.ensures.turns tt h)))
     c.start_kept.ensures.goes
 
 pub returns-in-NotKept-clause-goes : goal.returns-in-NotKept-clause-goes
-returns-in-NotKept-clause-goes c = ok_more c.replace.result _ _ (λ g from h. g from (reaches_turn (Connection c.args.number) from _ _ _ _ _ c.in_ok-hold.ensures.turns.1 tt h)) c.replace.ensures.goes
+returns-in-NotKept-clause-goes c = ok_more c.replace.result _ _ (λ g from h. g from (reaches_turn (Connection c.args.number) from _ _ _ _ _ c.in_ok-hold.ensures.turns tt h)) c.replace.ensures.goes
 
 pub returns-in-Kept-clause-moves : goal.returns-in-Kept-clause-moves
 returns-in-Kept-clause-moves c =
     ok_more c.start_kept.result _ _
-    (λ m asks from h. m (Connection c.args.number) from (moves_same (Connection c.args.number) from _ _ _ _ (ap pool_in c.restart.ensures.pool) c.restart.ensures.ends (moves_does (Connection c.args.number) from _ _ _ _ _ _ _ c.in_ok-hold.ensures.turns.1 asks tt refl h)))
+    (λ m asks from h. m (Connection c.args.number) from (moves_same (Connection c.args.number) from _ _ _ _ (ap pool_in c.restart.ensures.pool) c.restart.ensures.ends (moves_does (Connection c.args.number) from _ _ _ _ _ _ _ c.in_ok-hold.ensures.turns (refl, asks) tt refl h)))
     c.start_kept.ensures.moves
 
 pub returns-in-NotKept-clause-moves : goal.returns-in-NotKept-clause-moves
-returns-in-NotKept-clause-moves c = ok_more c.replace.result _ _ (λ m asks from h. m from (moves_does (Connection c.args.number) from _ _ _ _ _ _ _ c.in_ok-hold.ensures.turns.1 asks tt refl h)) c.replace.ensures.moves
+returns-in-NotKept-clause-moves c = ok_more c.replace.result _ _ (λ m asks from h. m from (moves_does (Connection c.args.number) from _ _ _ _ _ _ _ c.in_ok-hold.ensures.turns (refl, asks) tt refl h)) c.replace.ensures.moves
 
 pub returns-in-Kept-clause-read : goal.returns-in-Kept-clause-read
 returns-in-Kept-clause-read c = stays_on c.start_kept.result _ _ _ c.restart.ensures.read c.start_kept.ensures.read
@@ -61,7 +61,7 @@ pub returns-in-Kept-clause-bodies : goal.returns-in-Kept-clause-bodies
 returns-in-Kept-clause-bodies c = λ reached.
     let there : IsReached (pool_in c.restart.new.self.pool) =
     reached_on (Connection c.args.number) (pool_in c.args.self.now.pool) (pool_in c.restart.new.self.pool)
-    (λ from h. subst (λ (d : code.Pool). Reaches (Connection c.args.number) from (pool_in d)) (sym c.restart.ensures.pool) (reaches_turn (Connection c.args.number) from _ _ _ _ _ c.in_ok-hold.ensures.turns.1 tt h)) reached in
+    (λ from h. subst (λ (d : code.Pool). Reaches (Connection c.args.number) from (pool_in d)) (sym c.restart.ensures.pool) (reaches_turn (Connection c.args.number) from _ _ _ _ _ c.in_ok-hold.ensures.turns tt h)) reached in
     along_on c.start_kept.result c.args.self.now c.restart.new.self c.start_kept.new.self (alike_along c.args.self.now c.restart.new.self c.restart.ensures.same)
     (start_along c.start_kept.result c.args.key c.restart.new.self c.start_kept.new.self there c.start_kept.ensures.body c.start_kept.ensures.others)
 
@@ -69,7 +69,7 @@ pub returns-in-NotKept-clause-bodies : goal.returns-in-NotKept-clause-bodies
 returns-in-NotKept-clause-bodies c = λ reached.
     along_on c.replace.result c.args.self.now _ c.replace.new.self (alike_along c.args.self.now _ refl)
     (c.replace.ensures.bodies
-    (reached_on (Connection c.args.number) (pool_in c.args.self.now.pool) _ (λ from h. reaches_turn (Connection c.args.number) from _ _ _ _ _ c.in_ok-hold.ensures.turns.1 tt h) reached))
+    (reached_on (Connection c.args.number) (pool_in c.args.self.now.pool) _ (λ from h. reaches_turn (Connection c.args.number) from _ _ _ _ _ c.in_ok-hold.ensures.turns tt h) reached))
 
 pub returns-in-Kept-clause-ordered : goal.returns-in-Kept-clause-ordered
 returns-in-Kept-clause-ordered c = ordered_on c.start_kept.result _ _ _ c.start_kept.ensures.ordered (ordered_same _ _ c.restart.ensures.orders)
@@ -81,7 +81,7 @@ returns-in-Kept-clause-closes c = λ asks.
     let at = c.restart.new.self in
     closes_first c.start_kept.result (ResumesNotAt c.args.number key old) _ _ _
     (closes_more_on c.start_kept.result (ItselfFor key (IsUnheldOrTurnedAway key at)) (ResumesNotAt c.args.number key old) _ _
-    (λ other e. resumes_for c.args.number key other old e.0 asks (Unserved c.in_ok-hold.ensures.turns.0 c.renew.new.self (subst (λ (r : Renewed). IsKeptBy r key (pool_in old.pool)) c.in-Kept.is c.in_ok-hold.ensures.keeps) c.in_ok-hold.ensures.turns.1.pool_is
+    (λ other e. resumes_for c.args.number key other old e.0 asks (Unserved c.renew.new.self (subst (λ (r : Renewed). IsKeptBy r key (pool_in old.pool)) c.in-Kept.is c.in_ok-hold.ensures.keeps) c.in_ok-hold.ensures.turns.pool_is
     (turned_with key at old c.renew.new.self old.links.items c.restart.ensures.pool (ap ends_in c.restart.ensures.same) (λ k goes. ap (λ (s : Slab an.Application). body_in (get s k) goes) c.restart.ensures.same)
     (as_seen old.links.items at.links.items c.restart.ensures.queues c.restart.ensures.read.seen) (renewed_held key old.pool c.renew.new.self at c.in-Kept.hold (subst (λ (r : Renewed). IsRenewed r key old.pool c.renew.new.self) c.in-Kept.is c.in_ok-hold.ensures.is) c.restart.ensures.pool e.1)))) c.start_kept.ensures.closes) c.restart.ensures.closes
 
@@ -91,7 +91,7 @@ returns-in-NotKept-clause-closes c = λ asks.
     let key = c.args.key in
     let is = subst (λ (r : Renewed). IsRenewed r key old.pool c.renew.new.self) c.in-NotKept.is c.in_ok-hold.ensures.is in
     closes_more_on c.replace.result _ (ResumesNotAt c.args.number key old) _ _
-    (λ other e. stays_for c.args.number key other old (pool_in c.renew.new.self) asks is c.in_ok-hold.ensures.turns.0 (sym c.in_ok-hold.ensures.turns.1.pool_is ∙ is) (cases_eq other key) e) c.replace.ensures.closes
+    (λ other e. stays_for c.args.number key other old (pool_in c.renew.new.self) asks is (sym c.in_ok-hold.ensures.turns.pool_is ∙ is) (cases_eq other key) e) c.replace.ensures.closes
 
 pub returns-in-Kept-clause-spares : goal.returns-in-Kept-clause-spares
 returns-in-Kept-clause-spares c = λ reached.
@@ -99,7 +99,7 @@ returns-in-Kept-clause-spares c = λ reached.
     let mid = core_in c.restart.new.self in
     let new = core_in c.start_kept.new.self in
     spares_on c.start_kept.result c.args.number (Some c.args.key) old mid new
-    (spares_renewed c.args.number c.args.key c.in_ok-hold.ensures.turns.0 old mid reached (ap pool_in c.restart.ensures.pool ∙ c.in_ok-hold.ensures.turns.1.pool_is) c.restart.ensures.ends)
+    (spares_renewed c.args.number c.args.key true old mid reached (ap pool_in c.restart.ensures.pool ∙ c.in_ok-hold.ensures.turns.pool_is) c.restart.ensures.ends)
     (spares_alone_on c.start_kept.result c.args.number c.args.key mid new c.start_kept.ensures.alone c.start_kept.ensures.moves)
 
 pub returns-in-NotKept-clause-spares : goal.returns-in-NotKept-clause-spares
@@ -108,9 +108,9 @@ returns-in-NotKept-clause-spares c = λ reached.
     let mid = core_of_ends (pool_in c.renew.new.self) (ends_in c.args.self.now.applications) in
     let new = core_in c.replace.new.self in
     let there : IsReached (pool_in c.renew.new.self) =
-    reached_on (Connection c.args.number) (pool_in c.args.self.now.pool) (pool_in c.renew.new.self) (λ from h. reaches_turn (Connection c.args.number) from _ _ _ _ _ c.in_ok-hold.ensures.turns.1 tt h) reached in
+    reached_on (Connection c.args.number) (pool_in c.args.self.now.pool) (pool_in c.renew.new.self) (λ from h. reaches_turn (Connection c.args.number) from _ _ _ _ _ c.in_ok-hold.ensures.turns tt h) reached in
     spares_on c.replace.result c.args.number (Some c.args.key) old mid new
-    (spares_renewed c.args.number c.args.key c.in_ok-hold.ensures.turns.0 old mid reached c.in_ok-hold.ensures.turns.1.pool_is refl)
+    (spares_renewed c.args.number c.args.key true old mid reached c.in_ok-hold.ensures.turns.pool_is refl)
     (ok_more c.replace.result _ _ (λ h. spares_none c.args.number (Some c.args.key) mid new h) (c.replace.ensures.spares there))
 
 pub returns-in-Kept-clause-begins : goal.returns-in-Kept-clause-begins
@@ -118,21 +118,21 @@ returns-in-Kept-clause-begins c = any_kept c.start_kept.result _ _ _ c.restart.e
 
 pub returns-in-Kept-clause-seated : goal.returns-in-Kept-clause-seated
 returns-in-Kept-clause-seated c = λ s.
-    c.start_kept.ensures.seated (pool_lasting c.renew.new.self c.args.self.now.links.items c.restart.new.self c.restart.ensures.pool c.restart.ensures.lasts c.restart.ensures.read (renewed_on c.args.key c.in_ok-hold.ensures.turns.0 c.args.self.now.pool c.renew.new.self _ _ c.args.self.now.links.items c.in_ok-hold.ensures.turns.1 s (renews_keep _ (renewals.Kept c.in-Kept.hold) _ _ c.in-Kept.is (c.in_ok-hold.ensures.seats s.reached))))
+    c.start_kept.ensures.seated (pool_lasting c.renew.new.self c.args.self.now.links.items c.restart.new.self c.restart.ensures.pool c.restart.ensures.lasts c.restart.ensures.read (renewed_on c.args.key true c.args.self.now.pool c.renew.new.self _ _ c.args.self.now.links.items c.in_ok-hold.ensures.turns s (renews_keep _ (renewals.Kept c.in-Kept.hold) _ _ c.in-Kept.is (c.in_ok-hold.ensures.seats s.reached))))
 
 pub returns-in-NotKept-clause-seated : goal.returns-in-NotKept-clause-seated
 returns-in-NotKept-clause-seated c = λ s.
-    c.replace.ensures.seated (renewed_on c.args.key c.in_ok-hold.ensures.turns.0 c.args.self.now.pool c.renew.new.self _ _ c.args.self.now.links.items c.in_ok-hold.ensures.turns.1 s (renews_keep _ (renewals.NotKept) _ _ c.in-NotKept.is (c.in_ok-hold.ensures.seats s.reached)))
+    c.replace.ensures.seated (renewed_on c.args.key true c.args.self.now.pool c.renew.new.self _ _ c.args.self.now.links.items c.in_ok-hold.ensures.turns s (renews_keep _ (renewals.NotKept) _ _ c.in-NotKept.is (c.in_ok-hold.ensures.seats s.reached)))
 
 pub returns-in-Kept-clause-apart : goal.returns-in-Kept-clause-apart
 returns-in-Kept-clause-apart c =
     others_off_on c.start_kept.result c.args.number c.args.key c.args.self.now c.start_kept.new.self
     (λ reached.
-    let led = reached_turn _ _ _ _ _ c.in_ok-hold.ensures.turns.1 reached in
+    let led = reached_turn _ _ _ _ _ c.in_ok-hold.ensures.turns reached in
     others_on c.start_kept.result c.args.key c.args.self.now c.restart.new.self c.start_kept.new.self (c.start_kept.ensures.others (subst (λ (d : code.Pool). IsReached (pool_in d)) (sym c.restart.ensures.pool) led))
     (others_both c.args.key c.args.self.now _ c.restart.new.self (done_as c.args.key c.args.self.now _ reached c.in_ok-hold.ensures.others refl (λ k goes. refl)) (all_others c.args.key _ c.restart.new.self c.restart.ensures.rests)))
 
 pub returns-in-NotKept-clause-apart : goal.returns-in-NotKept-clause-apart
 returns-in-NotKept-clause-apart c =
-    renewed_off c.replace.result c.args.number c.args.key c.in_ok-hold.ensures.turns.0 c.args.self.now _ c.replace.new.self (λ reached. done_as c.args.key c.args.self.now _ reached c.in_ok-hold.ensures.others refl (λ k goes. refl))
-    c.in_ok-hold.ensures.turns.1 refl (off_more c.replace.result c.args.number (Some c.args.key) _ c.replace.new.self c.replace.ensures.apart)
+    renewed_off c.replace.result c.args.number c.args.key true c.args.self.now _ c.replace.new.self (λ reached. done_as c.args.key c.args.self.now _ reached c.in_ok-hold.ensures.others refl (λ k goes. refl))
+    c.in_ok-hold.ensures.turns refl (off_more c.replace.result c.args.number (Some c.args.key) _ c.replace.new.self c.replace.ensures.apart)

@@ -1,4 +1,4 @@
-use Rattle.std.proofs.Common.{ap, inl, inr, refl, rules, subst, sym, ◌≡◌, ◌∙◌, Some, ℕ, List}
+use Rattle.std.proofs.Common.{ap, inl, inr, refl, rules, subst, sym, ◌≡◌, ◌∙◌, Option, Some, ℕ, List}
 use Rattle.tds_relay.specs.Waiting.{IsUnheldOrTurnedAway}
 use Rattle.tds_relay.specs.declared.pool.Pool as code
 use Rattle.tds_relay.proofs.steps.Fronts.{moves_closes, moves_does, moves_same}
@@ -9,8 +9,10 @@ use Rattle.tds_relay.specs.Asking.{Closes}
 use Rattle.tds_relay.specs.Bodies.{body_in, body_of, going_of}
 use Rattle.slab.specs.Slab.{Slab, get}
 use Rattle.tds_relay.specs.declared.application.Application as an
-use Rattle.tds_relay.proofs.steps.Bodied.{closed_body, closed_starts, shut_starts}
+use Rattle.tds_relay.proofs.steps.Bodied.{closed_body, closed_starts, shut, shut_starts, spared_starts}
 use Rattle.tds_relay.proofs.steps.Going.{waits_from}
+use Rattle.tds_relay.proofs.steps.Still.{spared_place, waits_place}
+use Rattle.tds_relay.specs.Reads.{waits_on}
 use Rattle.tds_relay.specs.Closings.{IsWho}
 use Rattle.tds_relay.specs.Pool.{Pool, find_number, key_of}
 use Rattle.tds_relay.specs.Fronts.{ends_in}
@@ -36,21 +38,21 @@ use Rattle.tds_relay.proofs.relay.Relay.renew.Goals as goal
 pub returns-in-Kept-clause-goes : goal.returns-in-Kept-clause-goes
 returns-in-Kept-clause-goes c =
     ok_more c.start_kept.result _ _
-    (λ g from h. g (Application c.args.key) from (subst (λ (d : code.Pool). Reaches (Application c.args.key) from (pool_in d)) (sym c.restart.ensures.pool) (reaches_turn (Application c.args.key) from _ _ _ _ _ c.in_ok-hold.ensures.turns.1 refl h)))
+    (λ g from h. g (Application c.args.key) from (subst (λ (d : code.Pool). Reaches (Application c.args.key) from (pool_in d)) (sym c.restart.ensures.pool) (reaches_turn (Application c.args.key) from _ _ _ _ _ c.in_ok-hold.ensures.turns refl h)))
     c.start_kept.ensures.goes
 
 pub returns-else-has_transaction-clause-goes : goal.returns-else-has_transaction-clause-goes
-returns-else-has_transaction-clause-goes c = ok_more c.change.result _ _ (λ g from h. g from (reaches_turn (Application c.args.key) from _ _ _ _ _ c.in_ok-hold.ensures.turns.1 refl h)) c.change.ensures.goes
+returns-else-has_transaction-clause-goes c = ok_more c.change.result _ _ (λ g from h. g from (reaches_turn (Application c.args.key) from _ _ _ _ _ c.in_ok-hold.ensures.turns refl h)) c.change.ensures.goes
 
 pub returns-in-Kept-clause-moves : goal.returns-in-Kept-clause-moves
 returns-in-Kept-clause-moves c =
     ok_more c.start_kept.result _ _
     (λ m asks begun from h. m (Application c.args.key) from (moves_same (Application c.args.key) from _ _ _ _ (ap pool_in c.restart.ensures.pool) c.restart.ensures.ends
-    (moves_does (Application c.args.key) from _ _ _ _ _ _ _ c.in_ok-hold.ensures.turns.1 asks refl refl h)))
+    (moves_does (Application c.args.key) from _ _ _ _ _ _ _ c.in_ok-hold.ensures.turns (refl, asks) refl refl h)))
     c.start_kept.ensures.moves
 
 pub returns-else-has_transaction-clause-moves : goal.returns-else-has_transaction-clause-moves
-returns-else-has_transaction-clause-moves c = ok_more c.change.result _ _ (λ m asks begun from h. m (inr (asks, c.has_transaction.ensures.none (search rules))) begun from (moves_does (Application c.args.key) from _ _ _ _ _ _ _ c.in_ok-hold.ensures.turns.1 asks refl refl h)) c.change.ensures.moves
+returns-else-has_transaction-clause-moves c = ok_more c.change.result _ _ (λ m asks begun from h. m (inr (asks, c.has_transaction.ensures.none (search rules))) begun from (moves_does (Application c.args.key) from _ _ _ _ _ _ _ c.in_ok-hold.ensures.turns (refl, asks) refl refl h)) c.change.ensures.moves
 
 pub returns-in-Kept-clause-read : goal.returns-in-Kept-clause-read
 returns-in-Kept-clause-read c = stays_on c.start_kept.result _ _ _ c.restart.ensures.read c.start_kept.ensures.read
@@ -71,15 +73,15 @@ returns-in-Kept-clause-body c = λ whole waits.
 
 pub returns-else-has_transaction-clause-body : goal.returns-else-has_transaction-clause-body
 returns-else-has_transaction-clause-body c = λ whole waits.
-    ok_more c.change.result _ _ (λ s. waits_from (get c.args.self.now.applications c.args.key) (get c.args.self.now.applications c.args.key) whole (going_of c.args.key c.args.self.now) _ (body_of c.args.key c.change.new.self) waits refl s) (c.change.ensures.body whole waits)
+    ok_more c.change.result _ _ (λ s. waits_from (get c.args.self.now.applications c.args.key) (get c.args.self.now.applications c.args.key) whole (going_of c.args.key c.args.self.now) _ (body_of c.args.key c.change.new.self) waits refl (spared_starts _ (body_of c.args.key c.change.new.self) s)) (c.change.ensures.body whole waits)
 
 pub returns-then-has_transaction-clause-goes : goal.returns-then-has_transaction-clause-goes
-returns-then-has_transaction-clause-goes c = ok_more c.expel.result _ _ (λ g from h. g from (reaches_turn (Application c.args.key) from _ _ _ _ _ c.in_ok-hold.ensures.turns.1 refl h)) c.expel.ensures.goes
+returns-then-has_transaction-clause-goes c = ok_more c.expel.result _ _ (λ g from h. g from (reaches_turn (Application c.args.key) from _ _ _ _ _ c.in_ok-hold.ensures.turns refl h)) c.expel.ensures.goes
 
 pub returns-then-has_transaction-clause-moves : goal.returns-then-has_transaction-clause-moves
 returns-then-has_transaction-clause-moves c =
     ok_more c.expel.result _ _
-    (λ m asks begun from h. m from (moves_closes (Application c.args.key) from _ _ _ _ c.args.key refl refl (moves_does (Application c.args.key) from _ _ _ _ _ _ _ c.in_ok-hold.ensures.turns.1 asks refl refl h)))
+    (λ m asks begun from h. m from (moves_closes (Application c.args.key) from _ _ _ _ c.args.key refl refl (moves_does (Application c.args.key) from _ _ _ _ _ _ _ c.in_ok-hold.ensures.turns (refl, asks) refl refl h)))
     c.expel.ensures.moves
 
 pub returns-then-has_transaction-clause-underway : goal.returns-then-has_transaction-clause-underway
@@ -98,7 +100,7 @@ returns-in-Kept-clause-closes c =
     let at = c.restart.new.self in
     closes_first c.start_kept.result _ _ _ _
     (for_that c.start_kept.result key (IsUnheldOrTurnedAway key at) _ _ _
-    (λ why. Unserved c.in_ok-hold.ensures.turns.0 c.renew.new.self (subst (λ (r : Renewed). IsKeptBy r key (pool_in old.pool)) c.in-Kept.is c.in_ok-hold.ensures.keeps) c.in_ok-hold.ensures.turns.1.pool_is
+    (λ why. Unserved c.renew.new.self (subst (λ (r : Renewed). IsKeptBy r key (pool_in old.pool)) c.in-Kept.is c.in_ok-hold.ensures.keeps) c.in_ok-hold.ensures.turns.pool_is
     (turned_with key at old c.renew.new.self old.links.items c.restart.ensures.pool (ap ends_in c.restart.ensures.same) (λ k goes. ap (λ (s : Slab an.Application). body_in (get s k) goes) c.restart.ensures.same)
     (as_seen old.links.items at.links.items c.restart.ensures.queues c.restart.ensures.read.seen) (renewed_held key old.pool c.renew.new.self at c.in-Kept.hold (subst (λ (r : Renewed). IsRenewed r key old.pool c.renew.new.self) c.in-Kept.is c.in_ok-hold.ensures.is) c.restart.ensures.pool why))) c.start_kept.ensures.closes) c.restart.ensures.closes
 
@@ -106,58 +108,58 @@ pub returns-then-has_transaction-clause-closes : goal.returns-then-has_transacti
 returns-then-has_transaction-clause-closes c =
     let key = c.args.key in
     let is = subst (λ (r : Renewed). IsRenewed r key c.args.self.now.pool c.renew.new.self) c.in-NotKept.is c.in_ok-hold.ensures.is in
-    for_reason c.expel.result key _ _ _ (Unkept c.in_ok-hold.ensures.turns.0 (sym c.in_ok-hold.ensures.turns.1.pool_is ∙ is) (inl (subst (λ (d : Pool). HasTransaction d key) is (c.has_transaction.ensures.some (search rules))))) c.expel.ensures.closes
+    for_reason c.expel.result key _ _ _ (Unkept (sym c.in_ok-hold.ensures.turns.pool_is ∙ is) (inl (subst (λ (d : Pool). HasTransaction d key) is (c.has_transaction.ensures.some (search rules))))) c.expel.ensures.closes
 
 pub returns-else-has_transaction-clause-closes : goal.returns-else-has_transaction-clause-closes
 returns-else-has_transaction-clause-closes c =
     let key = c.args.key in
     let is = subst (λ (r : Renewed). IsRenewed r key c.args.self.now.pool c.renew.new.self) c.in-NotKept.is c.in_ok-hold.ensures.is in
     for_that c.change.result key _ _ _ _
-    (λ why. Unkept c.in_ok-hold.ensures.turns.0 (sym c.in_ok-hold.ensures.turns.1.pool_is ∙ is) (inr (part_at key _ c.renew.new.self c.args.self.now.pool is why))) c.change.ensures.closes
+    (λ why. Unkept (sym c.in_ok-hold.ensures.turns.pool_is ∙ is) (inr (part_at key _ c.renew.new.self c.args.self.now.pool is why))) c.change.ensures.closes
 
 pub returns-in-Kept-clause-seated : goal.returns-in-Kept-clause-seated
 returns-in-Kept-clause-seated c = λ s.
-    c.start_kept.ensures.seated (pool_lasting c.renew.new.self c.args.self.now.links.items c.restart.new.self c.restart.ensures.pool c.restart.ensures.lasts c.restart.ensures.read (renewed_on c.args.key c.in_ok-hold.ensures.turns.0 c.args.self.now.pool c.renew.new.self _ _ c.args.self.now.links.items c.in_ok-hold.ensures.turns.1 s (renews_keep _ (renewals.Kept c.in-Kept.hold) _ _ c.in-Kept.is (c.in_ok-hold.ensures.seats s.reached))))
+    c.start_kept.ensures.seated (pool_lasting c.renew.new.self c.args.self.now.links.items c.restart.new.self c.restart.ensures.pool c.restart.ensures.lasts c.restart.ensures.read (renewed_on c.args.key true c.args.self.now.pool c.renew.new.self _ _ c.args.self.now.links.items c.in_ok-hold.ensures.turns s (renews_keep _ (renewals.Kept c.in-Kept.hold) _ _ c.in-Kept.is (c.in_ok-hold.ensures.seats s.reached))))
 
 pub returns-then-has_transaction-clause-seated : goal.returns-then-has_transaction-clause-seated
 returns-then-has_transaction-clause-seated c = λ s.
-    c.expel.ensures.seated (renewed_on c.args.key c.in_ok-hold.ensures.turns.0 c.args.self.now.pool c.renew.new.self _ _ c.args.self.now.links.items c.in_ok-hold.ensures.turns.1 s (renews_keep _ (renewals.NotKept) _ _ c.in-NotKept.is (c.in_ok-hold.ensures.seats s.reached)))
+    c.expel.ensures.seated (renewed_on c.args.key true c.args.self.now.pool c.renew.new.self _ _ c.args.self.now.links.items c.in_ok-hold.ensures.turns s (renews_keep _ (renewals.NotKept) _ _ c.in-NotKept.is (c.in_ok-hold.ensures.seats s.reached)))
 
 pub returns-else-has_transaction-clause-seated : goal.returns-else-has_transaction-clause-seated
 returns-else-has_transaction-clause-seated c = λ s.
-    c.change.ensures.seated (renewed_on c.args.key c.in_ok-hold.ensures.turns.0 c.args.self.now.pool c.renew.new.self _ _ c.args.self.now.links.items c.in_ok-hold.ensures.turns.1 s (renews_keep _ (renewals.NotKept) _ _ c.in-NotKept.is (c.in_ok-hold.ensures.seats s.reached)))
+    c.change.ensures.seated (renewed_on c.args.key true c.args.self.now.pool c.renew.new.self _ _ c.args.self.now.links.items c.in_ok-hold.ensures.turns s (renews_keep _ (renewals.NotKept) _ _ c.in-NotKept.is (c.in_ok-hold.ensures.seats s.reached)))
 
 pub returns-in-Kept-clause-others : goal.returns-in-Kept-clause-others
 returns-in-Kept-clause-others c = λ reached.
-    let led = reached_turn _ _ _ _ _ c.in_ok-hold.ensures.turns.1 reached in
+    let led = reached_turn _ _ _ _ _ c.in_ok-hold.ensures.turns reached in
     others_on c.start_kept.result c.args.key c.args.self.now c.restart.new.self c.start_kept.new.self (c.start_kept.ensures.others (subst (λ (d : code.Pool). IsReached (pool_in d)) (sym c.restart.ensures.pool) led))
     (others_both c.args.key c.args.self.now _ c.restart.new.self (done_as c.args.key c.args.self.now _ reached c.in_ok-hold.ensures.others refl (λ k goes. refl)) (all_others c.args.key _ c.restart.new.self c.restart.ensures.rests))
 
 pub returns-then-has_transaction-clause-others : goal.returns-then-has_transaction-clause-others
 returns-then-has_transaction-clause-others c = λ reached.
-    others_on c.expel.result c.args.key c.args.self.now _ c.expel.new.self (c.expel.ensures.others (reached_turn _ _ _ _ _ c.in_ok-hold.ensures.turns.1 reached))
+    others_on c.expel.result c.args.key c.args.self.now _ c.expel.new.self (c.expel.ensures.others (reached_turn _ _ _ _ _ c.in_ok-hold.ensures.turns reached))
     (done_as c.args.key c.args.self.now _ reached c.in_ok-hold.ensures.others refl (λ k goes. refl))
 
 pub returns-else-has_transaction-clause-others : goal.returns-else-has_transaction-clause-others
 returns-else-has_transaction-clause-others c = λ reached.
-    others_on c.change.result c.args.key c.args.self.now _ c.change.new.self (c.change.ensures.others (reached_turn _ _ _ _ _ c.in_ok-hold.ensures.turns.1 reached))
+    others_on c.change.result c.args.key c.args.self.now _ c.change.new.self (c.change.ensures.others (reached_turn _ _ _ _ _ c.in_ok-hold.ensures.turns reached))
     (done_as c.args.key c.args.self.now _ reached c.in_ok-hold.ensures.others refl (λ k goes. refl))
 
 pub returns-then-has_transaction-clause-aside : goal.returns-then-has_transaction-clause-aside
 returns-then-has_transaction-clause-aside c = λ reached.
     keeps_on c.expel.result c.args.key c.args.self.now.pool.holds.items c.renew.new.self.holds.items c.expel.new.self.pool.holds.items c.args.self.now.links.items c.args.self.now.links.items c.expel.new.self.links.items
-    (λ n differs. (renew_keeps (pool_in c.args.self.now.pool) c.args.key n reached differs (pool_in c.renew.new.self) c.in_ok-hold.ensures.turns.0 c.in_ok-hold.ensures.turns.1.pool_is, refl))
-    (c.expel.ensures.aside (reached_turn _ _ _ _ _ c.in_ok-hold.ensures.turns.1 reached))
+    (λ n differs. (renew_keeps (pool_in c.args.self.now.pool) c.args.key n reached differs (pool_in c.renew.new.self) true c.in_ok-hold.ensures.turns.pool_is, refl))
+    (c.expel.ensures.aside (reached_turn _ _ _ _ _ c.in_ok-hold.ensures.turns reached))
 
 pub returns-else-has_transaction-clause-aside : goal.returns-else-has_transaction-clause-aside
 returns-else-has_transaction-clause-aside c = λ reached.
     keeps_on c.change.result c.args.key c.args.self.now.pool.holds.items c.renew.new.self.holds.items c.change.new.self.pool.holds.items c.args.self.now.links.items c.args.self.now.links.items c.change.new.self.links.items
-    (λ n differs. (renew_keeps (pool_in c.args.self.now.pool) c.args.key n reached differs (pool_in c.renew.new.self) c.in_ok-hold.ensures.turns.0 c.in_ok-hold.ensures.turns.1.pool_is, refl))
-    (c.change.ensures.aside (reached_turn _ _ _ _ _ c.in_ok-hold.ensures.turns.1 reached))
+    (λ n differs. (renew_keeps (pool_in c.args.self.now.pool) c.args.key n reached differs (pool_in c.renew.new.self) true c.in_ok-hold.ensures.turns.pool_is, refl))
+    (c.change.ensures.aside (reached_turn _ _ _ _ _ c.in_ok-hold.ensures.turns reached))
 
 pub returns-in-Kept-clause-aside : goal.returns-in-Kept-clause-aside
 returns-in-Kept-clause-aside c = λ reached.
-    let led = reached_turn _ _ _ _ _ c.in_ok-hold.ensures.turns.1 reached in
+    let led = reached_turn _ _ _ _ _ c.in_ok-hold.ensures.turns reached in
     let is = subst (λ (r : Renewed). IsRenewed r c.args.key c.args.self.now.pool c.renew.new.self) c.in-Kept.is c.in_ok-hold.ensures.is in
     let number = c.in-Kept.hold.number in
     let its : key_of (find_number number c.renew.new.self.holds.items) ≡ Some c.args.key =
@@ -165,7 +167,7 @@ returns-in-Kept-clause-aside c = λ reached.
     keeps_on c.start_kept.result c.args.key c.args.self.now.pool.holds.items c.restart.new.self.pool.holds.items c.start_kept.new.self.pool.holds.items c.args.self.now.links.items c.restart.new.self.links.items c.start_kept.new.self.links.items
     (subst (λ (d : code.Pool). OthersKeep c.args.key c.args.self.now.pool.holds.items c.args.self.now.links.items d.holds.items c.restart.new.self.links.items) (sym c.restart.ensures.pool)
     (keeps_both c.args.key c.args.self.now.pool.holds.items c.renew.new.self.holds.items c.renew.new.self.holds.items c.args.self.now.links.items c.args.self.now.links.items c.restart.new.self.links.items
-    (λ n differs. (renew_keeps (pool_in c.args.self.now.pool) c.args.key n reached differs (pool_in c.renew.new.self) c.in_ok-hold.ensures.turns.0 c.in_ok-hold.ensures.turns.1.pool_is, refl))
+    (λ n differs. (renew_keeps (pool_in c.args.self.now.pool) c.args.key n reached differs (pool_in c.renew.new.self) true c.in_ok-hold.ensures.turns.pool_is, refl))
     (begun_aside c.args.key number c.renew.new.self.holds.items c.args.self.now.links.items c.restart.new.self.links.items its
     (begun_own number c.args.self.now.links.items c.restart.new.self.links.items c.restart.ensures.queues c.restart.ensures.others))))
     (aside_own c.start_kept.result c.args.key c.restart.new.self c.start_kept.new.self (c.start_kept.ensures.own (subst (λ (d : code.Pool). IsReached (pool_in d)) (sym c.restart.ensures.pool) led)))
@@ -175,3 +177,25 @@ returns-in-Kept-clause-right c = held_right_on c.start_kept.result c.args.key c.
 
 pub returns-then-has_transaction-clause-right : goal.returns-then-has_transaction-clause-right
 returns-then-has_transaction-clause-right c = deaf_right_on c.expel.result c.args.key c.expel.new.self c.expel.ensures.over
+
+pub returns-in-Kept-clause-puts : goal.returns-in-Kept-clause-puts
+returns-in-Kept-clause-puts c = λ whole waits.
+    ok_more c.start_kept.result _ _
+    (λ p. waits_place (λ (number : ℕ). waits_on number c.args.self.now.links.items) (λ (number : ℕ). waits_on number c.restart.new.self.links.items) (get c.args.self.now.applications c.args.key) (get c.restart.new.self.applications c.args.key) whole
+    (going_of c.args.key c.args.self.now) (going_of c.args.key c.restart.new.self) (body_of c.args.key c.start_kept.new.self) waits
+    (ap (λ (s : Slab an.Application). get s c.args.key) c.restart.ensures.same) c.restart.ensures.waits p.starts)
+    c.start_kept.ensures.puts
+
+pub returns-then-has_transaction-clause-puts : goal.returns-then-has_transaction-clause-puts
+returns-then-has_transaction-clause-puts c = λ whole waits.
+    ok_more c.expel.result _ _
+    (λ d. spared_place (λ (number : ℕ). waits_on number c.args.self.now.links.items) (body_of c.args.key c.args.self.now) (body_of c.args.key c.expel.new.self) (inr (shut c.expel.new.self.applications c.args.key (going_of c.args.key c.expel.new.self) d)))
+    c.expel.ensures.over
+
+pub returns-else-has_transaction-clause-puts : goal.returns-else-has_transaction-clause-puts
+returns-else-has_transaction-clause-puts c = λ whole waits.
+    let waiting : ℕ → Option (List ℕ) = λ (number : ℕ). waits_on number c.args.self.now.links.items in
+    ok_more c.change.result _ _
+    (λ s. waits_place waiting waiting (get c.args.self.now.applications c.args.key) (get c.args.self.now.applications c.args.key) whole (going_of c.args.key c.args.self.now) _ (body_of c.args.key c.change.new.self) waits refl (λ number. refl)
+    (spared_place waiting _ (body_of c.args.key c.change.new.self) s))
+    (c.change.ensures.body whole waits)
