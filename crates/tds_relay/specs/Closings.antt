@@ -76,7 +76,8 @@ is_shut (Some seen) = not seen.1
 abbrev pub is_shut_at : ℕ → Register → Bool
 is_shut_at number r = is_shut (seen_at number r.links)
 
--- It is right to close what is called so: one of these applications is to be closed now and wasn't before; or the connection is there no more.
+-- It is right to close what is called so: one of these applications is to be closed now and wasn't
+-- before; or a connection is called so no more.
 pub data IsDue (May : ℕ → Type 0) (tag : ℕ) (old new : Register) : Type 0 where
   OfApplication : (key : ℕ) → May key → open_name key old ≡ Some tag → open_name key new ≡ None → IsDue May tag old new
   OfConnection : (number : ℕ) → called_at number old.links ≡ Some tag → called_at number new.links ≡ None → IsDue May tag old new
@@ -124,7 +125,8 @@ pub record ClosesOnly (May : ℕ → Type 0) (old new : Register) : Type 0 where
   pub told : new.kept ≡ old.kept
   pub closes : (key tag : ℕ) → open_name key old ≡ Some tag → (open_name key new ≡ Some tag) ⊎ (May key × IsOrdered (orders.Close tag) new.orders)
   pub opens : (number : ℕ) → is_shut_at number new ≡ true → (is_shut_at number old ≡ true) ⊎ IsOrdered (orders.Open number) new.orders
-  -- a connection that is there no more is ordered closed; and nobody else is than those, and these applications
+  -- a connection that is called so no more is ordered closed; and nobody else is than those, and
+  -- these applications
   pub cuts : (number tag : ℕ) → called_at number old.links ≡ Some tag → (called_at number new.links ≡ Some tag) ⊎ IsOrdered (orders.Close tag) new.orders
   pub due : (tag : ℕ) → IsOrdered (orders.Close tag) new.orders → IsOrdered (orders.Close tag) old.orders ⊎ IsDue May tag old new
   -- and each once, where no two are called so

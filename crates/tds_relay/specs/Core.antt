@@ -306,12 +306,12 @@ pub record IsThereAndAway (h : Core) (key : ℕ) : Type 0 where
   pub waits : is_in key h.pool.line ≡ false
 
 -- A request is asked, and put, where it has begun, its end where all of it has come; it may be
--- taken back where nothing of it has gone on.
+-- taken back at the pool where its application has taken it back.
 abbrev pub MayDo : Action → Option End → Type 0
 MayDo pool.Asks end = IfOpen IsBegun end
 MayDo (pool.Puts count) end = IfOpen IsBegun end
 MayDo (pool.Ends count) end = IfOpen HasWholeRequest end
-MayDo pool.Stops end = IfOpen IsHere end
+MayDo pool.Stops end = IfOpen AsksNothing end
 
 abbrev pub IsPut : Action → Type 0
 IsPut (pool.Puts count) = Unit {0}

@@ -104,8 +104,8 @@ pub fn a_cut_takes_one()
     ensures { (d : Pool) (number : ℕ) → TakesOne d number }
 {}
 
-/// What an application asks goes on once: each call that says something of a request by its lease is the one
-/// of an event that says it for this application. No end, no loss and no cleaning says it again.
+/// What an application asks goes on by one event each: each call that says something of a request by its lease is the
+/// one of an event that says it for this application. No end, no loss and no cleaning says it again.
 pub fn never_asked_twice()
     ensures { (sharing : Sharing) (events : List Event) (event : Event)
         → SaysOnce (pool_after (new_pool sharing) events) event }
@@ -189,9 +189,10 @@ pub fn request_goes_on(relay: &mut Relay, key: usize, said: &[u8]) -> Result<(),
 /// The body of a request goes on as it came: of each piece of an application's bytes, what comes of a body is kept
 /// behind the others while its request waits, or put by the client of the connection that the application holds, and
 /// what goes out by that waits there, behind what waited; where the last of it has come, the end is put behind it.
-/// Before each piece and behind the last one a request that waits may be asked: then all that was kept of it is put
-/// so, by a client that begins a request of its kind. What is forgotten is nowhere then. By an attention that is
-/// handed on, what its client puts out for it waits there, once. Or the application is to be closed.
+/// Before each piece and behind the last one a request that waits may be asked: then all that was kept of it is put,
+/// by a client that begins a request of its kind: what stands before it there isn't said. What is forgotten is nowhere
+/// then. By an attention that is handed on, what its client puts out for it waits there, once. Or the application is to
+/// be closed.
 pub fn body_goes_on(relay: &mut Relay, key: usize, said: &[u8]) -> Result<(), NoMemory>
     ensures { IsReached (pool_in relay.old.pool) → OnOk result (Carries key (machine_in relay.old)
         said.now [] (body_of key relay.old) (body_of key relay.new) (machine_in relay.new)) }
@@ -241,8 +242,9 @@ pub fn own_bytes_over_calls()
 {}
 
 /// Each call of a relay leaves its machine, which is its pool, the ends of its applications and what waits for each,
-/// where steps lead that may be: its own contract says so. So where steps led to the machine, they do again, and
-/// what is said here of steps, and of the moves that they are, holds behind any calls.
+/// where steps lead that may be: its own contract says so (`steps`; of `set_most` `moves` and `kept`), or that it leaves
+/// the machine as it was. So where steps led to the machine, they do again, and what is said here of steps, and of the
+/// moves that they are, holds behind any calls.
 pub fn any_calls()
     ensures { (by : Cause) (sharing : Sharing) (old new : Machine) → Steps by old new
         → IsLedTo sharing old → IsLedTo sharing new }

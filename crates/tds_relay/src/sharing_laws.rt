@@ -11,8 +11,8 @@ ghost use Rattle.tds_relay.specs.declared.pool.Mode.TheVariants.{Sessions};
 /// An application keeps its session, which is the connection that it holds, by the lease by which it holds it: behind any
 /// moves. It may hold that no more only where its request asks for a full reset, or for one that keeps its transaction; it
 /// was to be closed before, or has left; or its connection is lost, or says what no server may. One that asks to keep its
-/// transaction keeps the connection where a transaction is open there. Whoever else does whatever parts it from nothing. So it
-/// is of a relay whose mode is by sessions.
+/// transaction is parted from the connection only where none is open there; else it holds that by another lease. Whoever else
+/// does whatever parts it from nothing. So it is of a relay whose mode is by sessions.
 pub fn keeps_session()
     ensures moves { (sharing : Sharing) (key : ℕ) (moves : List Move) (move : Move)
         → MayMoveAll (new_core sharing) moves → MayMove (moved_all (new_core sharing) moves) move
@@ -32,8 +32,8 @@ pub fn keeps_mode()
 /// However connections are shared, an application keeps the one that it holds, by the lease by which it holds it, but for
 /// the same reasons; or it is parked, where it rested: its end asks nothing and has taken nothing back that the server
 /// hasn't acknowledged, and on its connection no transaction is open and no news of a reset is to come. So a transaction
-/// never changes its connection, and no request that is out does. No call for another application or for a connection
-/// parks it (`CausesMove` of `specs/Core`).
+/// never changes its connection, but may end with it, and no request that is out does. No call for another application or for
+/// a connection parks it (`CausesMove` of `specs/Core`).
 pub fn keeps_transaction()
     ensures moves { (sharing : Sharing) (key : ℕ) (moves : List Move) (move : Move)
         → MayMoveAll (new_core sharing) moves → MayMove (moved_all (new_core sharing) moves) move

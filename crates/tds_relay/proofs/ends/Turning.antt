@@ -78,7 +78,7 @@ module _ (d : Pool) (key : ℕ) (outs outs2 : ℕ → Bool) (sound : Sound d) (s
   action_step pool.Asks p (Some (Open front w asks)) s not may left =
       stays_next outs2 (turn d (pool.Does key pool.Asks)).pool key front.stage w p (asks_stand d key outs outs2 sound sit front.stage w p s left)
   action_step pool.Stops p (Some (Open front w asks)) s not may left =
-      stays_next outs2 (turn d (pool.Does key pool.Stops)).pool key front.stage w p (stops_stand d key outs outs2 sound sit front.stage w p s may left)
+      stays_next outs2 (turn d (pool.Does key pool.Stops)).pool key front.stage w p (stops_stand d key outs outs2 sound sit front.stage w p s (subst IsHere (sym may) tt) left)
   action_step (pool.Puts count) p (Some (Open front w asks)) s not may left = absurd not
   action_step (pool.Ends count) p (Some (Open front w asks)) s not may left = absurd not
 

@@ -53,7 +53,7 @@ pub enum PlaceOn {
 /// What a relay has done.
 #[derive(Clone, Copy, Debug, PartialEq, Eq)]
 pub struct Counts {
-    /// Requests that were asked of the server for applications.
+    /// Requests that the pool asked for applications. Of one that its application takes back at once nothing may have gone out.
     pub requests: u64,
     /// Attentions that went out for applications' requests: their own, and for what they took back.
     pub cancels: u64,

@@ -11,7 +11,7 @@ ghost use Rattle.tds_relay.specs.Closings.{ClosesOnly, NoKey, register_in};
 ghost use Rattle.tds_relay.specs.Pool.{Does, Stops, Unwaits, find_key};
 ghost use Rattle.tds_relay.specs.declared.pool.Hold.{Hold};
 ghost use Rattle.tds_relay.specs.Fronts.{FedOn, Moved, MovedOn, ends_in, core_in, core_of_ends, withdraws};
-ghost use Rattle.tds_relay.specs.Core.{EndList, IfOpen, IsHere, change_end, end_at};
+ghost use Rattle.tds_relay.specs.Core.{EndList, IfOpen, change_end, end_at};
 ghost use Rattle.tds_relay.specs.Lent.{OthersKeepAt};
 ghost use Rattle.tds_relay.specs.Waiting.{IsRightlyKept};
 ghost use Rattle.tds_relay.specs.Queues.{acknowledgement, give, queue_at, queues_in};
@@ -102,8 +102,8 @@ impl Relay {
             (pool_in self.old.pool) (pool_in self.new.pool)) }
         ensures kept { OnOk result (queues_in self.new.applications
             ≡ queues_in self.old.applications) }
-        ensures moves { OnOk result (Moved (Application key) (core_in self.old)
-            (core_in self.new)) }
+        ensures moves { OnOk result (IfOpen AsksNothing (end_at (ends_in self.old.applications) key)
+            → Moved (Application key) (core_in self.old) (core_in self.new)) }
         ensures read { OnOk result (LinksStay self.old.links.items self.new.links.items) }
         ensures stand { OnOk result (AllStand self.old.pool.service
             self.new.pool.service) }
@@ -178,8 +178,8 @@ impl Relay {
         ensures some { IfOk result (λ stopped. IfSome stopped (λ number. (before after : List ℕ)
             × Turns (Does key Stops) (pool_in self.old.pool) (pool_in self.new.pool) before
             after)) }
-        ensures moves { (ends : EndList) → IfOpen IsHere (end_at ends key) → Moved (Application key)
-            (core_of_ends (pool_in self.old.pool) ends)
+        ensures moves { (ends : EndList) → IfOpen AsksNothing (end_at ends key)
+            → Moved (Application key) (core_of_ends (pool_in self.old.pool) ends)
             (core_of_ends (pool_in self.new.pool) ends) }
         ensures links { self.new.links.items ≡ self.old.links.items }
         ensures stand { AllStand self.old.pool.service self.new.pool.service }

@@ -6,12 +6,13 @@ use Rattle.tds_relay.proofs.bytes.Calls.{stand_on}
 use Rattle.tds_relay.proofs.steps.Bodied.{forgot_on}
 use Rattle.tds_relay.specs.declared.link.Link.{Link}
 use Rattle.tds_relay.specs.Fronts.{ends_in}
-use Rattle.tds_relay.specs.Core.{EndList, end_at}
+use Rattle.tds_relay.specs.Anew.{AsksNothing}
+use Rattle.tds_relay.specs.Core.{EndList, IfOpen, end_at}
 use Rattle.tds_relay.specs.Reasons.{CannotUnask, IsUnheld}
 use Rattle.tds_relay.proofs.spared.Reasons.{for_that, forgotten}
 use Rattle.tds_relay.proofs.spared.Closings.{closes_first, closes_nobody}
 use Rattle.tds_relay.proofs.seats.Relays.{unwaited}
-use Rattle.std.proofs.Common.{ap, inl, List, refl, rules, subst, ◌⊎◌}
+use Rattle.std.proofs.Common.{ap, inl, List, refl, rules, subst, sym, ◌⊎◌}
 use Rattle.tds_relay.proofs.spared.Speaking.{reached_by}
 use Rattle.tds_relay.proofs.spared.Resting.{others_on}
 use Rattle.slab.specs.Slab.{get}
@@ -25,7 +26,7 @@ use Rattle.tds_relay.proofs.relay.Relay.forget.Goals as goal
 
 pub returns-then-was_asked-clause-moves : goal.returns-then-was_asked-clause-moves
 returns-then-was_asked-clause-moves c =
-    ok_more c.unask.result _ _ (λ m quiet from h. m from (moves_does (Application c.args.key) from _ _ _ _ _ _ _ c.forget_request-was_asked.ensures.turns quiet refl c.forget_request-was_asked.ensures.ends h)) c.unask.ensures.moves
+    ok_more c.unask.result _ _ (λ m quiet from h. m (subst (λ (es : EndList). IfOpen AsksNothing (end_at es c.args.key)) (sym c.forget_request-was_asked.ensures.ends) quiet) from (moves_does (Application c.args.key) from _ _ _ _ _ _ _ c.forget_request-was_asked.ensures.turns quiet refl c.forget_request-was_asked.ensures.ends h)) c.unask.ensures.moves
 
 pub returns-else-was_asked-clause-moves : goal.returns-else-was_asked-clause-moves
 returns-else-was_asked-clause-moves c = λ quiet from h. (moves_does (Application c.args.key) from _ _ _ _ _ _ _ c.forget_request-was_asked.ensures.turns quiet refl c.forget_request-was_asked.ensures.ends h)

@@ -1,7 +1,8 @@
 use Rattle.std.proofs.Common.{◌∙◌, List, ap, inl, inr, refl, subst, sym}
 use Rattle.tds_relay.specs.declared.link.Link.{Link}
 use Rattle.tds_relay.specs.Fronts.{ends_in, core_in, core_of_ends}
-use Rattle.tds_relay.specs.Core.{Core, IsHere, Moves, change_end, closes, EndList, end_at}
+use Rattle.tds_relay.specs.Anew.{AsksNothing}
+use Rattle.tds_relay.specs.Core.{Core, Moves, change_end, closes, EndList, end_at}
 use Rattle.tds_relay.specs.Ties.{Application, pool_in}
 use Rattle.tds_relay.proofs.steps.Fed.{closed_as_fed, handed_on_is}
 use Rattle.tds_relay.proofs.steps.Fronts.{moves_closes, moves_same, no_moves, open_closed}
@@ -55,7 +56,7 @@ returns-in-None-clause-moves c =
       moves = m from
           (moves_same by from _ _ (change_end c.args.key closes before) _ refl
           (ap (change_end c.args.key closes) c.stop.ensures.ends ∙ sym (closed_as_fed c.args.key before now bytes _ f))
-          (c.stop.ensures.moves (change_end c.args.key closes before) (open_closed IsHere before c.args.key) from
+          (c.stop.ensures.moves (change_end c.args.key closes before) (open_closed AsksNothing before c.args.key) from
           (moves_closes by from _ _ before _ c.args.key refl refl (no_moves by from))));
       deaf = deaf_behind c.args.key _ _ last (deaf_closed c.args.key (ends_in c.stop.new.self.applications));
       nothing = λ queues. refl;

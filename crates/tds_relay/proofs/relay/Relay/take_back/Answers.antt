@@ -2,7 +2,7 @@ use Rattle.std.proofs.Common.{◌∙◌, List, ap, inl, inr, refl, subst, sym, �
 use Rattle.tds_relay.specs.declared.link.Link.{Link}
 use Rattle.tds_relay.specs.Anew.{AsksNothing}
 use Rattle.tds_relay.specs.Fronts.{ends_in, core_in, core_of_ends, withdraws}
-use Rattle.tds_relay.specs.Core.{Core, IsHere, Moves, change_end, closes}
+use Rattle.tds_relay.specs.Core.{Core, Moves, change_end, closes}
 use Rattle.tds_relay.specs.Ties.{Application, pool_in, Reaches}
 use Rattle.tds_relay.proofs.steps.Fed.{closed_as_fed, taken_back_at}
 use Rattle.tds_relay.proofs.steps.Quieting.{moves_unwaits, stops_unwaits}
@@ -58,7 +58,7 @@ returns-in-None-clause-moves c =
       moves = m from
           (moves_same by from _ _ (change_end c.args.key closes before) _ refl
           (ap (change_end c.args.key closes) same ∙ sym (closed_as_fed c.args.key before now bytes _ f))
-          (c.stop.ensures.moves (change_end c.args.key closes before) (open_closed IsHere before c.args.key) from
+          (c.stop.ensures.moves (change_end c.args.key closes before) (open_closed AsksNothing before c.args.key) from
           (moves_does by from _ _ (change_end c.args.key closes before) _ _ _ _ c.forget_request.ensures.turns (open_closed AsksNothing before c.args.key) refl refl
           (moves_closes by from _ _ before _ c.args.key refl refl (no_moves by from)))));
       deaf = deaf_behind c.args.key _ _ last (deaf_closed c.args.key (ends_in c.stop.new.self.applications));

@@ -20,7 +20,7 @@ use Rattle.tds_relay.proofs.steps.Halting.{cancelled_going, cancelled_shut}
 use Rattle.tds_relay.proofs.relay.Relay.unask.Goals as goal
 
 pub returns-then-not-has_nothing_out-clause-moves : goal.returns-then-not-has_nothing_out-clause-moves
-returns-then-not-has_nothing_out-clause-moves c = ok_more c.expel.result _ _ (λ m from h. m from (moves_closes (Application c.args.key) from _ _ _ _ c.args.key refl refl h)) c.expel.ensures.moves
+returns-then-not-has_nothing_out-clause-moves c = ok_more c.expel.result _ _ (λ m quiet from h. m from (moves_closes (Application c.args.key) from _ _ _ _ c.args.key refl refl h)) c.expel.ensures.moves
 
 pub returns-in-Ok-clause-goes : goal.returns-in-Ok-clause-goes
 returns-in-Ok-clause-goes c = ok_more c.send_stop.result _ _ (λ g from h. g (Application c.args.key) from (reaches_turn (Application c.args.key) from _ _ _ _ _ c.in-Ok.ensures.ok refl h)) c.send_stop.ensures.goes
@@ -28,12 +28,12 @@ returns-in-Ok-clause-goes c = ok_more c.send_stop.result _ _ (λ g from h. g (Ap
 pub returns-in-Ok-clause-moves : goal.returns-in-Ok-clause-moves
 returns-in-Ok-clause-moves c =
     ok_more c.send_stop.result _ _
-    (λ m from h. m (Application c.args.key) from (moves_does (Application c.args.key) from _ _ _ _ _ _ _ c.in-Ok.ensures.ok (tt, c.has_nothing_out.ensures.here (search rules), tt) refl refl h))
+    (λ m quiet from h. m (Application c.args.key) from (moves_does (Application c.args.key) from _ _ _ _ _ _ _ c.in-Ok.ensures.ok (tt, quiet, tt) refl refl h))
     c.send_stop.ensures.moves
 
 pub returns-in_ok-unless_memory-in-Err-clause-moves : goal.returns-in_ok-unless_memory-in-Err-clause-moves
 returns-in_ok-unless_memory-in-Err-clause-moves c =
-    ok_more c.expel-in-Err.result _ _ (λ m from h. m from (moves_closes (Application c.args.key) from _ _ _ _ c.args.key c.in-Err.ensures.err refl h)) c.expel-in-Err.ensures.moves
+    ok_more c.expel-in-Err.result _ _ (λ m quiet from h. m from (moves_closes (Application c.args.key) from _ _ _ _ c.args.key c.in-Err.ensures.err refl h)) c.expel-in-Err.ensures.moves
 
 pub returns-in-Ok-clause-stand : goal.returns-in-Ok-clause-stand
 returns-in-Ok-clause-stand c = stand_on c.send_stop.result _ _ _ c.in-Ok.ensures.stand c.send_stop.ensures.stand
