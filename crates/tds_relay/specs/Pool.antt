@@ -311,7 +311,8 @@ leaves d key gives way (Some h) =
     (releasing d.service h.lease h.number gives way)
 
 -- A connection with an open transaction is lent to the same application by another lease, with a
--- reset that keeps the transaction. Where memory is refused to that, it is closed.
+-- reset that keeps the transaction. Where memory is refused to that, it is closed: but no step of a
+-- call that answers Ok is that (`MayDoAlone` of `specs/Core`).
 abbrev pub renews_by : Pool → Hold → ℕ → Option Loan → Bool → PoolTurn
 renews_by d h ticket lent false =
     moves d (without_number h.number d.holds) d.line (calls.Keep h.lease ∷ calls.Lost h.number ∷ [])
