@@ -1,4 +1,4 @@
-use Rattle.std.proofs.Common.{ap, inl, inr, refl, rules, subst, sym, ◌≡◌, ◌∙◌, Option, Some, ℕ, List}
+use Rattle.std.proofs.Common.{ap, inl, inr, refl, rules, subst, sym, true, ◌≡◌, ◌∙◌, Option, Some, ℕ, List}
 use Rattle.tds_relay.specs.Waiting.{IsUnheldOrTurnedAway}
 use Rattle.tds_relay.specs.declared.pool.Pool as code
 use Rattle.tds_relay.proofs.steps.Fronts.{moves_closes, moves_does, moves_same}
