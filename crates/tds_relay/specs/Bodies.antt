@@ -1,4 +1,5 @@
--- Where the body of an application's request is: kept while that waits, or put by the client of the connection that its application holds.
+-- Where the body of an application's request is: kept while that waits, or put by the client of the
+-- connection that its application holds.
 use Rattle.std.specs.Prelude.{◌≡◌, ◌⊎◌, ◌-◌, ℕ, Bool, true, false, List, [], ◌∷◌, ◌++◌, drop, length, take, Option, Some, None, Ok, option_map, if◌then◌else◌}
 use Rattle.slab.specs.Slab.{Slab, get}
 use Rattle.tds_packet.specs.declared.kind.Kind.{Kind}
@@ -38,7 +39,8 @@ pub data Body : Type 0 where
   Kept : (kind : MessageKind) (bytes : List ℕ) (whole : Bool) → Body
   -- it is said to go on, and there is no connection on which it does: no call leads to that
   Astray : Body
-  -- it goes on, by this client, on the connection of this number, on which these bytes wait to be sent
+  -- it goes on, by this client, on the connection of this number, on which these bytes wait to be
+  -- sent
   Going : (number : ℕ) (client : ClientSession) (waits : List ℕ) → Body
 
 -- ---- In a relay
@@ -50,7 +52,8 @@ going_by number (Some client) (Some bytes) = Going number client bytes
 
 abbrev pub going : services.Service → List Link → Option Hold → Body
 going s links None = Astray
-going s links (Some hold) = going_by hold.number (client_of hold.lease s) (waits_on hold.number links)
+going s links (Some hold) =
+    going_by hold.number (client_of hold.lease s) (waits_on hold.number links)
 
 abbrev pub body_by : Asking → List ℕ → Body → Body
 body_by asking.Nothing held goes = Nowhere
@@ -76,11 +79,13 @@ Spared old new = (new ≡ old) ⊎ (new ≡ Closed)
 
 -- Each application asks what it asked.
 abbrev pub AskAsBefore : Slab Application → Slab Application → Type 0
-AskAsBefore old new = (key : ℕ) (goes : Body) → body_in (get new key) goes ≡ body_in (get old key) goes
+AskAsBefore old new =
+    (key : ℕ) (goes : Body) → body_in (get new key) goes ≡ body_in (get old key) goes
 
 -- Or it is to be closed.
 abbrev pub AskOn : Slab Application → Slab Application → Type 0
-AskOn old new = (key : ℕ) (goes : Body) → Spared (body_in (get old key) goes) (body_in (get new key) goes)
+AskOn old new =
+    (key : ℕ) (goes : Body) → Spared (body_in (get old key) goes) (body_in (get new key) goes)
 
 -- Nothing of it goes on.
 abbrev pub IsUnsent : Body → Type 0
@@ -92,40 +97,52 @@ IsUnsent (Going number client waits) = ⊥
 
 -- ---- What becomes of one
 
--- These bytes are put by a client, and with them its message is finished or not: the client behind that, and what goes out.
+-- These bytes are put by a client, and with them its message is finished or not: the client behind
+-- that, and what goes out.
 abbrev pub ArePut : Bool → List ℕ → ClientSession → ClientSession → List ℕ → Type 0
-ArePut false more from to out = put from more ≡ Ok (record { answer = tt; session = to; bytes = out })
+ArePut false more from to out =
+    put from more ≡ Ok (record { answer = tt; session = to; bytes = out })
 ArePut true more from to out = Streams from (more ∷ []) out to
 
--- It stays, or its application is to be closed; of one that is astray nothing is said. Or one that has
--- waited is put as it was kept, all of it, by a client that begins a request of its kind; what goes out
--- by that waits last on its connection, behind some bytes (which those are, `StartsInPlace` says).
+-- It stays, or its application is to be closed; of one that is astray nothing is said. Or one that
+-- has waited is put as it was kept, all of it, by a client that begins a request of its kind; what
+-- goes out by that waits last on its connection, behind some bytes (which those are,
+-- `StartsInPlace` says).
 pub data Starts : Body → Body → Type 0 where
   Stays : {b : Body} → Starts b b
   Closes : {b : Body} → Starts b Closed
   Strays : {b : Body} → Starts Astray b
-  Goes : {kind : MessageKind} {bytes : List ℕ} {whole : Bool} {number : ℕ} {to : ClientSession} (waits out : List ℕ)
-      (from : ClientSession) → ArePut whole bytes (opened from kind) to out → Starts (Kept kind bytes whole) (Going number to (waits ++ out))
+  Goes : {kind : MessageKind} {bytes : List ℕ} {whole : Bool} {number : ℕ} {to : ClientSession}
+      (waits out : List ℕ)
+      (from : ClientSession) → ArePut whole bytes (opened from kind) to out
+      → Starts (Kept kind bytes whole) (Going number to (waits ++ out))
 
--- These bytes of it have come, with which it is whole or not: they are kept behind the others, or put. Or its application is to be closed.
+-- These bytes of it have come, with which it is whole or not: they are kept behind the others, or
+-- put. Or its application is to be closed.
 pub data Grows (whole : Bool) (more : List ℕ) : Body → Body → Type 0 where
-  Keeps : {kind : MessageKind} {bytes : List ℕ} {was : Bool} → Grows whole more (Kept kind bytes was) (Kept kind (bytes ++ more) whole)
+  Keeps : {kind : MessageKind} {bytes : List ℕ} {was : Bool}
+      → Grows whole more (Kept kind bytes was) (Kept kind (bytes ++ more) whole)
   Sends : {number : ℕ} {to : ClientSession} (waits out : List ℕ)
-      (from : ClientSession) → ArePut whole more from to out → Grows whole more (Going number from waits) (Going number to (waits ++ out))
+      (from : ClientSession) → ArePut whole more from to out
+      → Grows whole more (Going number from waits) (Going number to (waits ++ out))
   Drifts : {b : Body} → Grows whole more Astray b
   Shuts : {b : Body} → Grows whole more b Closed
 
--- It goes on, and is cancelled by its client: what goes out by that, an attention, and before it the end of a request that was out in part,
--- waits once behind what waited on its connection. What hasn't begun to go on stays. Or its application is to be closed.
+-- It goes on, and is cancelled by its client: what goes out by that, an attention, and before it
+-- the end of a request that was out in part, waits once behind what waited on its connection. What
+-- hasn't begun to go on stays. Or its application is to be closed.
 pub data Halts : Body → Body → Type 0 where
-  ByClient : {number : ℕ} {to : ClientSession} (waits : List ℕ) (from : ClientSession) → Halts (Going number from waits) (Going number to (waits ++ cancel_out from.stage))
+  ByClient : {number : ℕ} {to : ClientSession} (waits : List ℕ) (from : ClientSession)
+      → Halts (Going number from waits) (Going number to (waits ++ cancel_out from.stage))
   Before : {b : Body} → IsUnsent b → Halts b b
   OfAstray : {b : Body} → Halts Astray b
   ByClosing : {b : Body} → Halts b Closed
 
--- A request of packets of this type begins, with nothing of its body; or its application is to be closed.
+-- A request of packets of this type begins, with nothing of its body; or its application is to be
+-- closed.
 pub data BeginsBody (kind : Kind) : Body → Type 0 where
-  Asks : (message : MessageKind) → packets_are message ≡ kind → BeginsBody kind (Kept message [] false)
+  Asks : (message : MessageKind) → packets_are message ≡ kind
+      → BeginsBody kind (Kept message [] false)
   Refuses : BeginsBody kind Closed
 
 -- ---- Piece by piece
@@ -147,7 +164,8 @@ Becomes said.HandOn taken old new = Halts old new
 -- the bytes that an end takes of these at once
 abbrev pub taken_of : List ℕ → Option End → List ℕ
 taken_of bytes None = []
-taken_of bytes (Some (Open front withdrawn asks)) = take (count_by (fed front bytes).brings bytes) bytes
+taken_of bytes (Some (Open front withdrawn asks)) =
+    take (count_by (fed front bytes).brings bytes) bytes
 taken_of bytes (Some (Over why)) = []
 
 -- It is Closed only where nothing more is taken of its application.
@@ -155,24 +173,29 @@ abbrev pub IsClosedAsEnd : Option End → Body → Type 0
 IsClosedAsEnd end Closed = IsDeaf end
 IsClosedAsEnd end _ = Unit {0}
 
--- Piece by piece of what steps take of an application, from the one body to the other; before each and behind the last it may start. Before
--- each it is Closed only as its application's end is.
+-- Piece by piece of what steps take of an application, from the one body to the other; before each
+-- and behind the last it may start. Before each it is Closed only as its application's end is.
 abbrev pub AreFollowed : ℕ → Machine → List Step → Body → Body → Type 0
 AreFollowed key h [] old new = Starts old new
 AreFollowed key h (Takes other bytes ∷ steps) old new =
     (from : Body) × (to : Body) × Starts old from × IsClosedAsEnd (end_at h.core.ends key) from
-    × Becomes (said_of bytes (end_at h.core.ends key)) (taken_of bytes (end_at h.core.ends key)) from to × AreFollowed key (after h (Takes other bytes)) steps to new
+    × Becomes (said_of bytes (end_at h.core.ends key)) (taken_of bytes (end_at h.core.ends key))
+    from to
+    × AreFollowed key (after h (Takes other bytes)) steps to new
 AreFollowed key h (step ∷ steps) old new = AreFollowed key (after h step) steps old new
 
--- An application's bytes are taken, up to these, and its request's body follows them, and is Closed behind them only as its application's end is.
-pub record Carries (key : ℕ) (old : Machine) (bytes left : List ℕ) (from to : Body) (new : Machine) : Type 0 where
+-- An application's bytes are taken, up to these, and its request's body follows them, and is Closed
+-- behind them only as its application's end is.
+pub record Carries (key : ℕ) (old : Machine) (bytes left : List ℕ) (from to : Body) (new : Machine)
+    : Type 0 where
   pub tells : Tells key old bytes left new
   pub followed : AreFollowed key old tells.steps from to
   pub closed : IsClosedAsEnd (end_at new.core.ends key) to
 
 -- Whatever was taken before, these bytes are taken behind it, up to these.
 abbrev pub CarriesOn : ℕ → List ℕ → List ℕ → Body → Body → Machine → Machine → Type 0
-CarriesOn key left rest from to old new = (first : Machine) (bytes : List ℕ) (at : Body) → Carries key first bytes left at from old → Carries key first bytes rest at to new
+CarriesOn key left rest from to old new = (first : Machine) (bytes : List ℕ) (at : Body)
+    → Carries key first bytes left at from old → Carries key first bytes rest at to new
 
 -- What becomes of it by them, and then it may start
 pub record Obeys (answer : Said) (taken : List ℕ) (old new : Body) : Type 0 where
@@ -199,13 +222,16 @@ IsStill Nowhere = Unit {0}
 IsStill (Kept kind bytes whole) = Unit {0}
 IsStill _ = ⊥
 
--- As it starts, but what is put of it waits behind what waited on its connection, once, and nothing else does.
+-- As it starts, but what is put of it waits behind what waited on its connection, once, and nothing
+-- else does.
 pub data StartsInPlace (waits : ℕ → Option (List ℕ)) : Body → Body → Type 0 where
   Remains : {b : Body} → StartsInPlace waits b b
   Closing : {b : Body} → StartsInPlace waits b Closed
   Wanders : {b : Body} → StartsInPlace waits Astray b
-  Follows : {kind : MessageKind} {bytes : List ℕ} {whole : Bool} {number : ℕ} {to : ClientSession} (was out : List ℕ) (from : ClientSession)
-      → waits number ≡ Some was → ArePut whole bytes (opened from kind) to out → StartsInPlace waits (Kept kind bytes whole) (Going number to (was ++ out))
+  Follows : {kind : MessageKind} {bytes : List ℕ} {whole : Bool} {number : ℕ} {to : ClientSession}
+      (was out : List ℕ) (from : ClientSession)
+      → waits number ≡ Some was → ArePut whole bytes (opened from kind) to out
+      → StartsInPlace waits (Kept kind bytes whole) (Going number to (was ++ out))
 
 -- It starts so; where nothing of it goes on, nothing is put.
 pub record PutsFrom (waits : ℕ → Option (List ℕ)) (mid : Body) (new : BodyAndWaits) : Type 0 where
@@ -215,8 +241,8 @@ pub record PutsFrom (waits : ℕ → Option (List ℕ)) (mid : Body) (new : Body
 abbrev pub GoesFrom : BodyAndWaits → BodyAndWaits → Type 0
 GoesFrom old new = PutsFrom old.1 old.0 new
 
--- Where a request begins, it starts so. Where it asks for no reset, and nothing of it goes on, nothing
--- is put; of one that asks for a full one nothing goes on yet.
+-- Where a request begins, it starts so. Where it asks for no reset, and nothing of it goes on,
+-- nothing is put; of one that asks for a full one nothing goes on yet.
 pub record BeginsFrom (kind : Kind) (reset : Option Reset) (old new : BodyAndWaits) : Type 0 where
   pub mid : Body
   pub begins : BeginsBody kind mid
@@ -233,10 +259,10 @@ GrowsFrom whole more old new = (mid : Body) × Grows whole more old.0 mid × Put
 abbrev pub PutsNothing : BodyAndWaits → BodyAndWaits → Type 0
 PutsNothing old new = IsStill old.0 → (number : ℕ) → StaysAt (old.1 number) (new.1 number)
 
--- While nothing of a request goes on, nothing is put by a piece of it; of one that goes on, its body
--- says what waits on its connection, and of others nothing is said. Nor is it of what is put where one
--- that begins asks for a reset, but of its own bytes, and where one that has gone on is taken back, or
--- an attention handed on.
+-- While nothing of a request goes on, nothing is put by a piece of it; of one that goes on, its
+-- body says what waits on its connection, and of others nothing is said. Nor is it of what is put
+-- where one that begins asks for a reset, but of its own bytes, and where one that has gone on is
+-- taken back, or an attention handed on.
 abbrev pub PutsSaid : Said → List ℕ → BodyAndWaits → BodyAndWaits → Type 0
 PutsSaid said.Nothing taken old new = GoesFrom old new
 PutsSaid (said.Begin kind reset) taken old new = BeginsFrom kind reset old new
@@ -246,17 +272,19 @@ PutsSaid (said.Forget false) taken old new = PutsNothing old new
 PutsSaid said.Acknowledge taken old new = PutsNothing old new
 PutsSaid _ taken old new = Unit {0}
 
--- It is where it was, and on each connection that is there still the same waits; or its application is to be closed.
+-- It is where it was, and on each connection that is there still the same waits; or its application
+-- is to be closed.
 abbrev pub RestsFrom : BodyAndWaits → BodyAndWaits → Type 0
 RestsFrom old new =
     ((new.0 ≡ old.0) × ((number : ℕ) → StaysAt (old.1 number) (new.1 number)))
     ⊎ ((new.0 ≡ Closed) × ((number : ℕ) → FillsAt (old.1 number) (new.1 number)))
 
--- Where it went on, what cancels it by its client waits behind what waited on its connection, once, and nothing else; or its application is to be
--- closed, and stays so.
+-- Where it went on, what cancels it by its client waits behind what waited on its connection, once,
+-- and nothing else; or its application is to be closed, and stays so.
 abbrev pub IsStoppedOnce : Body → BodyAndWaits → Type 0
 IsStoppedOnce Closed new = new.0 ≡ Closed
-IsStoppedOnce (Going number client waits) new = (new.1 number ≡ Some (waits ++ cancel_out client.stage)) ⊎ (new.0 ≡ Closed)
+IsStoppedOnce (Going number client waits) new =
+    (new.1 number ≡ Some (waits ++ cancel_out client.stage)) ⊎ (new.0 ≡ Closed)
 IsStoppedOnce _ new = Unit {0}
 
 -- So it is where it is taken back by what is said.
@@ -272,28 +300,35 @@ pub record Heeds (answer : Said) (taken : List ℕ) (old new : BodyAndWaits) : T
   pub cancels : CancelsSaid answer old.0 new
   pub puts : PutsSaid answer taken old new
 
--- Piece by piece of what steps take of an application: as AreFollowed, with what waits; between them
--- nothing is put, or its application is to be closed, and then anything.
+-- Piece by piece of what steps take of an application: as AreFollowed, with what waits; between
+-- them nothing is put, or its application is to be closed, and then anything.
 abbrev pub AreHeeded : ℕ → Machine → List Step → BodyAndWaits → BodyAndWaits → Type 0
 AreHeeded key h [] old new = RestsFrom old new
 AreHeeded key h (Takes other bytes ∷ steps) old new =
-    (from : BodyAndWaits) × (to : BodyAndWaits) × RestsFrom old from × IsClosedAsEnd (end_at h.core.ends key) from.0
-    × Heeds (said_of bytes (end_at h.core.ends key)) (taken_of bytes (end_at h.core.ends key)) from to × AreHeeded key (after h (Takes other bytes)) steps to new
+    (from : BodyAndWaits) × (to : BodyAndWaits)
+    × RestsFrom old from × IsClosedAsEnd (end_at h.core.ends key) from.0
+    × Heeds (said_of bytes (end_at h.core.ends key)) (taken_of bytes (end_at h.core.ends key))
+    from to
+    × AreHeeded key (after h (Takes other bytes)) steps to new
 AreHeeded key h (step ∷ steps) old new = AreHeeded key (after h step) steps old new
 
 -- An application's bytes are taken, up to these, and what it takes back of that is cancelled.
-pub record HeedsAll (key : ℕ) (old : Machine) (bytes left : List ℕ) (from to : BodyAndWaits) (new : Machine) : Type 0 where
+pub record HeedsAll (key : ℕ) (old : Machine) (bytes left : List ℕ) (from to : BodyAndWaits)
+    (new : Machine) : Type 0 where
   pub tells : Tells key old bytes left new
   pub heeded : AreHeeded key old tells.steps from to
   pub closed : IsClosedAsEnd (end_at new.core.ends key) to.0
 
 -- Whatever was taken before, these bytes are taken behind it, up to these.
 abbrev pub HeedsOn : ℕ → List ℕ → List ℕ → BodyAndWaits → BodyAndWaits → Machine → Machine → Type 0
-HeedsOn key left rest from to old new = (first : Machine) (bytes : List ℕ) (at : BodyAndWaits) → HeedsAll key first bytes left at from old → HeedsAll key first bytes rest at to new
+HeedsOn key left rest from to old new = (first : Machine) (bytes : List ℕ) (at : BodyAndWaits)
+    → HeedsAll key first bytes left at from old → HeedsAll key first bytes rest at to new
 
--- All of them are, and then those who wait are served, among whom its application may be: unless it waits, its request stays by that, or it is to
--- be closed, and on the connection that it holds nothing is put.
-pub record HeedsServed (key : ℕ) (old : Machine) (bytes : List ℕ) (from to : BodyAndWaits) (new : Machine) : Type 0 where
+-- All of them are, and then those who wait are served, among whom its application may be: unless it
+-- waits, its request stays by that, or it is to be closed, and on the connection that it holds
+-- nothing is put.
+pub record HeedsServed (key : ℕ) (old : Machine) (bytes : List ℕ) (from to : BodyAndWaits)
+    (new : Machine) : Type 0 where
   pub at : Machine
   pub mid : BodyAndWaits
   pub heeds : HeedsAll key old bytes [] from mid at
@@ -302,7 +337,8 @@ pub record HeedsServed (key : ℕ) (old : Machine) (bytes : List ℕ) (from to :
   pub starts : Starts mid.0 to.0
   pub fills : (number : ℕ) → FillsAt (mid.1 number) (to.1 number)
   pub rests : is_in key at.core.pool.line ≡ false → Spared mid.0 to.0 ⊎ (mid.0 ≡ Astray)
-  pub keeps : is_in key at.core.pool.line ≡ false → (number : ℕ) → holder at.core.pool number ≡ Some key → StaysAt (mid.1 number) (to.1 number)
+  pub keeps : is_in key at.core.pool.line ≡ false → (number : ℕ)
+      → holder at.core.pool number ≡ Some key → StaysAt (mid.1 number) (to.1 number)
   pub closed : IsClosedAsEnd (end_at new.core.ends key) to.0
 
 -- ---- As the code has it
@@ -312,8 +348,10 @@ abbrev pub held_of : Option Application → List ℕ
 held_of None = []
 held_of (Some a) = a.held.items
 
--- The client of the connection that an application holds puts these bytes, with which its message is finished or not.
-pub record ClientPuts (whole : Bool) (more : List ℕ) (key : ℕ) (old new : pools.Pool) (before after : List ℕ) : Type 0 where
+-- The client of the connection that an application holds puts these bytes, with which its message
+-- is finished or not.
+pub record ClientPuts (whole : Bool) (more : List ℕ) (key : ℕ) (old new : pools.Pool)
+    (before after : List ℕ) : Type 0 where
   pub hold : Hold
   pub its : find_key key old.holds.items ≡ Some hold
   pub same : new.holds.items ≡ old.holds.items
@@ -334,23 +372,28 @@ pub record ClientStops (key : ℕ) (old new : pools.Pool) (before after : List �
   pub moves : TurnsInto hold.lease old.service new.service from to
   pub appended : after ≡ before ++ cancel_out from.stage
 
--- Something was put on the connection of this number, behind what waited there, and the pool and what is asked are as they were; or the
--- application is to be closed.
+-- Something was put on the connection of this number, behind what waited there, and the pool and
+-- what is asked are as they were; or the application is to be closed.
 abbrev pub StopsOn : ℕ → ℕ → code.Relay → code.Relay → Type 0
 StopsOn number key old new =
     IsDeaf (end_at (ends_in new.applications) key)
     ⊎ ((new.pool ≡ old.pool) × AskAsBefore old.applications new.applications
-    × (waits_on number new.links.items ≡ option_map (λ (waits : List ℕ). waits ++ old.outbox.items) (waits_on number old.links.items)))
+    × (waits_on number new.links.items
+    ≡ option_map (λ (waits : List ℕ). waits ++ old.outbox.items) (waits_on number old.links.items)))
 
--- What an application's cancel puts out is to be sent on the connection of this number, which it holds.
+-- What an application's cancel puts out is to be sent on the connection of this number, which it
+-- holds.
 pub record IsHalting (number key : ℕ) (old new : code.Relay) : Type 0 where
   pub hold : Hold
   pub its : find_key key old.pool.holds.items ≡ Some hold
   pub number_is : number ≡ hold.number
   pub stops : ClientStops key old.pool new.pool [] new.outbox.items
 
--- These bytes are put where an application's request goes on, whether it asks one or not; or it is to be closed.
+-- These bytes are put where an application's request goes on, whether it asks one or not; or it is
+-- to be closed.
 abbrev pub PutsOn : Bool → List ℕ → ℕ → code.Relay → code.Relay → Type 0
 PutsOn whole more key old new =
     (body_of key new ≡ Closed)
-    ⊎ (((goes : Body) → body_in (get new.applications key) goes ≡ body_in (get old.applications key) goes) × Grows whole more (going_of key old) (going_of key new))
+    ⊎ (((goes : Body)
+    → body_in (get new.applications key) goes ≡ body_in (get old.applications key) goes)
+    × Grows whole more (going_of key old) (going_of key new))

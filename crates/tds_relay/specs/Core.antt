@@ -325,8 +325,8 @@ IsNotPut _ = ⊥
 
 -- Nobody waits who has begun no request, holds a connection, or waits already; who waits does so
 -- until it asks nothing. A request is asked where its reset is done. Who keeps a transaction by
--- another lease asks for the reset that does so, and memory is given to that: refused, it would lose
--- the connection, and be told nothing. What else moves an end isn't done alone.
+-- another lease asks for the reset that does so, and memory is given to that: refused, it would
+-- lose the connection, and be told nothing. What else moves an end isn't done alone.
 abbrev pub MayDoAlone : Core → Event → Type 0
 MayDoAlone h (pool.Waits key) = IsThereAndAway h key × IfOpen IsBegun (end_at h.ends key)
 MayDoAlone h (pool.Unwaits key) = IfOpen AsksNothing (end_at h.ends key)

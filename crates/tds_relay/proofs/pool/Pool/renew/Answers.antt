@@ -22,7 +22,7 @@ returns-clause-turns c =
     let found : find_key c.args.key d.holds ≡ Some h = search rules in
     let held : c.push.new.self.items ≡ without_lease h.lease d.holds ++ holding h.key c.in-Ok-resume.lent.lease c.in-Ok-resume.lent.number ∷ [] = search rules in
     renewed d c.args.key h (service_in c.keep.new.self) (service_in c.resume.new.self) c.in-Ok.ticket c.in-Ok-resume.lent.lease c.in-Ok-resume.lent.number _ _ c.in-Ok-resume.lent.had c.push.new.self.items found
-        c.in-Ok.ensures.ok.1 c.in-Ok-resume.ensures.ok held
+    c.in-Ok.ensures.ok.1 c.in-Ok-resume.ensures.ok held
 
 pub returns-clause-stand : goal.returns-clause-stand
 returns-clause-stand c = λ n r h. keeps_stand c.keep.new.self c.resume.new.self (calls.Resume c.in-Ok.ticket) c.in-Ok-resume.ensures.ok.service_is (λ opens. opens) c.in-Ok-resume.ensures.makes c.in-Ok-resume.ensures.keeps n r (keeps_stand c.args.self.now.service c.keep.new.self (calls.Keep c.in-Some.hold.lease) c.in-Ok.ensures.ok.1.service_is (λ opens. opens) c.in-Ok.ensures.makes c.in-Ok.ensures.keeps n r h)
