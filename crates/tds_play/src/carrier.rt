@@ -84,7 +84,7 @@ pub trait EventCarrier {
 
     /// Each event of which it was told, in order, with what there was of each connection then. What
     /// an event did at the carrier is what lies between it and the next one.
-    ghost began: { Self → List Begun };
+    ghost began: { Self → List BegunEvent };
 
     /// Is told that the event of this number begins. Nothing else changes.
     fn begin(&mut self, event: u32) -> Result<(), AllocError>
