@@ -12,3 +12,4 @@ pub mod Visits
 pub mod Telling
 pub mod TellingExamples
 pub mod Bytes
+pub mod Keeping

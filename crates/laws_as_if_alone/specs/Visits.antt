@@ -1,6 +1,7 @@
 -- The moments of a visit to a relay.
-use Rattle.std.specs.Prelude.{◌≡◌, ℕ, List, [], ◌∷◌, map}
+use Rattle.std.specs.Prelude.{◌≡◌, ℕ, true, List, [], ◌∷◌, map}
 use Rattle.tds_relay.specs.Law.{done_before, done_since}
+use Rattle.tds_relay.specs.Pool as pool
 use Rattle.tds_relay.specs.Pool.{Pool, Event, Sharing, PoolTurn}
 use Rattle.tds_relay.specs.Giving.{Visit}
 use Rattle.laws_as_if_alone.specs.Alone.{IsSaid}
@@ -15,6 +16,11 @@ pub record Moments (V : Type 0) {sharing : Sharing} {key : ℕ} (v : Visit shari
   pub since : List (Moment V)
   pub before_is : events_in before ≡ done_before v
   pub since_is : events_in since ≡ done_since v
+
+-- A reset that is to keep its transaction does so: it isn't a full one for want of memory.
+abbrev pub HasMemory : Event → Type 0
+HasMemory (pool.Renews key resumes) = resumes ≡ true
+HasMemory _ = Unit {0}
 
 -- where it has come
 abbrev pub world_in : {V : Type 0} {sharing : Sharing} {key : ℕ} {v : Visit sharing key} → Server V → Moments V v → World V

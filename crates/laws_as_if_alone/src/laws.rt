@@ -3,8 +3,9 @@
 ghost use Rattle.std.specs.Prelude.{◌≡◌, ◌++◌, ℕ, Bool, List};
 ghost use Rattle.tds_service.specs.Service.{Seat};
 ghost use Rattle.tds_relay.specs.declared.pool.Hold.{Hold};
-ghost use Rattle.tds_relay.specs.Law.{IsAway};
+ghost use Rattle.tds_relay.specs.Law.{IsAway, done_since};
 ghost use Rattle.tds_relay.specs.Pool.{Sharing, turn};
+ghost use Rattle.tds_relay.specs.Promises.{Each};
 ghost use Rattle.tds_relay.specs.Giving.{ReadVisit, Visit, machine_at_visit};
 ghost use Rattle.laws_as_if_alone.specs.Serving.{Moment, Server, World, fresh, new_world, reached};
 ghost use Rattle.laws_as_if_alone.specs.Serving.{world_after};
@@ -15,7 +16,7 @@ ghost use Rattle.laws_as_if_alone.specs.Bytes.{AllRead, ReadAsIfAlone, TokenPars
 ghost use Rattle.laws_as_if_alone.specs.Telling.{AllParkedAtRest, RoundTrip, Remarked, TellsAll};
 ghost use Rattle.laws_as_if_alone.specs.Telling.{all_trips_after, moments_of, no_trips};
 ghost use Rattle.laws_as_if_alone.specs.Turns.{AllParkedFresh, AsIfUnparked};
-ghost use Rattle.laws_as_if_alone.specs.Visits.{AllSaid, Moments, world_in};
+ghost use Rattle.laws_as_if_alone.specs.Visits.{AllSaid, HasMemory, Moments, world_in};
 
 use tds_relay::laws::waits_once;
 
@@ -117,11 +118,15 @@ pub fn given_alike<V>()
 /// it asks, but for the news of resets: from where it enters a relay, behind any steps, and while it stays.
 /// Only of what comes of the answers that it reads something is supposed: it's what the server says next.
 pub fn alone_in_visits<V>()
-    ensures { (server : Server V) (sharing : Sharing) (key : ℕ) (v : Visit sharing key)
+    ensures given { (server : Server V) (sharing : Sharing) (key : ℕ) (v : Visit sharing key)
         (ms : Moments V v)
         → AllSaid turn key server (world_in server ms) ms.since
         → AsIfAlone turn key server (fresh server) (world_in server ms) ms.since
         (world_after turn server (world_in server ms) ms.since) }
+    // A reset that it asks for to keep its transaction is asked of its own server so, never as a full one: no
+    // renewal wants memory.
+    ensures keeps { (sharing : Sharing) (key : ℕ) (v : Visit sharing key)
+        → Each HasMemory (done_since v) }
 {
     waits_once();
 }
