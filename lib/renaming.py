@@ -19,9 +19,11 @@ DEFINED, SOURCE, EDIT = (".antt", ".antt.txt"), (".rt", ".rs"), (".edit",)
 IMPORT = re.compile(r"\buse Rattle\.(\w+)\.specs\.([\w.]+?)\.\{(.*?)\}", re.S)
 WHOLE = re.compile(r"\buse Rattle\.(\w+)\.specs\.([\w.]+) as (\w+)")
 PATH = re.compile(r"\bRattle\.(\w+)\.specs\.([\w.]+)")
+# What a tactic unfolds, as `crate::specs::Bytes::walk_step`.
+UNFOLDED = re.compile(r"\b(\w+)::specs::(\w+(?:::\w+)+)")
 USE_LINE = re.compile(r"(?m)^[ \t]*(?:pub )?(?:ghost )?use Rattle\.[\w.]+(?:\.\{.*?\}| as \w+|);?$", re.S)
 # Where a term stands in a source: behind this, up to the bracket that closes, or to the end of a ghost field.
-CLAUSE = re.compile(r"\b(?:(?:requires|ensures)\*?(?: \w+)?|ghost (?!use)\w+(?: \w+)?(?: =)?) (?=\{)")
+CLAUSE = re.compile(r"\b(?:(?:requires|ensures)\*?(?: \w+)?|ghost (?!use)\w+(?: \w+)?(?: =|:)?) (?=\{)")
 FIELD = re.compile(r"(?m)^\s*(?:pub(?:\(\w+\))? )?ghost (?!use)\w+: (.*),$")
 HEAD = re.compile(r"\bfn \w+")
 PARAMETER = re.compile(r"\b(\w+): ")
@@ -104,6 +106,11 @@ class File:
                 new = self.by.get((line[1], ".".join(parts[:count]), parts[count]))
                 start = line.start(2) + len(".".join(parts[:count])) + 1
                 self.edits += [(start, start + len(parts[count]), new)] if new else []
+        for found in UNFOLDED.finditer(self.text):
+            crate = self.path.split("/")[1] if found[1] == "crate" else found[1]
+            module, _, name = found[2].replace("::", ".").rpartition(".")
+            new = self.by.get((crate, module, name))
+            self.edits += [(found.end() - len(name), found.end(), new)] if new else []
 
     def imported(self, crate, module, item, start):
         name, _, other = item.partition(" as ")

@@ -5,9 +5,9 @@ use Rattle.tds_service.specs.Parts.{Part}
 use Rattle.tds_service.specs.Line as lines
 use Rattle.tds_service.specs.Line.{Line, LineStage, Idle, Sending, Reading, Cancelling, Broken, Packet, OfRequest, Ignore, Attention, Act, Mark, Ask, Send, Cancel, Come, Lose, Turn, Answer, line_turn}
 use Rattle.tds_service.specs.History.{done_by}
-use Rattle.laws_conforming_server.specs.Lawful.{Engine, IsLawful}
+use Rattle.laws_conforming_server.specs.Lawful.{AnyServer, IsLawful}
 use Rattle.laws_conforming_server.specs.Link as links
-use Rattle.laws_conforming_server.specs.Link.{Link, Move, Runs, Server, Asking, Up, ups, Comes, TakesNext, goes, here, link_after, taken}
+use Rattle.laws_conforming_server.specs.Link.{Link, Move, Runs, Server, Asking, PacketUp, ups, Comes, TakesNext, goes, here, link_after, taken}
 use Rattle.laws_conforming_server.specs.Answering.{IsNoFault, NoFault, UnlessLost}
 use Rattle.laws_conforming_server.specs.Agreeing.{IsQuiet}
 use Rattle.laws_conforming_server.proofs.Flow.{Quiet, Flow, FlowOn}
@@ -18,7 +18,7 @@ use Rattle.laws_conforming_server.proofs.Plans.{Planned, Does, Takes, Speaks, mo
 
 -- ---- Idle
 
-pub quiet_on : {V T : Type 0} (engine : Engine V T) (l : Line) (link : Link V T) → l.stage ≡ Idle → FlowOn engine l link → IsQuiet l link
+pub quiet_on : {V T : Type 0} (engine : AnyServer V T) (l : Line) (link : Link V T) → l.stage ≡ Idle → FlowOn engine l link → IsQuiet l link
 quiet_on engine l link e f =
     let q : Quiet l.heard link = subst (λ (s : LineStage). Flow engine l.asked s l.heard link) e f in
     record { up = q.up; down = q.still.down; due = q.still.due; transaction = q.still.transaction }
@@ -42,7 +42,7 @@ Unbroken Lose stage = Unit {0}
 abbrev pub Sound : {T : Type 0} → Act T → Turn T → Type 0
 Sound a t = IsNoFault t.answer × UnlessLost t.answer (NotBroken t.line.stage) × Unbroken a t.line.stage
 
-sound_read : {V T : Type 0} (engine : Engine V T) (n : ℕ) (h : Heard) (link : Link V T) (part : Part T)
+sound_read : {V T : Type 0} (engine : AnyServer V T) (n : ℕ) (h : Heard) (link : Link V T) (part : Part T)
     → ReadsOn engine n h link part ⊎ ReadsOut n h link part → Sound (Come part) (line_turn (line n Reading h) (Come part))
 sound_read {V} {T} engine n h link part (inl r) = subst (λ (t : Turn T). Sound (Come part) t) (sym r.is) (tt, tt, tt)
 sound_read {V} {T} engine n h link part (inr r) = subst (λ (t : Turn T). Sound (Come part) t) (sym r.is) (tt, tt, tt)
@@ -52,7 +52,7 @@ sound_skip : {V T : Type 0} (n : ℕ) (h : Heard) (stopped : Bool) (link : Link 
 sound_skip {V} {T} n h stopped link part (inl r) = subst (λ (t : Turn T). Sound (Come part) t) (sym r.is) (tt, tt, tt)
 sound_skip {V} {T} n h stopped link part (inr r) = subst (λ (t : Turn T). Sound (Come part) t) (sym r.is) (tt, tt, tt)
 
-pub sound : {V T : Type 0} (engine : Engine V T) (n : ℕ) (stage : LineStage) (h : Heard) (link : Link V T) (a : Act T)
+pub sound : {V T : Type 0} (engine : AnyServer V T) (n : ℕ) (stage : LineStage) (h : Heard) (link : Link V T) (a : Act T)
     → NotBroken stage → Flow engine n stage h link → Comes a link.down link.server.due → Sound a (line_turn (line n stage h) a)
 sound engine n Idle h link (Mark reset) b f c = (tt, tt, tt)
 sound engine n Idle h link Ask b f c = (tt, tt, tt)
@@ -101,7 +101,7 @@ then_rest (lines.Acked request) x y u f = f u
 then_rest (lines.Fault fault) x y u f = f u
 then_rest lines.Lost x y u f = tt
 
-pub no_fault : {V T : Type 0} (engine : Engine V T) (lawful : IsLawful engine) (l : Line) (link : Link V T) (plan : List (Planned T))
+pub no_fault : {V T : Type 0} (engine : AnyServer V T) (lawful : IsLawful engine) (l : Line) (link : Link V T) (plan : List (Planned T))
     → NotBroken l.stage → FlowOn engine l link → Runs engine link (moves_by l plan) → NoFault (here (moves_by l plan))
 no_fault engine lawful l link [] b f runs = tt
 no_fault engine lawful l link (Does a ∷ plan) b f runs =

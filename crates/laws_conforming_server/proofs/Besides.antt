@@ -13,12 +13,12 @@ use Rattle.tds_client.specs.Acts.{is_acknowledgement}
 use Rattle.tds_service.specs.Parts.{Item, told_by}
 use Rattle.tds_service.specs.Line.{Line, LineStage, Idle, Sending, Reading, Cancelling, Broken, Packet, OfRequest, Ignore, Attention, Act, Mark, Ask, Send, Cancel, Come, Lose, line_turn}
 use Rattle.tds_service.specs.History.{done_by}
-use Rattle.laws_conforming_server.specs.Lawful.{Session, ServerStep, Says, Ends, Breaks, Engine, IsLawful, IsStop, Leads, LeadsOut, UnlessAcknowledged, reset_by, reset_left, told_of}
+use Rattle.laws_conforming_server.specs.Lawful.{Session, ServerStep, Says, Ends, Breaks, AnyServer, IsLawful, IsStop, Leads, LeadsOut, UnlessAcknowledged, reset_by, reset_left, told_of}
 use Rattle.laws_conforming_server.specs.Link as links
-use Rattle.laws_conforming_server.specs.Link.{Link, Runs, Server, Asking, Up, HasSome, MayTake, TakesNext, goes, session_behind, spoken, taken, takes}
+use Rattle.laws_conforming_server.specs.Link.{Link, Runs, Server, Asking, PacketUp, HasSome, MayTake, TakesNext, goes, session_behind, spoken, taken, takes}
 use Rattle.laws_conforming_server.specs.Answering.{answer_by, answer_now, answered, or_later}
 use Rattle.laws_conforming_server.specs.Agreeing.{NextInNamed, RunsInNamed, AllInNamed}
-use Rattle.laws_conforming_server.specs.Starting.{owed_behind, owed_here, owed_next, NextAsOwed, RunsAsOwed, SaidAsOwed, StartsFresh}
+use Rattle.laws_conforming_server.specs.Starting.{owed_by_step, owed_here, owed_next, NextAsOwed, RunsAsOwed, SaidAsOwed, StartsFresh}
 use Rattle.laws_conforming_server.specs.Alone.{Beside, DoesReset, IsBeside, IsChange, Own, ResetsFirst, alone_by, alone_now, answered_alone, beside_after, left_of_session, own_here, own_says, own_speaks, own_taken, own_takes}
 use Rattle.laws_conforming_server.proofs.Flow.{Flow, FlowOn}
 use Rattle.laws_conforming_server.proofs.Taking.{keeps_takes}
@@ -95,7 +95,7 @@ pub record Answers {V T : Type 0} (settings : V) (owed : Option Reset) (s : Sess
   pub beside : DueBeside settings owed s due own
 
 -- the answer to a request
-answers_now : {V T : Type 0} (engine : Engine V T) (first : ResetsFirst engine) (owed : Option Reset) (s : Session V) (request named : ℕ) (own : Own V T)
+answers_now : {V T : Type 0} (engine : AnyServer V T) (first : ResetsFirst engine) (owed : Option Reset) (s : Session V) (request named : ℕ) (own : Own V T)
     → own.session ≡ left_of_session engine.settings owed s → named ≡ header_descriptor owed s.transaction
     → Answers engine.settings owed s (engine.answers request s owed named) (engine.answers request own.session None own.session.transaction)
 answers_now {V} {T} engine first None s request named own e f =
@@ -114,14 +114,14 @@ answers_now {V} {T} engine first (Some reset) s request named own e f =
     record { front = first.resets request s reset named; split = split; does = first.does request s reset named } in
     record { doing = d; beside = inl d }
 
-answers_asked : {V T : Type 0} (engine : Engine V T) (first : ResetsFirst engine) (owed : Option Reset) (server : Server V T) (asking : Asking) (request : ℕ) (reset : Option Reset) (own : Own V T)
+answers_asked : {V T : Type 0} (engine : AnyServer V T) (first : ResetsFirst engine) (owed : Option Reset) (server : Server V T) (asking : Asking) (request : ℕ) (reset : Option Reset) (own : Own V T)
     → own.session ≡ left_of_session engine.settings owed server.session → reset ≡ owed → asking.named ≡ header_descriptor reset server.session.transaction
     → Answers engine.settings owed server.session (engine.answers request server.session reset asking.named) (engine.answers request own.session None own.session.transaction)
 answers_asked {V} {T} engine first owed server asking request reset own e r f =
     subst (λ (m : Option Reset). Answers engine.settings owed server.session (engine.answers request server.session m asking.named) (engine.answers request own.session None own.session.transaction)) (sym r)
     (answers_now engine first owed server.session request asking.named own e (f ∙ ap (λ (m : Option Reset). header_descriptor m server.session.transaction) r))
 
-twin_attention : {V T : Type 0} (engine : Engine V T) (lawful : IsLawful engine) (owed : Option Reset) (server : Server V T) (asking : Asking) (own : Own V T)
+twin_attention : {V T : Type 0} (engine : AnyServer V T) (lawful : IsLawful engine) (owed : Option Reset) (server : Server V T) (asking : Asking) (own : Own V T)
     → own.session ≡ left_of_session engine.settings owed server.session
     → Twin engine.settings owed server.session (engine.stops asking.request server.session) (own_takes engine owed asking Attention own)
 twin_attention {V} {T} engine lawful None server asking own e = record {
@@ -133,7 +133,7 @@ twin_attention engine lawful (Some reset) server asking own e = record {
   left = inr (refl, inr (false, lawful.stops asking.request server.session));
 }
 
-twin_takes : {V T : Type 0} (engine : Engine V T) (lawful : IsLawful engine) (first : ResetsFirst engine) (owed : Option Reset) (server : Server V T) (asking : Asking) (packet : Packet) (own : Own V T)
+twin_takes : {V T : Type 0} (engine : AnyServer V T) (lawful : IsLawful engine) (first : ResetsFirst engine) (owed : Option Reset) (server : Server V T) (asking : Asking) (packet : Packet) (own : Own V T)
     → RunsAsOwed owed server packet → RunsInNamed server asking packet → Twin engine.settings owed server.session server.due own
     → Twin engine.settings owed (takes engine server asking packet).session (takes engine server asking packet).due (own_takes engine owed asking packet own)
 twin_takes engine lawful first owed server asking (OfRequest request one reset true) own r n t = record {
@@ -144,7 +144,7 @@ twin_takes engine lawful first owed server asking (OfRequest request one reset f
 twin_takes engine lawful first owed server asking (Ignore request) own r n t = t
 twin_takes engine lawful first owed server asking Attention own r n t = twin_attention engine lawful owed server asking own t.same
 
-twin_taken : {V T : Type 0} (engine : Engine V T) (lawful : IsLawful engine) (first : ResetsFirst engine) (owed : Option Reset) (link : Link V T) (u : List Up) (own : Own V T)
+twin_taken : {V T : Type 0} (engine : AnyServer V T) (lawful : IsLawful engine) (first : ResetsFirst engine) (owed : Option Reset) (link : Link V T) (u : List PacketUp) (own : Own V T)
     → NextAsOwed owed link.server u → NextInNamed link.server u → Twin engine.settings owed link.server.session link.server.due own
     → Twin engine.settings owed (taken engine link u).server.session (taken engine link u).server.due (own_taken engine owed u own)
 twin_taken engine lawful first owed link [] own r n t = t
@@ -157,7 +157,7 @@ chosen_alike : {V T : Type 0} (b : Bool) (x y now there : List (ServerStep V T))
 chosen_alike true x y now there e f = e
 chosen_alike false x y now there e f = f
 
-told_packet : {V T : Type 0} (engine : Engine V T) (first : ResetsFirst engine) (owed : Option Reset) (link : Link V T) (r : ℕ) (asking : Asking) (packet : Packet) (own : Own V T) (now there : List (ServerStep V T))
+told_packet : {V T : Type 0} (engine : AnyServer V T) (first : ResetsFirst engine) (owed : Option Reset) (link : Link V T) (r : ℕ) (asking : Asking) (packet : Packet) (own : Own V T) (now there : List (ServerStep V T))
     → RunsAsOwed owed link.server packet → RunsInNamed link.server asking packet → own.session ≡ left_of_session engine.settings owed link.server.session
     → told_of now ≡ told_of there
     → told_of (or_later (answer_by engine link.server asking r packet) now) ≡ told_of (or_later (alone_by engine owed r asking packet own) there)
@@ -168,7 +168,7 @@ told_packet engine first owed link r asking (OfRequest request one reset false) 
 told_packet engine first owed link r asking (Ignore request) own now there a n e f = f
 told_packet engine first owed link r asking Attention own now there a n e f = f
 
-told_by_both : {V T : Type 0} (engine : Engine V T) (first : ResetsFirst engine) (owed : Option Reset) (link : Link V T) (r : ℕ) (u : List Up) (own : Own V T) (now there : List (ServerStep V T))
+told_by_both : {V T : Type 0} (engine : AnyServer V T) (first : ResetsFirst engine) (owed : Option Reset) (link : Link V T) (r : ℕ) (u : List PacketUp) (own : Own V T) (now there : List (ServerStep V T))
     → NextAsOwed owed link.server u → NextInNamed link.server u → own.session ≡ left_of_session engine.settings owed link.server.session
     → told_of now ≡ told_of there
     → told_of (or_later (answer_now engine link r u) now) ≡ told_of (or_later (alone_now engine owed r u own) there)
@@ -204,7 +204,7 @@ none_owed (signs.Change (changes.Rollback d)) = refl
 none_owed (signs.Change changes.ResetDone) = refl
 none_owed (signs.Done kind status) = refl
 
-none_behind : {V T : Type 0} (step : ServerStep V T) → owed_behind None step ≡ None
+none_behind : {V T : Type 0} (step : ServerStep V T) → owed_by_step None step ≡ None
 none_behind (Says item after) = none_owed item.sign
 none_behind Ends = refl
 none_behind Breaks = refl
@@ -278,12 +278,12 @@ does_next settings reset s after (signs.Done kind status) token front due own c 
 
 speaks_some : {V T : Type 0} (settings : V) (reset : Reset) (s : Session V) (step : ServerStep V T) (due : List (ServerStep V T)) (own : Own V T) (front : List (ServerStep V T))
     → SaidAsOwed settings (Some reset) s (step ∷ due) → step ∷ due ≡ front ++ own.due → DoesReset settings (Some reset) s front
-    → Twin settings (owed_behind (Some reset) step) (session_behind s step) due (own_speaks settings (Some reset) s (step ∷ due) own)
+    → Twin settings (owed_by_step (Some reset) step) (session_behind s step) due (own_speaks settings (Some reset) s (step ∷ due) own)
 speaks_some settings reset s step due own [] a f d = absurd (some_reset reset d)
 speaks_some {V} {T} settings reset s step due own (Says item after ∷ front) a f d =
     let both = first_same step (Says item after) due (front ++ own.due) f in
     subst (λ (x : ServerStep V T). SaidAsOwed settings (Some reset) s (x ∷ due)
-    → Twin settings (owed_behind (Some reset) x) (session_behind s x) due (own_speaks settings (Some reset) s (x ∷ due) own)) (sym both.0)
+    → Twin settings (owed_by_step (Some reset) x) (session_behind s x) due (own_speaks settings (Some reset) s (x ∷ due) own)) (sym both.0)
     (λ b. does_next settings reset s after item.sign item.token front due own d.0 b both.1 d.2) a
 speaks_some settings reset s step due own (Ends ∷ front) a f d = absurd d
 speaks_some settings reset s step due own (Breaks ∷ front) a f d = absurd d
@@ -306,7 +306,7 @@ stops_next settings reset s after acked (signs.Done kind status) due own e a b =
 
 speaks_stop : {V T : Type 0} (settings : V) (reset : Reset) (s : Session V) (acked : Bool) (step : ServerStep V T) (due : List (ServerStep V T)) (own : Own V T)
     → own.due ≡ [] → IsStop s acked (step ∷ due)
-    → Twin settings (owed_behind (Some reset) step) (session_behind s step) due (own_speaks settings (Some reset) s (step ∷ due) own)
+    → Twin settings (owed_by_step (Some reset) step) (session_behind s step) due (own_speaks settings (Some reset) s (step ∷ due) own)
 speaks_stop settings reset s acked (Says item after) due own e a =
     stops_next settings reset s after (acked || is_acknowledgement item.sign) item.sign due own e a.0 a.1
 speaks_stop settings reset s acked Ends due own e a = record { same = refl; left = inr (e, stop_left s acked due a) }
@@ -314,19 +314,19 @@ speaks_stop settings reset s acked Breaks due own e a = record { same = refl; le
 
 speaks_stopping : {V T : Type 0} (settings : V) (reset : Reset) (s : Session V) (step : ServerStep V T) (due : List (ServerStep V T)) (own : Own V T)
     → own.due ≡ [] → Stopping s (step ∷ due)
-    → Twin settings (owed_behind (Some reset) step) (session_behind s step) due (own_speaks settings (Some reset) s (step ∷ due) own)
+    → Twin settings (owed_by_step (Some reset) step) (session_behind s step) due (own_speaks settings (Some reset) s (step ∷ due) own)
 speaks_stopping settings reset s step due own e (inl a) = absurd (none_more step due a)
 speaks_stopping settings reset s step due own e (inr (acked, a)) = speaks_stop settings reset s acked step due own e a
 
 twin_owed : {V T : Type 0} (settings : V) (reset : Reset) (s : Session V) (step : ServerStep V T) (due : List (ServerStep V T)) (own : Own V T)
     → SaidAsOwed settings (Some reset) s (step ∷ due) → DueBeside settings (Some reset) s (step ∷ due) own.due
-    → Twin settings (owed_behind (Some reset) step) (session_behind s step) due (own_speaks settings (Some reset) s (step ∷ due) own)
+    → Twin settings (owed_by_step (Some reset) step) (session_behind s step) due (own_speaks settings (Some reset) s (step ∷ due) own)
 twin_owed settings reset s step due own a (inl d) = speaks_some settings reset s step due own d.front a d.split d.does
 twin_owed settings reset s step due own a (inr d) = speaks_stopping settings reset s step due own d.0 d.1
 
 twin_says : {V T : Type 0} (settings : V) (owed : Option Reset) (s : Session V) (step : ServerStep V T) (due : List (ServerStep V T)) (own : Own V T)
     → SaidAsOwed settings owed s (step ∷ due) → Twin settings owed s (step ∷ due) own
-    → Twin settings (owed_behind owed step) (session_behind s step) due (own_speaks settings owed s (step ∷ due) own)
+    → Twin settings (owed_by_step owed step) (session_behind s step) due (own_speaks settings owed s (step ∷ due) own)
 twin_says {V} {T} settings None s step due own a t =
     subst (λ (m : Option Reset). Twin settings m (session_behind s step) due (own_speaks settings None s (step ∷ due) own)) (sym (none_behind step))
     (speaks_none settings s step due own t.left.front t.same t.left.split t.left.does)
@@ -340,7 +340,7 @@ twin_speaks settings owed link (step ∷ due) own e h a t = twin_says settings o
 
 -- ---- Something is done at the client's end
 
-twin_act : {V T : Type 0} (engine : Engine V T) (owed : Option Reset) (n : ℕ) (stage : LineStage) (h : Heard) (link : Link V T) (a : Act T) (own : Own V T)
+twin_act : {V T : Type 0} (engine : AnyServer V T) (owed : Option Reset) (n : ℕ) (stage : LineStage) (h : Heard) (link : Link V T) (a : Act T) (own : Own V T)
     → Flow engine n stage h link → Twin engine.settings owed link.server.session link.server.due own
     → Twin engine.settings (owed_here owed a (line_turn (line n stage h) a).answer) link.server.session link.server.due
     (own_here engine.settings (owed_here owed a (line_turn (line n stage h) a).answer) link.server.session a (line_turn (line n stage h) a).answer own)
@@ -364,11 +364,11 @@ abbrev pub besides : {V T : Type 0} → Link V T → Option Reset → Own V T �
 besides link owed own = record { link = link; owed = owed; own = own }
 
 -- The same is told, and they end beside each other.
-pub record AsAlone {V T : Type 0} (engine : Engine V T) (r : ℕ) (b : Beside V T) (moves : List (links.Move T)) : Type 0 where
+pub record AsAlone {V T : Type 0} (engine : AnyServer V T) (r : ℕ) (b : Beside V T) (moves : List (links.Move T)) : Type 0 where
   pub told : told_of (answered engine b.link r moves) ≡ told_of (answered_alone engine b r moves)
   pub ends : IsBeside engine.settings (beside_after engine b moves)
 
-pub as_alone : {V T : Type 0} (engine : Engine V T) (lawful : IsLawful engine) (first : ResetsFirst engine) (r : ℕ) (owed : Option Reset) (own : Own V T) (l : Line) (link : Link V T) (plan : List (Planned T))
+pub as_alone : {V T : Type 0} (engine : AnyServer V T) (lawful : IsLawful engine) (first : ResetsFirst engine) (r : ℕ) (owed : Option Reset) (own : Own V T) (l : Line) (link : Link V T) (plan : List (Planned T))
     → FlowOn engine l link → Twin engine.settings owed link.server.session link.server.due own
     → StartsFresh engine owed link (moves_by l plan) → AllInNamed engine link (moves_by l plan) → Runs engine link (moves_by l plan)
     → AsAlone engine r (besides link owed own) (moves_by l plan)

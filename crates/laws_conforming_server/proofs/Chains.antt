@@ -11,7 +11,7 @@ use Rattle.tds_client.specs.Acts.{is_acknowledgement}
 use Rattle.tds_client.specs.Hearing.{◌>>=◌}
 use Rattle.tds_service.specs.Parts.{Item, Close, hear_items, items_told, told_by}
 use Rattle.laws_conforming_server.specs.Lawful.{Session, ServerStep, Says, Ends, Breaks, IsAnswer, IsStop, final_by, reset_left, told_of}
-use Rattle.laws_conforming_server.specs.Starting.{owed_behind}
+use Rattle.laws_conforming_server.specs.Starting.{owed_by_step}
 use Rattle.laws_conforming_server.specs.Link.{IsEnd, IsNext, without, without_end, session_behind}
 use Rattle.laws_conforming_server.proofs.Hears.{heard, placed, leads_placed, leads_out_placed, done_of, done_sign, acknowledged, reading_heard, cancelling_heard, acknowledged_by}
 
@@ -22,7 +22,7 @@ behind s (step ∷ steps) = behind (session_behind s step) steps
 -- The reset that is still to be done behind these.
 abbrev pub marks : {V T : Type 0} → Option Reset → List (ServerStep V T) → Option Reset
 marks mark [] = mark
-marks mark (step ∷ steps) = marks (owed_behind mark step) steps
+marks mark (step ∷ steps) = marks (owed_by_step mark step) steps
 
 told_by_append : {T : Type 0} (sign : Sign) (token : T) (xs ys : List T) → told_by sign token (xs ++ ys) ≡ told_by sign token xs ++ ys
 told_by_append signs.Nothing token xs ys = refl

@@ -6,7 +6,7 @@ use Rattle.tds_service.specs.Service.{Place, Leased, Cleaning, Kept, Free, Drain
 use Rattle.tds_service.specs.History.{acts_of, line_after}
 use Rattle.tds_service.proofs.Alone.{FitsIn, IsAlone, Tidy, step_alone}
 use Rattle.tds_service.proofs.Numbered.{is_found}
-use Rattle.laws_conforming_server.specs.Lawful.{Engine, IsLawful}
+use Rattle.laws_conforming_server.specs.Lawful.{AnyServer, IsLawful}
 use Rattle.laws_conforming_server.specs.Link.{IsRun, Move, link_after, new_link}
 use Rattle.laws_conforming_server.specs.Starting.{IsLeftClean, cleaning_over, owed_after}
 use Rattle.laws_conforming_server.proofs.Lifted.{Alone, clean_there}
@@ -85,7 +85,7 @@ pub freed_seat : {T : Type 0} (max lease : ℕ) (calls : List (Call T)) (f : Fre
 freed_seat {T} max lease calls f =
     subst (λ (n : ℕ). seat_numbered n (service_after (new_service max) calls).seats ≡ Some f.seat) (sym f.number) (seat_is max lease calls f.seat f.found)
 
-pub clean_freed : {V T : Type 0} (engine : Engine V T) (max lease : ℕ) (calls : List (Call T)) (moves : List (Move T))
+pub clean_freed : {V T : Type 0} (engine : AnyServer V T) (max lease : ℕ) (calls : List (Call T)) (moves : List (Move T))
     → ((n : ℕ) → Alone (on n (steps (new_service max) calls)))
     → ((n : ℕ) (c : Seat) → seat_numbered n (service_after (new_service max) calls).seats ≡ Some c → c.line ≡ line_after new_line (acts_of (on n (steps (new_service max) calls))))
     → IsLawful engine → IsRun engine moves (on (cleaning_over T (service_after (new_service max) calls) lease).number (steps (new_service max) calls))

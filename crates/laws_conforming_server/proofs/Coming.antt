@@ -13,8 +13,8 @@ use Rattle.tds_listen.specs.Hearing.{heard_by}
 use Rattle.tds_service.specs.Parts as parts
 use Rattle.tds_service.specs.Parts.{Item, Part, Close, close_by, close_part, hear_items, hear_part, heard_until, is_end, items_told, unless_owed}
 use Rattle.tds_service.specs.Line.{Line, LineStage, Idle, Reading, Cancelling, Turn, Come, More, Finished, Acked, To, quiet, reads, skips, skips_to_end, line_turn}
-use Rattle.laws_conforming_server.specs.Lawful.{Session, ServerStep, Says, Ends, Breaks, Engine, IsAnswer, told_of}
-use Rattle.laws_conforming_server.specs.Link.{Asking, Up, ups, Link, Comes, HasSome, IsEnd, without, without_end}
+use Rattle.laws_conforming_server.specs.Lawful.{Session, ServerStep, Says, Ends, Breaks, AnyServer, IsAnswer, told_of}
+use Rattle.laws_conforming_server.specs.Link.{Asking, PacketUp, ups, Link, Comes, HasSome, IsEnd, without, without_end}
 use Rattle.laws_conforming_server.proofs.Hears.{heard, done_of, acknowledged}
 use Rattle.laws_conforming_server.proofs.Chains.{behind, marks, Cancels, SettledBy, ReadTo, reads_to, skips_to}
 use Rattle.laws_conforming_server.proofs.Flow.{Still, Quiet, Answers, Stops, attention_left}
@@ -46,7 +46,7 @@ read_on n h part = record { line = line n Reading h; answer = More; sent = []; t
 abbrev pub read_out : {T : Type 0} → ℕ → Heard → Part T → Turn T
 read_out n h part = record { line = line n Idle h; answer = Finished n; sent = []; told = To n (items_told part.items) }
 
-pub record ReadsOn {V T : Type 0} (engine : Engine V T) (n : ℕ) (h : Heard) (link : Link V T) (part : Part T) : Type 0 where
+pub record ReadsOn {V T : Type 0} (engine : AnyServer V T) (n : ℕ) (h : Heard) (link : Link V T) (part : Part T) : Type 0 where
   pub after : Heard
   pub is : line_turn (line n Reading h) (Come part) ≡ read_on n after part
   pub answers : Answers engine after (came link part)
@@ -76,7 +76,7 @@ abbrev pub fine : Heard → Result Heard ClientFault
 fine h = Ok h
 
 -- The part goes on.
-read_goes : {V T : Type 0} (engine : Engine V T) (n : ℕ) (h : Heard) (link : Link V T) (items : List (Item T)) (a : Answers engine h link)
+read_goes : {V T : Type 0} (engine : AnyServer V T) (n : ℕ) (h : Heard) (link : Link V T) (items : List (Item T)) (a : Answers engine h link)
     (rd : ReadTo engine.settings h.mark a.session a.final items parts.Goes link.down link.server.due)
     → hear_items false h items ≡ Ok (heard rd.now rd.left_mark (done_of rd.now_final))
     → ReadsOn engine n h link (part_of items parts.Goes)
@@ -84,7 +84,7 @@ read_goes {V} {T} engine n h link items a rd hears = record {
   after = heard rd.now rd.left_mark (done_of rd.now_final);
   is = ap (λ (r : Result Heard ListenFault). reads (line n Reading h) (part_of items parts.Goes) false (heard_until false h items) r) (ap (then_close false parts.Goes) hears);
   answers = record {
-    up = ap (λ (u : List Up). u ++ []) a.up;
+    up = ap (λ (u : List PacketUp). u ++ []) a.up;
     session = rd.now;
     transaction = refl;
     final = rd.now_final;
@@ -97,7 +97,7 @@ read_goes {V} {T} engine n h link items a rd hears = record {
 }
 
 -- It ends its message.
-read_ends : {V T : Type 0} (engine : Engine V T) (n : ℕ) (h : Heard) (link : Link V T) (items : List (Item T)) (a : Answers engine h link)
+read_ends : {V T : Type 0} (engine : AnyServer V T) (n : ℕ) (h : Heard) (link : Link V T) (items : List (Item T)) (a : Answers engine h link)
     (now : Session V) (mark : Option Reset) (final : Bool) (middle : List (ServerStep V T))
     → hear_items false h items ≡ Ok (heard now mark (done_of final))
     → (mark ≡ None) → (final ≡ true) → (middle ++ link.server.due ≡ [])
@@ -114,7 +114,7 @@ read_ends {V} {T} engine n h link items a now mark final middle hears p q e left
       after = heard now None Awaited;
       is = ap (λ (r : Result Heard ListenFault). reads (line n Reading h) (part_of items parts.Ends) true (heard_until false h items) r) (ap (then_close false parts.Ends) all);
       still = record {
-        up = ap (λ (u : List Up). u ++ []) a.up;
+        up = ap (λ (u : List PacketUp). u ++ []) a.up;
         still = record {
           down = left ∙ none;
           due = (nothing_left middle link.server.due e).1;
@@ -126,7 +126,7 @@ read_ends {V} {T} engine n h link items a now mark final middle hears p q e left
       tells = tells ∙ ap (λ (m : List (ServerStep V T)). items_told items ++ told_of m) e ∙ append_nothing (items_told items);
     }
 
-read_closed : {V T : Type 0} (engine : Engine V T) (n : ℕ) (h : Heard) (link : Link V T) (items : List (Item T)) (close : Close) (a : Answers engine h link)
+read_closed : {V T : Type 0} (engine : AnyServer V T) (n : ℕ) (h : Heard) (link : Link V T) (items : List (Item T)) (close : Close) (a : Answers engine h link)
     (now : Session V) (mark : Option Reset) (final : Bool) (middle : List (ServerStep V T))
     → hear_items false h items ≡ Ok (heard now mark (done_of final))
     → IsAnswer engine.settings mark now final (middle ++ link.server.due)
@@ -163,7 +163,7 @@ read_closed engine n h link items parts.Cut a now mark final (Ends ∷ middle) h
 read_closed engine n h link items parts.Cut a now mark final (Breaks ∷ middle) hears answer end left session owes tells = absurd answer
 read_closed engine n h link items (parts.Fails refusal) a now mark final middle hears answer end left session owes tells = absurd end
 
-pub read_comes : {V T : Type 0} (engine : Engine V T) (n : ℕ) (h : Heard) (link : Link V T) (part : Part T) → Answers engine h link
+pub read_comes : {V T : Type 0} (engine : AnyServer V T) (n : ℕ) (h : Heard) (link : Link V T) (part : Part T) → Answers engine h link
     → Comes (Come part) link.down link.server.due → ReadsOn engine n h link part ⊎ ReadsOut n h link part
 read_comes engine n h link part a c =
     let rd = reads_to engine.settings h.mark a.session a.final part.items part.close link.down link.server.due a.answer c.1 in
@@ -186,7 +186,7 @@ pub record SkipsOut {V T : Type 0} (n : ℕ) (h : Heard) (link : Link V T) (part
   pub owes : marks h.mark link.down ≡ after.mark
 
 -- what is on its way to the server stays so
-still_up : (asking : Asking) (u : List Up) (stopped : Bool) → u ≡ ups asking (attention_left stopped) → u ++ [] ≡ ups asking (attention_left stopped)
+still_up : (asking : Asking) (u : List PacketUp) (stopped : Bool) → u ≡ ups asking (attention_left stopped) → u ++ [] ≡ ups asking (attention_left stopped)
 still_up asking u stopped e = append_nothing u ∙ e
 
 skip_goes : {V T : Type 0} (n : ℕ) (h : Heard) (stopped : Bool) (link : Link V T) (items : List (Item T)) (a : Stops stopped h link)

@@ -12,7 +12,7 @@ use Rattle.tds_service.specs.Parts.{Item, Part}
 use Rattle.tds_service.specs.Line as line
 use Rattle.tds_service.specs.Line.{Answer, new_line}
 use Rattle.tds_service.specs.History.{Done, given, history}
-use Rattle.laws_conforming_server.specs.Lawful.{Session, ServerStep, Says, Ends, Engine, IsAnswer, IsLawful, told_of}
+use Rattle.laws_conforming_server.specs.Lawful.{Session, ServerStep, Says, Ends, AnyServer, IsAnswer, IsLawful, told_of}
 use Rattle.laws_conforming_server.specs.Link.{IsRun, link_after, new_link}
 use Rattle.laws_conforming_server.specs.Answering.{answered}
 use Rattle.laws_conforming_server.proofs.Plans.{Planned, Does, Takes, Speaks, acts_in, moves_by}
@@ -49,7 +49,7 @@ first None s = runs s.transaction s.settings
 first (Some Full) s = Says reset (at 0 0) ∷ runs 0 0
 first (Some KeepTransaction) s = Says reset (at s.transaction 0) ∷ runs s.transaction 0
 
-abbrev small : Engine ℕ ℕ
+abbrev small : AnyServer ℕ ℕ
 small = record {
   settings = 0;
   answers = λ request s reset named. first reset s;

@@ -6,7 +6,7 @@ use Rattle.tds_packet.specs.Resets.{header_descriptor}
 use Rattle.tds_client.specs.declared.heard.Heard.{Heard}
 use Rattle.tds_client.specs.declared.heard.FinalDone.TheVariants.{Awaited}
 use Rattle.tds_service.specs.Line.{Line, LineStage, Idle, Sending, Reading, Cancelling, Broken, Packet, OfRequest, Ignore, Attention}
-use Rattle.laws_conforming_server.specs.Lawful.{Session, Engine, IsAnswer}
+use Rattle.laws_conforming_server.specs.Lawful.{Session, AnyServer, IsAnswer}
 use Rattle.laws_conforming_server.specs.Link.{ups, Link}
 use Rattle.laws_conforming_server.proofs.Hears.{done_of, acknowledged}
 use Rattle.laws_conforming_server.proofs.Chains.{behind, Cancels}
@@ -64,7 +64,7 @@ pub record Uploads {V T : Type 0} (n : ℕ) (h : Heard) (link : Link V T) (Are :
   pub named : Named n h link
 
 -- Its answer is due or on its way.
-pub record Answers {V T : Type 0} (engine : Engine V T) (h : Heard) (link : Link V T) : Type 0 where
+pub record Answers {V T : Type 0} (engine : AnyServer V T) (h : Heard) (link : Link V T) : Type 0 where
   pub up : link.up ≡ []
   pub session : Session V
   pub transaction : h.descriptor ≡ session.transaction
@@ -85,7 +85,7 @@ pub record Stops {V T : Type 0} (stopped : Bool) (h : Heard) (link : Link V T) :
   pub cancels : Cancels stopped h.mark session (acknowledged h.done) (link.down ++ link.server.due)
   pub server : link.server.session ≡ behind session link.down
 
-abbrev pub Flow : {V T : Type 0} → Engine V T → ℕ → LineStage → Heard → Link V T → Type 0
+abbrev pub Flow : {V T : Type 0} → AnyServer V T → ℕ → LineStage → Heard → Link V T → Type 0
 Flow engine n Idle h link = Quiet h link
 Flow engine n (Sending false) h link = Quiet h link × Named n h link
 Flow engine n (Sending true) h link = Uploads n h link (AreParts n h.mark)
@@ -94,5 +94,5 @@ Flow engine n Cancelling h link =
     Uploads n h link (λ reset packets. IsWhole n h.mark (Attention ∷ []) reset packets ⊎ IsIgnored packets) ⊎ (stopped : Bool) × Stops stopped h link
 Flow engine n (Broken fault) h link = Unit {0}
 
-abbrev pub FlowOn : {V T : Type 0} → Engine V T → Line → Link V T → Type 0
+abbrev pub FlowOn : {V T : Type 0} → AnyServer V T → Line → Link V T → Type 0
 FlowOn engine l link = Flow engine l.asked l.stage l.heard link

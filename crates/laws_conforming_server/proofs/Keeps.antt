@@ -7,8 +7,8 @@ use Rattle.tds_client.specs.declared.heard.Heard.{Heard}
 use Rattle.tds_service.specs.Parts.{Part}
 use Rattle.tds_service.specs.Line.{LineStage, Idle, Sending, Reading, Cancelling, Broken, Packet, OfRequest, Ignore, Attention, Act, Mark, Ask, Send, Cancel, Come, Lose, Turn, line_turn}
 use Rattle.tds_service.specs.History.{done_by}
-use Rattle.laws_conforming_server.specs.Lawful.{Session, ServerStep, Engine, IsAnswer}
-use Rattle.laws_conforming_server.specs.Link.{Asking, Up, ups, Link, Comes, HasSome, done_here, spoken, session_behind}
+use Rattle.laws_conforming_server.specs.Lawful.{Session, ServerStep, AnyServer, IsAnswer}
+use Rattle.laws_conforming_server.specs.Link.{Asking, PacketUp, ups, Link, Comes, HasSome, done_here, spoken, session_behind}
 use Rattle.laws_conforming_server.proofs.Hears.{done_of, acknowledged}
 use Rattle.laws_conforming_server.proofs.Chains.{behind, Cancels, answer_cancels}
 use Rattle.laws_conforming_server.proofs.Flow.{AreParts, IsWhole, IsIgnored, Still, Named, Quiet, Uploads, Answers, Stops, Flow, FlowOn}
@@ -30,7 +30,7 @@ none_due {V} {T} due e t = subst (λ (d : List (ServerStep V T)). HasSome d) e t
 said_behind : {V T : Type 0} (now s : Session V) (down : List (ServerStep V T)) (step : ServerStep V T) → now ≡ behind s down → session_behind now step ≡ behind s (down ++ step ∷ [])
 said_behind {V} {T} now s down step e = ap (λ (x : Session V). session_behind x step) e ∙ sym (behind_append s down (step ∷ []))
 
-pub speaks_answer : {V T : Type 0} (engine : Engine V T) (h : Heard) (link : Link V T) (due : List (ServerStep V T)) → link.server.due ≡ due → HasSome due
+pub speaks_answer : {V T : Type 0} (engine : AnyServer V T) (h : Heard) (link : Link V T) (due : List (ServerStep V T)) → link.server.due ≡ due → HasSome due
     → Answers engine h link → Answers engine h (spoken link due)
 speaks_answer engine h link [] e t a = absurd t
 speaks_answer {V} {T} engine h link (step ∷ due) e t a = record {
@@ -56,7 +56,7 @@ speaks_stop {V} {T} stopped h link (step ∷ due) e t a = record {
   server = said_behind link.server.session a.session link.down step a.server;
 }
 
-pub keeps_speaks : {V T : Type 0} (engine : Engine V T) (n : ℕ) (stage : LineStage) (h : Heard) (link : Link V T)
+pub keeps_speaks : {V T : Type 0} (engine : AnyServer V T) (n : ℕ) (stage : LineStage) (h : Heard) (link : Link V T)
     → Flow engine n stage h link → HasSome link.server.due → Flow engine n stage h (spoken link link.server.due)
 keeps_speaks engine n Idle h link f t = absurd (none_due link.server.due f.still.due t)
 keeps_speaks engine n (Sending false) h link f t = absurd (none_due link.server.due f.0.still.due t)
@@ -77,18 +77,18 @@ abbrev pub as_before : {V T : Type 0} → Link V T → Link V T
 as_before link = record { up = link.up ++ []; server = link.server; down = link.down; asking = link.asking }
 
 pub same_link : {V T : Type 0} (link : Link V T) → as_before link ≡ link
-same_link link = ap (λ (u : List Up). record { up = u; server = link.server; down = link.down; asking = link.asking }) (append_nothing link.up)
+same_link link = ap (λ (u : List PacketUp). record { up = u; server = link.server; down = link.down; asking = link.asking }) (append_nothing link.up)
 
-pub stays : {V T : Type 0} (engine : Engine V T) (n : ℕ) (stage : LineStage) (h : Heard) (link : Link V T)
+pub stays : {V T : Type 0} (engine : AnyServer V T) (n : ℕ) (stage : LineStage) (h : Heard) (link : Link V T)
     → Flow engine n stage h link → Flow engine n stage h (as_before link)
 stays {V} {T} engine n stage h link f = subst (λ (k : Link V T). Flow engine n stage h k) (sym (same_link link)) f
 
 ups_append : (asking : Asking) (xs ys : List Packet) → ups asking xs ++ ups asking ys ≡ ups asking (xs ++ ys)
 ups_append asking [] ys = refl
-ups_append asking (x ∷ xs) ys = ap (λ (us : List Up). (record { asking = asking; packet = x }) ∷ us) (ups_append asking xs ys)
+ups_append asking (x ∷ xs) ys = ap (λ (us : List PacketUp). (record { asking = asking; packet = x }) ∷ us) (ups_append asking xs ys)
 
 sent_up : {V T : Type 0} (link : Link V T) (packets more : List Packet) → link.up ≡ ups link.asking packets → link.up ++ ups link.asking more ≡ ups link.asking (packets ++ more)
-sent_up link packets more e = ap (λ (u : List Up). u ++ ups link.asking more) e ∙ ups_append link.asking packets more
+sent_up link packets more e = ap (λ (u : List PacketUp). u ++ ups link.asking more) e ∙ ups_append link.asking packets more
 
 part_more : (n : ℕ) (wanted reset : Option Reset) (packets : List Packet) → AreParts n wanted reset packets
     → AreParts n wanted reset (packets ++ OfRequest n false None false ∷ [])
@@ -122,26 +122,26 @@ whole_left n wanted reset (OfRequest request first own true ∷ packets) a = (a.
 whole_left n wanted reset (Ignore request ∷ packets) a = absurd a
 whole_left n wanted reset (Attention ∷ packets) a = absurd a
 
-abbrev pub Kept : {V T : Type 0} → Engine V T → Link V T → Act T → Turn T → Type 0
+abbrev pub Kept : {V T : Type 0} → AnyServer V T → Link V T → Act T → Turn T → Type 0
 Kept engine link a t = FlowOn engine t.line (done_here link (done_by a t))
 
-keeps_read : {V T : Type 0} (engine : Engine V T) (n : ℕ) (h : Heard) (link : Link V T) (part : Part T)
+keeps_read : {V T : Type 0} (engine : AnyServer V T) (n : ℕ) (h : Heard) (link : Link V T) (part : Part T)
     → ReadsOn engine n h link part ⊎ ReadsOut n h link part → Kept engine link (Come part) (line_turn (line n Reading h) (Come part))
 keeps_read {V} {T} engine n h link part (inl r) = subst (λ (t : Turn T). Kept engine link (Come part) t) (sym r.is) (inr r.answers)
 keeps_read {V} {T} engine n h link part (inr r) = subst (λ (t : Turn T). Kept engine link (Come part) t) (sym r.is) r.still
 
-keeps_skip : {V T : Type 0} (engine : Engine V T) (n : ℕ) (h : Heard) (stopped : Bool) (link : Link V T) (part : Part T)
+keeps_skip : {V T : Type 0} (engine : AnyServer V T) (n : ℕ) (h : Heard) (stopped : Bool) (link : Link V T) (part : Part T)
     → SkipsOn n h stopped link part ⊎ SkipsOut n h link part → Kept engine link (Come part) (line_turn (line n Cancelling h) (Come part))
 keeps_skip {V} {T} engine n h stopped link part (inl r) = subst (λ (t : Turn T). Kept engine link (Come part) t) (sym r.is) (inr (stopped, r.stops))
 keeps_skip {V} {T} engine n h stopped link part (inr r) = subst (λ (t : Turn T). Kept engine link (Come part) t) (sym r.is) r.still
 
 quiet_before : {V T : Type 0} (h after : Heard) (link : Link V T) → after.descriptor ≡ h.descriptor → after.done ≡ h.done → Quiet h link → Quiet after (as_before link)
 quiet_before h after link d e f = record {
-  up = ap (λ (u : List Up). u ++ []) f.up;
+  up = ap (λ (u : List PacketUp). u ++ []) f.up;
   still = record { down = f.still.down; due = f.still.due; transaction = d ∙ f.still.transaction; done = e ∙ f.still.done };
 }
 
-pub still_after : {V T : Type 0} (h : Heard) (link : Link V T) (u : List Up) → Still h link → Still h (record { up = u; server = link.server; down = link.down; asking = link.asking })
+pub still_after : {V T : Type 0} (h : Heard) (link : Link V T) (u : List PacketUp) → Still h link → Still h (record { up = u; server = link.server; down = link.down; asking = link.asking })
 still_after h link u s = record { down = s.down; due = s.due; transaction = s.transaction; done = s.done }
 
 plain : (final : Bool) → acknowledged (done_of final) ≡ false
@@ -156,7 +156,7 @@ pub begins_part : {V T : Type 0} (n : ℕ) (h : Heard) (link : Link V T) → Qui
     → Uploads n h (sent_here link (OfRequest n true h.mark false ∷ [])) (AreParts n h.mark)
 begins_part n h link f = record {
   packets = OfRequest n true h.mark false ∷ [];
-  up = ap (λ (u : List Up). u ++ ups link.asking (OfRequest n true h.mark false ∷ [])) f.0.up;
+  up = ap (λ (u : List PacketUp). u ++ ups link.asking (OfRequest n true h.mark false ∷ [])) f.0.up;
   are = (refl, refl);
   still = still_after h link _ f.0.still;
   named = f.1;
@@ -166,7 +166,7 @@ pub begins_whole : {V T : Type 0} (n : ℕ) (h : Heard) (link : Link V T) → Qu
     → Uploads n h (sent_here link (OfRequest n true h.mark true ∷ [])) (IsWhole n h.mark [])
 begins_whole n h link f = record {
   packets = OfRequest n true h.mark true ∷ [];
-  up = ap (λ (u : List Up). u ++ ups link.asking (OfRequest n true h.mark true ∷ [])) f.0.up;
+  up = ap (λ (u : List PacketUp). u ++ ups link.asking (OfRequest n true h.mark true ∷ [])) f.0.up;
   are = (refl, refl, refl);
   still = still_after h link _ f.0.still;
   named = f.1;
@@ -192,12 +192,12 @@ sends_whole n h link f = record {
   named = f.named;
 }
 
-pub keeps_act : {V T : Type 0} (engine : Engine V T) (n : ℕ) (stage : LineStage) (h : Heard) (link : Link V T) (a : Act T)
+pub keeps_act : {V T : Type 0} (engine : AnyServer V T) (n : ℕ) (stage : LineStage) (h : Heard) (link : Link V T) (a : Act T)
     → Flow engine n stage h link → Comes a link.down link.server.due → Kept engine link a (line_turn (line n stage h) a)
 keeps_act engine n Idle h link (Mark reset) f c = quiet_before h (with_mark h reset) link refl refl f
 keeps_act engine n Idle h link Ask f c = (
   record {
-    up = ap (λ (u : List Up). u ++ []) f.up;
+    up = ap (λ (u : List PacketUp). u ++ []) f.up;
     still = record { down = f.still.down; due = f.still.due; transaction = f.still.transaction; done = f.still.done };
   },
   (refl, refl),
@@ -239,7 +239,7 @@ keeps_act engine n Reading h link Cancel (inl f) c = inl (record {
 keeps_act engine n Reading h link Cancel (inr f) c = inr (
   false,
   record {
-    up = ap (λ (u : List Up). u ++ ups link.asking (Attention ∷ [])) f.up;
+    up = ap (λ (u : List PacketUp). u ++ ups link.asking (Attention ∷ [])) f.up;
     session = f.session;
     transaction = f.transaction;
     cancels = subst (λ (b : Bool). Cancels false h.mark f.session b (link.down ++ link.server.due)) (sym (ap acknowledged f.done ∙ plain f.final))

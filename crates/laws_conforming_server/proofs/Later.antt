@@ -10,9 +10,9 @@ use Rattle.tds_listen.specs.declared.fault.ListenFault.{ListenFault}
 use Rattle.tds_service.specs.Parts.{Part, hear_part, heard_until, is_end, items_told}
 use Rattle.tds_service.specs.Line.{Line, LineStage, Idle, Sending, Reading, Cancelling, Broken, Packet, OfRequest, Ignore, Attention, Act, Mark, Ask, Send, Cancel, Come, Lose, Turn, reads, skips, skips_to_end, line_turn}
 use Rattle.tds_service.specs.History.{done_by}
-use Rattle.laws_conforming_server.specs.Lawful.{Engine, IsLawful}
+use Rattle.laws_conforming_server.specs.Lawful.{AnyServer, IsLawful}
 use Rattle.laws_conforming_server.specs.Link as links
-use Rattle.laws_conforming_server.specs.Link.{Link, Move, Runs, Up, ups, Asking, Comes, TakesNext, done_here, goes, here, taken}
+use Rattle.laws_conforming_server.specs.Link.{Link, Move, Runs, PacketUp, ups, Asking, Comes, TakesNext, done_here, goes, here, taken}
 use Rattle.laws_conforming_server.specs.Answering.{answer_now, answered}
 use Rattle.laws_conforming_server.proofs.Flow.{IsWhole, IsIgnored, Flow, FlowOn}
 use Rattle.laws_conforming_server.proofs.Coming.{line}
@@ -27,7 +27,7 @@ use Rattle.laws_conforming_server.proofs.Own.{OwnOf, ds_by, none_in_parts, none_
 not_chosen : {A : Type 0} (request n r : ℕ) (x : A) → request ≡ n → n < r → (if request == r then Some x else None) ≡ None
 not_chosen {A} request n r x e p = ap (λ (b : Bool). if b then Some x else None) (ap (λ (k : ℕ). k == r) e ∙ above n r p)
 
-none_in_whole : {V T : Type 0} (engine : Engine V T) (n r : ℕ) (wanted : Option Reset) (others : List Packet) (link : Link V T) (packets : List Packet)
+none_in_whole : {V T : Type 0} (engine : AnyServer V T) (n r : ℕ) (wanted : Option Reset) (others : List Packet) (link : Link V T) (packets : List Packet)
     → n < r → IsWhole n wanted others link.server.reset packets → answer_now engine link r (ups link.asking packets) ≡ None
 none_in_whole engine n r wanted others link [] p are = refl
 none_in_whole engine n r wanted others link (OfRequest request first own false ∷ packets) p are = refl
@@ -36,7 +36,7 @@ none_in_whole engine n r wanted others link (OfRequest request first own true �
 none_in_whole engine n r wanted others link (Ignore request ∷ packets) p are = refl
 none_in_whole engine n r wanted others link (Attention ∷ packets) p are = refl
 
-none_in_ignored : {V T : Type 0} (engine : Engine V T) (r : ℕ) (link : Link V T) (packets : List Packet)
+none_in_ignored : {V T : Type 0} (engine : AnyServer V T) (r : ℕ) (link : Link V T) (packets : List Packet)
     → IsIgnored packets → answer_now engine link r (ups link.asking packets) ≡ None
 none_in_ignored engine r link [] are = refl
 none_in_ignored engine r link (OfRequest request first own false ∷ packets) are = refl
@@ -44,13 +44,13 @@ none_in_ignored engine r link (OfRequest request first own true ∷ packets) are
 none_in_ignored engine r link (Ignore request ∷ packets) are = refl
 none_in_ignored engine r link (Attention ∷ packets) are = refl
 
-none_in_left : {V T : Type 0} (engine : Engine V T) (n r : ℕ) (wanted : Option Reset) (link : Link V T) (packets : List Packet)
+none_in_left : {V T : Type 0} (engine : AnyServer V T) (n r : ℕ) (wanted : Option Reset) (link : Link V T) (packets : List Packet)
     → n < r → IsWhole n wanted (Attention ∷ []) link.server.reset packets ⊎ IsIgnored packets → answer_now engine link r (ups link.asking packets) ≡ None
 none_in_left engine n r wanted link packets p (inl are) = none_in_whole engine n r wanted (Attention ∷ []) link packets p are
 none_in_left engine n r wanted link packets p (inr are) = none_in_ignored engine r link packets are
 
-none_up : {V T : Type 0} (engine : Engine V T) (r : ℕ) (link : Link V T) (u : List Up) → link.up ≡ u → answer_now engine link r u ≡ None → answer_now engine link r link.up ≡ None
-none_up engine r link u e n = subst (λ (x : List Up). answer_now engine link r x ≡ None) (sym e) n
+none_up : {V T : Type 0} (engine : AnyServer V T) (r : ℕ) (link : Link V T) (u : List PacketUp) → link.up ≡ u → answer_now engine link r u ≡ None → answer_now engine link r link.up ≡ None
+none_up engine r link u e n = subst (λ (x : List PacketUp). answer_now engine link r x ≡ None) (sym e) n
 
 -- ---- Until it is asked it is told nothing
 
@@ -122,26 +122,26 @@ later_step n r (Broken fault) h Lose p = (record { told = refl; finished = refl 
 
 -- ---- It is asked
 
-begins_stage : {V T : Type 0} (engine : Engine V T) (lawful : IsLawful engine) (l : Line) (link : Link V T) (plan : List (Planned T)) (stage : LineStage) → stage ≡ Sending false
+begins_stage : {V T : Type 0} (engine : AnyServer V T) (lawful : IsLawful engine) (l : Line) (link : Link V T) (plan : List (Planned T)) (stage : LineStage) → stage ≡ Sending false
     → Flow engine l.asked stage l.heard link → Runs engine link (moves_by (line l.asked stage l.heard) plan)
     → OwnOf engine l.asked (line l.asked stage l.heard) link plan
 begins_stage {V} {T} engine lawful l link plan stage e =
     subst (λ (s : LineStage). Flow engine l.asked s l.heard link → Runs engine link (moves_by (line l.asked s l.heard) plan) → OwnOf engine l.asked (line l.asked s l.heard) link plan) (sym e)
     (λ f runs. own_now engine lawful l.asked (Sending false) l.heard link plan f runs)
 
-own_begins : {V T : Type 0} (engine : Engine V T) (lawful : IsLawful engine) (r : ℕ) (l : Line) (link : Link V T) (plan : List (Planned T)) → Reaches r l
+own_begins : {V T : Type 0} (engine : AnyServer V T) (lawful : IsLawful engine) (r : ℕ) (l : Line) (link : Link V T) (plan : List (Planned T)) → Reaches r l
     → FlowOn engine l link → Runs engine link (moves_by l plan) → OwnOf engine r l link plan
 own_begins {V} {T} engine lawful r l link plan e f runs =
     subst (λ (k : ℕ). OwnOf engine k l link plan) e.asked (begins_stage engine lawful l link plan l.stage e.stage f runs)
 
 -- behind one act, by whether it is asked then
-own_behind : {V T : Type 0} (engine : Engine V T) (lawful : IsLawful engine) (r : ℕ) (l : Line) (link : Link V T) (plan : List (Planned T))
+own_behind : {V T : Type 0} (engine : AnyServer V T) (lawful : IsLawful engine) (r : ℕ) (l : Line) (link : Link V T) (plan : List (Planned T))
     → (l.asked < r) ⊎ Reaches r l → FlowOn engine l link → Runs engine link (moves_by l plan)
     → (l.asked < r → OwnOf engine r l link plan) → OwnOf engine r l link plan
 own_behind engine lawful r l link plan (inl p) f runs ih = ih p
 own_behind engine lawful r l link plan (inr e) f runs ih = own_begins engine lawful r l link plan e f runs
 
-pub own_later : {V T : Type 0} (engine : Engine V T) (lawful : IsLawful engine) (r n : ℕ) (stage : LineStage) (h : Heard) (link : Link V T) (plan : List (Planned T))
+pub own_later : {V T : Type 0} (engine : AnyServer V T) (lawful : IsLawful engine) (r n : ℕ) (stage : LineStage) (h : Heard) (link : Link V T) (plan : List (Planned T))
     → Flow engine n stage h link → n < r → Runs engine link (moves_by (line n stage h) plan) → OwnOf engine r (line n stage h) link plan
 own_later engine lawful r n stage h link [] f p runs = own_silent r [] [] (none_told r)
 own_later engine lawful r n stage h link (Does a ∷ plan) f p runs =

@@ -7,7 +7,7 @@ use Rattle.tds_client.specs.declared.heard.Heard.{Heard}
 use Rattle.tds_service.specs.Line.{Line, LineStage, Idle, Sending, Reading, Cancelling, Broken, Act, Mark, Ask, Send, Cancel, Come, Lose, line_turn}
 use Rattle.tds_service.specs.History.{done_by, line_after}
 use Rattle.tds_service.specs.Service.{is_clean}
-use Rattle.laws_conforming_server.specs.Lawful.{Engine, IsLawful}
+use Rattle.laws_conforming_server.specs.Lawful.{AnyServer, IsLawful}
 use Rattle.laws_conforming_server.specs.Link as links
 use Rattle.laws_conforming_server.specs.Link.{Link, Move, Runs, Comes, goes, link_after}
 use Rattle.laws_conforming_server.specs.Starting.{IsLeftClean, owed_after, owed_here, owed_next}
@@ -23,7 +23,7 @@ use Rattle.laws_conforming_server.proofs.Starts.{Owes, OwesBehind, owes_act, owe
 abbrev pub Knows : {V T : Type 0} → Option Reset → Line → Link V T → Type 0
 Knows owed l link = NotBroken l.stage → Owes owed l.heard link
 
-knows_act : {V T : Type 0} (engine : Engine V T) (owed : Option Reset) (n : ℕ) (stage : LineStage) (h : Heard) (link : Link V T) (a : Act T)
+knows_act : {V T : Type 0} (engine : AnyServer V T) (owed : Option Reset) (n : ℕ) (stage : LineStage) (h : Heard) (link : Link V T) (a : Act T)
     → Flow engine n stage h link → Comes a link.down link.server.due → (NotBroken stage → Owes owed h link)
     → NotBroken (line_turn (line n stage h) a).line.stage → OwesBehind owed link a (line_turn (line n stage h) a)
 knows_act engine owed n Idle h link a f c k b = owes_act engine owed n Idle h link a tt f c (k tt)
@@ -37,7 +37,7 @@ knows_act engine owed n (Broken fault) h link Cancel f c k b = absurd b
 knows_act engine owed n (Broken fault) h link (Come part) f c k b = absurd b
 knows_act engine owed n (Broken fault) h link Lose f c k b = absurd b
 
-pub knows_after : {V T : Type 0} (engine : Engine V T) (lawful : IsLawful engine) (owed : Option Reset) (l : Line) (link : Link V T) (plan : List (Planned T))
+pub knows_after : {V T : Type 0} (engine : AnyServer V T) (lawful : IsLawful engine) (owed : Option Reset) (l : Line) (link : Link V T) (plan : List (Planned T))
     → FlowOn engine l link → Knows owed l link → Runs engine link (moves_by l plan)
     → Knows (owed_after engine owed link (moves_by l plan)) (line_after l (acts_in plan)) (link_after engine link (moves_by l plan))
 knows_after engine lawful owed l link [] f k runs = k
@@ -72,7 +72,7 @@ clean_idle owed h link q o c = record {
   transaction = sym q.still.transaction ∙ no_transaction h.mark h.descriptor c;
 }
 
-pub clean_on : {V T : Type 0} (engine : Engine V T) (owed : Option Reset) (l : Line) (link : Link V T) → l.stage ≡ Idle → FlowOn engine l link → Knows owed l link
+pub clean_on : {V T : Type 0} (engine : AnyServer V T) (owed : Option Reset) (l : Line) (link : Link V T) → l.stage ≡ Idle → FlowOn engine l link → Knows owed l link
     → is_clean l.heard.mark l.heard.descriptor ≡ true → IsLeftClean owed link
 clean_on engine owed l link e f k c =
     clean_idle owed l.heard link (subst (λ (s : LineStage). Flow engine l.asked s l.heard link) e f)

@@ -8,9 +8,9 @@ use Rattle.tds_client.specs.declared.fault.ClientFault.TheVariants as faults
 use Rattle.tds_client.specs.declared.heard.Heard.{Heard}
 use Rattle.tds_service.specs.Line.{Line, LineStage, Idle, Sending, Reading, Cancelling, Broken, Packet, OfRequest, Ignore, Attention, Mark, Ask, Send, Cancel, Come, Lose, line_turn}
 use Rattle.tds_service.specs.History.{done_by}
-use Rattle.laws_conforming_server.specs.Lawful.{ServerStep, Engine, IsLawful}
+use Rattle.laws_conforming_server.specs.Lawful.{ServerStep, AnyServer, IsLawful}
 use Rattle.laws_conforming_server.specs.Link as links
-use Rattle.laws_conforming_server.specs.Link.{Link, Runs, Up, ups, done_here, goes}
+use Rattle.laws_conforming_server.specs.Link.{Link, Runs, PacketUp, ups, done_here, goes}
 use Rattle.laws_conforming_server.specs.Agreeing.{NextInNamed, AllInNamed}
 use Rattle.laws_conforming_server.proofs.Flow.{AreParts, IsWhole, IsIgnored, Still, Named, Flow, FlowOn}
 use Rattle.laws_conforming_server.proofs.Coming.{line}
@@ -51,10 +51,10 @@ left_named : {V T : Type 0} (n : ℕ) (h : Heard) (link : Link V T) (packets : L
 left_named n h link packets s named (inl are) = whole_named n h link (Attention ∷ []) packets s named are
 left_named n h link packets s named (inr are) = ignored_named link packets are
 
-named_up : {V T : Type 0} (link : Link V T) (u : List Up) → link.up ≡ u → NextInNamed link.server u → NextInNamed link.server link.up
-named_up link u e r = subst (λ (x : List Up). NextInNamed link.server x) (sym e) r
+named_up : {V T : Type 0} (link : Link V T) (u : List PacketUp) → link.up ≡ u → NextInNamed link.server u → NextInNamed link.server link.up
+named_up link u e r = subst (λ (x : List PacketUp). NextInNamed link.server x) (sym e) r
 
-next_named : {V T : Type 0} (engine : Engine V T) (n : ℕ) (stage : LineStage) (h : Heard) (link : Link V T)
+next_named : {V T : Type 0} (engine : AnyServer V T) (n : ℕ) (stage : LineStage) (h : Heard) (link : Link V T)
     → NotBroken stage → Flow engine n stage h link → NextInNamed link.server link.up
 next_named engine n Idle h link b f = named_up link [] f.up tt
 next_named engine n (Sending false) h link b f = named_up link [] f.0.up tt
@@ -68,7 +68,7 @@ next_named engine n (Broken fault) h link b f = absurd b
 
 -- ---- Along a run
 
-named_lost : {V T : Type 0} (engine : Engine V T) (lawful : IsLawful engine) (n : ℕ) (stage : LineStage) (h : Heard) (down : List (ServerStep V T)) (fault : ClientFault) (last : Heard) (link : Link V T) (plan : List (Planned T))
+named_lost : {V T : Type 0} (engine : AnyServer V T) (lawful : IsLawful engine) (n : ℕ) (stage : LineStage) (h : Heard) (down : List (ServerStep V T)) (fault : ClientFault) (last : Heard) (link : Link V T) (plan : List (Planned T))
     → NotBroken stage → Was engine n stage h down link → Runs engine link (moves_by (line n (Broken fault) last) plan)
     → AllInNamed engine link (moves_by (line n (Broken fault) last) plan)
 named_lost engine lawful n stage h down fault last link [] b f runs = tt
@@ -92,7 +92,7 @@ named_lost engine lawful n stage h down fault last link (Speaks ∷ plan) b f ru
     named_lost engine lawful n stage h (said_down down link.server.due) fault last (goes engine link links.Speaks) plan b (was_speaks engine n stage h down link f runs.0) runs.1
 
 -- it is lost now
-named_lose : {V T : Type 0} (engine : Engine V T) (lawful : IsLawful engine) (n : ℕ) (stage : LineStage) (h : Heard) (link : Link V T) (plan : List (Planned T))
+named_lose : {V T : Type 0} (engine : AnyServer V T) (lawful : IsLawful engine) (n : ℕ) (stage : LineStage) (h : Heard) (link : Link V T) (plan : List (Planned T))
     → NotBroken stage → Flow engine n stage h link
     → Runs engine (done_here link (done_by Lose (line_turn (line n stage h) Lose))) (moves_by (line_turn {T = T} (line n stage h) Lose).line plan)
     → AllInNamed engine (done_here link (done_by Lose (line_turn (line n stage h) Lose))) (moves_by (line_turn {T = T} (line n stage h) Lose).line plan)
@@ -104,7 +104,7 @@ named_lose engine lawful n Cancelling h link plan b f runs =
     named_lost engine lawful n Cancelling h link.down faults.Lost h _ plan tt (stays engine n Cancelling h link f) runs
 named_lose engine lawful n (Broken fault) h link plan b f runs = absurd b
 
-pub all_named : {V T : Type 0} (engine : Engine V T) (lawful : IsLawful engine) (l : Line) (link : Link V T) (plan : List (Planned T))
+pub all_named : {V T : Type 0} (engine : AnyServer V T) (lawful : IsLawful engine) (l : Line) (link : Link V T) (plan : List (Planned T))
     → NotBroken l.stage → FlowOn engine l link → Runs engine link (moves_by l plan) → AllInNamed engine link (moves_by l plan)
 all_named engine lawful l link [] b f runs = tt
 all_named engine lawful l link (Does (Mark reset) ∷ plan) b f runs =

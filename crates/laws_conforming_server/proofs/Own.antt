@@ -7,9 +7,9 @@ use Rattle.tds_client.specs.declared.heard.Heard.{Heard}
 use Rattle.tds_service.specs.Parts.{Part, items_told}
 use Rattle.tds_service.specs.Line.{Line, LineStage, Idle, Sending, Reading, Cancelling, Broken, Packet, OfRequest, Ignore, Attention, Act, Mark, Ask, Send, Cancel, Come, Lose, Turn, line_turn}
 use Rattle.tds_service.specs.History.{Done, done_by, given, told_to}
-use Rattle.laws_conforming_server.specs.Lawful.{ServerStep, Engine, IsLawful, told_of}
+use Rattle.laws_conforming_server.specs.Lawful.{ServerStep, AnyServer, IsLawful, told_of}
 use Rattle.laws_conforming_server.specs.Link as links
-use Rattle.laws_conforming_server.specs.Link.{Link, Move, Runs, Up, ups, Comes, HasSome, TakesNext, done_here, goes, here, spoken, taken, without}
+use Rattle.laws_conforming_server.specs.Link.{Link, Move, Runs, PacketUp, ups, Comes, HasSome, TakesNext, done_here, goes, here, spoken, taken, without}
 use Rattle.laws_conforming_server.specs.Answering.{answer_now, answered, finishes, is_finished, or_later}
 use Rattle.laws_conforming_server.proofs.Flow.{AreParts, IsWhole, Still, Named, Quiet, Uploads, Answers}
 use Rattle.laws_conforming_server.proofs.Coming.{line, came, append_nothing, nothing_comes, read_comes, ReadsOn, ReadsOut}
@@ -58,10 +58,10 @@ abbrev pub OwnNext : {V T : Type 0} → ℕ → Act T → Turn T → List (Plann
 OwnNext n a t plan steps = IsOwn n (done_by a t ∷ ds_by t.line plan) steps
 
 -- the runs behind it
-abbrev pub RunsNext : {V T : Type 0} → Engine V T → Link V T → Act T → Turn T → List (Planned T) → Type 0
+abbrev pub RunsNext : {V T : Type 0} → AnyServer V T → Link V T → Act T → Turn T → List (Planned T) → Type 0
 RunsNext engine link a t plan = Runs engine (done_here link (done_by a t)) (moves_by t.line plan)
 
-own_reads : {V T : Type 0} (engine : Engine V T) (n : ℕ) (h : Heard) (link : Link V T) (part : Part T) (plan : List (Planned T))
+own_reads : {V T : Type 0} (engine : AnyServer V T) (n : ℕ) (h : Heard) (link : Link V T) (part : Part T) (plan : List (Planned T))
     → ReadsOn engine n h link part ⊎ ReadsOut n h link part
     → RunsNext engine link (Come part) (line_turn (line n Reading h) (Come part)) plan
     → ((after : Heard) (next : Link V T) → Answers engine after next → Runs engine next (moves_by (line n Reading after) plan) → IsOwn n (ds_by (line n Reading after) plan) (left_of next))
@@ -75,7 +75,7 @@ own_reads {V} {T} engine n h link part plan (inr r) runs ih =
     (own_last n _ (ds_by (line n Idle r.after) plan) (items_told part.items) (left_of link) (to_self n (items_told part.items)) r.tells
     (past n (line n Idle r.after) plan (omega arith)))
 
-own_same : {V T : Type 0} (engine : Engine V T) (n : ℕ) (h : Heard) (link : Link V T) (plan : List (Planned T)) (d : Done T) → Untold n d
+own_same : {V T : Type 0} (engine : AnyServer V T) (n : ℕ) (h : Heard) (link : Link V T) (plan : List (Planned T)) (d : Done T) → Untold n d
     → Answers engine h link
     → Runs engine (as_before link) (moves_by (line n Reading h) plan)
     → ((next : Link V T) → Answers engine h next → Runs engine next (moves_by (line n Reading h) plan) → IsOwn n (ds_by (line n Reading h) plan) (left_of next))
@@ -91,7 +91,7 @@ spoken_left : {V T : Type 0} (link : Link V T) (due : List (ServerStep V T)) →
 spoken_left link [] e t = absurd t
 spoken_left {V} {T} link (step ∷ due) e t = sym (ap (λ (d : List (ServerStep V T)). link.down ++ d) e ∙ moves_down link.down due step)
 
-pub own_reading : {V T : Type 0} (engine : Engine V T) (n : ℕ) (h : Heard) (link : Link V T) (plan : List (Planned T)) → Answers engine h link
+pub own_reading : {V T : Type 0} (engine : AnyServer V T) (n : ℕ) (h : Heard) (link : Link V T) (plan : List (Planned T)) → Answers engine h link
     → Runs engine link (moves_by (line n Reading h) plan) → IsOwn n (ds_by (line n Reading h) plan) (left_of link)
 own_reading engine n h link [] a runs = own_silent n [] (left_of link) (record { given_nothing = refl; unfinished = refl })
 own_reading engine n h link (Takes ∷ plan) a runs = absurd (none_taken link a.up runs.0)
@@ -115,7 +115,7 @@ own_reading engine n h link (Does Lose ∷ plan) a runs =
 
 -- ---- It is asked, and its last packet isn't taken yet
 
-pub none_in_parts : {V T : Type 0} (engine : Engine V T) (n r : ℕ) (wanted : Option Reset) (link : Link V T) (packets : List Packet)
+pub none_in_parts : {V T : Type 0} (engine : AnyServer V T) (n r : ℕ) (wanted : Option Reset) (link : Link V T) (packets : List Packet)
     → AreParts n wanted link.server.reset packets → answer_now engine link r (ups link.asking packets) ≡ None
 none_in_parts engine n r wanted link [] are = refl
 none_in_parts engine n r wanted link (OfRequest request first own false ∷ packets) are = refl
@@ -124,25 +124,25 @@ none_in_parts engine n r wanted link (Ignore request ∷ packets) are = refl
 none_in_parts engine n r wanted link (Attention ∷ packets) are = refl
 
 -- what is answered along a run, by what is due as a packet is taken
-later : {V T : Type 0} (engine : Engine V T) (r : ℕ) (link : Link V T) (moves : List (Move T)) (now : Option (List (ServerStep V T)))
+later : {V T : Type 0} (engine : AnyServer V T) (r : ℕ) (link : Link V T) (moves : List (Move T)) (now : Option (List (ServerStep V T)))
     → answer_now engine link r link.up ≡ now
     → answered engine link r (links.Takes ∷ moves) ≡ or_later now (answered engine (goes engine link links.Takes) r moves)
 later {V} {T} engine r link moves now e = ap (λ (x : Option (List (ServerStep V T))). or_later x (answered engine (goes engine link links.Takes) r moves)) e
 
 -- The last packet of the request is taken, or it isn't yet.
-pub record Starts {V T : Type 0} (engine : Engine V T) (n : ℕ) (h : Heard) (link next : Link V T) (u : List Up) : Type 0 where
+pub record Starts {V T : Type 0} (engine : AnyServer V T) (n : ℕ) (h : Heard) (link next : Link V T) (u : List PacketUp) : Type 0 where
   pub now : answer_now engine link n u ≡ Some next.server.due
   pub none : next.down ≡ []
   pub answers : Answers engine h next
 
-pub record Waits {V T : Type 0} (engine : Engine V T) (n : ℕ) (h : Heard) (link next : Link V T) (u : List Up) : Type 0 where
+pub record Waits {V T : Type 0} (engine : AnyServer V T) (n : ℕ) (h : Heard) (link next : Link V T) (u : List PacketUp) : Type 0 where
   pub now : answer_now engine link n u ≡ None
   pub uploads : Uploads n h next (IsWhole n h.mark [])
 
 chosen : {A : Type 0} (request n : ℕ) (x : A) → request ≡ n → (if request == n then Some x else None) ≡ Some x
 chosen {A} request n x e = ap (λ (b : Bool). if b then Some x else None) (ap (λ (k : ℕ). k == n) e ∙ same n)
 
-starts_by : {V T : Type 0} (engine : Engine V T) (lawful : IsLawful engine) (n : ℕ) (h : Heard) (link : Link V T) (named : Named n h link) (s : Still h link) (packets : List Packet)
+starts_by : {V T : Type 0} (engine : AnyServer V T) (lawful : IsLawful engine) (n : ℕ) (h : Heard) (link : Link V T) (named : Named n h link) (s : Still h link) (packets : List Packet)
     → IsWhole n h.mark [] link.server.reset packets
     → Waits engine n h link (taken engine link (ups link.asking packets)) (ups link.asking packets)
     ⊎ Starts engine n h link (taken engine link (ups link.asking packets)) (ups link.asking packets)
@@ -182,14 +182,14 @@ Out n Reading h link = Uploads n h link (IsWhole n h.mark [])
 Out n Cancelling h link = ⊥
 Out n (Broken fault) h link = ⊥
 
-abbrev pub OwnOf : {V T : Type 0} → Engine V T → ℕ → Line → Link V T → List (Planned T) → Type 0
+abbrev pub OwnOf : {V T : Type 0} → AnyServer V T → ℕ → Line → Link V T → List (Planned T) → Type 0
 OwnOf engine r l link plan = IsOwn r (ds_by l plan) (answered engine link r (moves_by l plan))
 
 pub none_told : {T : Type 0} (r : ℕ) → Silent {T = T} r []
 none_told r = record { given_nothing = refl; unfinished = refl }
 
 -- it starts, and what is left is its answer
-own_starts : {V T : Type 0} (engine : Engine V T) (n : ℕ) (h : Heard) (link : Link V T) (plan : List (Planned T))
+own_starts : {V T : Type 0} (engine : AnyServer V T) (n : ℕ) (h : Heard) (link : Link V T) (plan : List (Planned T))
     → Starts engine n h link (goes engine link links.Takes) link.up
     → Runs engine (goes engine link links.Takes) (moves_by (line n Reading h) plan)
     → OwnOf engine n (line n Reading h) link (Takes ∷ plan)
@@ -200,7 +200,7 @@ own_starts {V} {T} engine n h link plan s runs =
     ∙ sym (later engine n link (moves_by (line n Reading h) plan) (Some next.server.due) s.now))
     (own_reading engine n h next plan s.answers runs)
 
-pub own_waits : {V T : Type 0} (engine : Engine V T) (n r : ℕ) (stage : LineStage) (h : Heard) (link : Link V T) (plan : List (Planned T))
+pub own_waits : {V T : Type 0} (engine : AnyServer V T) (n r : ℕ) (stage : LineStage) (h : Heard) (link : Link V T) (plan : List (Planned T))
     → answer_now engine link r link.up ≡ None
     → IsOwn r (ds_by (line n stage h) plan) (answered engine (goes engine link links.Takes) r (moves_by (line n stage h) plan))
     → OwnOf engine r (line n stage h) link (Takes ∷ plan)
@@ -209,7 +209,7 @@ own_waits engine n r stage h link plan e o =
     (sym (later engine r link (moves_by (line n stage h) plan) None e)) o
 
 -- nothing is done there
-own_before : {V T : Type 0} (engine : Engine V T) (n : ℕ) (stage : LineStage) (h : Heard) (link : Link V T) (plan : List (Planned T)) (d : Done T) → Untold n d
+own_before : {V T : Type 0} (engine : AnyServer V T) (n : ℕ) (stage : LineStage) (h : Heard) (link : Link V T) (plan : List (Planned T)) (d : Done T) → Untold n d
     → Out n stage h link → Runs engine (as_before link) (moves_by (line n stage h) plan)
     → ((next : Link V T) → Out n stage h next → Runs engine next (moves_by (line n stage h) plan) → OwnOf engine n (line n stage h) next plan)
     → IsOwn n (d ∷ ds_by (line n stage h) plan) (answered engine (as_before link) n (moves_by (line n stage h) plan))
@@ -222,13 +222,13 @@ own_past : {V T : Type 0} (n : ℕ) (d : Done T) (l : Line) (plan : List (Planne
     → IsOwn n (d ∷ ds_by l plan) steps
 own_past n d l plan steps u p = own_untold n d (ds_by l plan) steps u (own_silent n (ds_by l plan) steps (past n l plan p))
 
-taken_whole : {V T : Type 0} (engine : Engine V T) (lawful : IsLawful engine) (n : ℕ) (h : Heard) (link : Link V T) (f : Uploads n h link (IsWhole n h.mark []))
+taken_whole : {V T : Type 0} (engine : AnyServer V T) (lawful : IsLawful engine) (n : ℕ) (h : Heard) (link : Link V T) (f : Uploads n h link (IsWhole n h.mark []))
     → Waits engine n h link (goes engine link links.Takes) link.up ⊎ Starts engine n h link (goes engine link links.Takes) link.up
 taken_whole engine lawful n h link f =
-    subst (λ (u : List Up). Waits engine n h link (taken engine link u) u ⊎ Starts engine n h link (taken engine link u) u) (sym f.up)
+    subst (λ (u : List PacketUp). Waits engine n h link (taken engine link u) u ⊎ Starts engine n h link (taken engine link u) u) (sym f.up)
     (starts_by engine lawful n h link f.named f.still f.packets f.are)
 
-own_takes : {V T : Type 0} (engine : Engine V T) (n : ℕ) (h : Heard) (link : Link V T) (plan : List (Planned T))
+own_takes : {V T : Type 0} (engine : AnyServer V T) (n : ℕ) (h : Heard) (link : Link V T) (plan : List (Planned T))
     → Waits engine n h link (goes engine link links.Takes) link.up ⊎ Starts engine n h link (goes engine link links.Takes) link.up
     → Runs engine (goes engine link links.Takes) (moves_by (line n Reading h) plan)
     → ((next : Link V T) → Out n Reading h next → Runs engine next (moves_by (line n Reading h) plan) → OwnOf engine n (line n Reading h) next plan)
@@ -237,11 +237,11 @@ own_takes engine n h link plan (inl w) runs ih =
     own_waits engine n n Reading h link plan w.now (ih (goes engine link links.Takes) w.uploads runs)
 own_takes engine n h link plan (inr s) runs ih = own_starts engine n h link plan s runs
 
-no_last : {V T : Type 0} (engine : Engine V T) (n r : ℕ) (h : Heard) (link : Link V T) (f : Uploads n h link (AreParts n h.mark)) → answer_now engine link r link.up ≡ None
+no_last : {V T : Type 0} (engine : AnyServer V T) (n r : ℕ) (h : Heard) (link : Link V T) (f : Uploads n h link (AreParts n h.mark)) → answer_now engine link r link.up ≡ None
 no_last engine n r h link f =
-    subst (λ (u : List Up). answer_now engine link r u ≡ None) (sym f.up) (none_in_parts engine n r h.mark link f.packets f.are)
+    subst (λ (u : List PacketUp). answer_now engine link r u ≡ None) (sym f.up) (none_in_parts engine n r h.mark link f.packets f.are)
 
-pub own_now : {V T : Type 0} (engine : Engine V T) (lawful : IsLawful engine) (n : ℕ) (stage : LineStage) (h : Heard) (link : Link V T) (plan : List (Planned T))
+pub own_now : {V T : Type 0} (engine : AnyServer V T) (lawful : IsLawful engine) (n : ℕ) (stage : LineStage) (h : Heard) (link : Link V T) (plan : List (Planned T))
     → Out n stage h link → Runs engine link (moves_by (line n stage h) plan) → OwnOf engine n (line n stage h) link plan
 own_now engine lawful n Idle h link plan o runs = absurd o
 own_now engine lawful n Cancelling h link plan o runs = absurd o

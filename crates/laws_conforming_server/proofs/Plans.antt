@@ -2,7 +2,7 @@
 use Rattle.std.proofs.Common.{◌≡◌, ◌∙◌, List, [], ◌∷◌, refl, ap}
 use Rattle.tds_service.specs.Line.{Line, Act, line_turn}
 use Rattle.tds_service.specs.History.{Done, done_by, history, line_after}
-use Rattle.laws_conforming_server.specs.Lawful.{Engine, IsLawful}
+use Rattle.laws_conforming_server.specs.Lawful.{AnyServer, IsLawful}
 use Rattle.laws_conforming_server.specs.Link as links
 use Rattle.laws_conforming_server.specs.Link.{Link, Move, Runs, goes, here, link_after}
 use Rattle.laws_conforming_server.proofs.Flow.{FlowOn}
@@ -57,7 +57,7 @@ follows {T} l acts (links.Speaks ∷ moves) e =
     record { plan = Speaks ∷ f.plan; moves_are = ap (λ (ms : List (Move T)). links.Speaks ∷ ms) f.moves_are; acts_are = f.acts_are }
 
 -- The invariant holds behind each run.
-pub flow_after : {V T : Type 0} (engine : Engine V T) (lawful : IsLawful engine) (l : Line) (link : Link V T) (plan : List (Planned T))
+pub flow_after : {V T : Type 0} (engine : AnyServer V T) (lawful : IsLawful engine) (l : Line) (link : Link V T) (plan : List (Planned T))
     → FlowOn engine l link → Runs engine link (moves_by l plan)
     → FlowOn engine (line_after l (acts_in plan)) (link_after engine link (moves_by l plan))
 flow_after engine lawful l link [] f runs = f

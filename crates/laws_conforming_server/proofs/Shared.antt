@@ -9,7 +9,7 @@ use Rattle.tds_service.specs.Parts.{Item}
 use Rattle.tds_service.specs.Line as line
 use Rattle.tds_service.specs.Line.{new_line}
 use Rattle.tds_service.specs.History.{given, history}
-use Rattle.laws_conforming_server.specs.Lawful.{Session, ServerStep, Says, Ends, Engine, IsAnswer, IsLawful, reset_by, told_of}
+use Rattle.laws_conforming_server.specs.Lawful.{Session, ServerStep, Says, Ends, AnyServer, IsAnswer, IsLawful, reset_by, told_of}
 use Rattle.laws_conforming_server.specs.Link.{IsRun}
 use Rattle.laws_conforming_server.specs.Alone.{DoesReset, ResetsFirst, answered_alone, new_beside}
 use Rattle.laws_conforming_server.proofs.Examples.{acknowledged, at, done, reset, whole}
@@ -28,7 +28,7 @@ counts_by None s = counted s
 counts_by (Some Full) s = Says reset (at 0 0) ∷ counted (at 0 0)
 counts_by (Some KeepTransaction) s = Says reset (at s.transaction 0) ∷ counted (at s.transaction 0)
 
-abbrev pub counting : Engine ℕ ℕ
+abbrev pub counting : AnyServer ℕ ℕ
 counting = record {
   settings = 0;
   answers = λ request s reset named. counts_by reset s;

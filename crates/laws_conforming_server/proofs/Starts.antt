@@ -10,10 +10,10 @@ use Rattle.tds_client.specs.Acts.{is_acknowledgement}
 use Rattle.tds_service.specs.Parts.{Part}
 use Rattle.tds_service.specs.Line.{Line, LineStage, Idle, Sending, Reading, Cancelling, Broken, Packet, OfRequest, Ignore, Attention, Act, Mark, Ask, Send, Cancel, Come, Lose, Turn, line_turn}
 use Rattle.tds_service.specs.History.{done_by}
-use Rattle.laws_conforming_server.specs.Lawful.{Session, ServerStep, Says, Ends, Breaks, Engine, IsLawful, IsAnswer, IsStop, UnlessAcknowledged, final_by}
+use Rattle.laws_conforming_server.specs.Lawful.{Session, ServerStep, Says, Ends, Breaks, AnyServer, IsLawful, IsAnswer, IsStop, UnlessAcknowledged, final_by}
 use Rattle.laws_conforming_server.specs.Link as links
-use Rattle.laws_conforming_server.specs.Link.{Link, Runs, Server, Asking, Up, ups, Comes, HasSome, behind_act, done_here, goes, taken, takes, spoken, session_behind}
-use Rattle.laws_conforming_server.specs.Starting.{owed_here, owed_behind, owed_next, RunsAsOwed, NextAsOwed, SaidAsOwed, StartsFresh}
+use Rattle.laws_conforming_server.specs.Link.{Link, Runs, Server, Asking, PacketUp, ups, Comes, HasSome, behind_act, done_here, goes, taken, takes, spoken, session_behind}
+use Rattle.laws_conforming_server.specs.Starting.{owed_here, owed_by_step, owed_next, RunsAsOwed, NextAsOwed, SaidAsOwed, StartsFresh}
 use Rattle.laws_conforming_server.proofs.Chains.{marks}
 use Rattle.laws_conforming_server.proofs.Flow.{AreParts, IsWhole, IsIgnored, Still, Flow, FlowOn}
 use Rattle.laws_conforming_server.proofs.Coming.{line, nothing_comes, read_comes, ReadsOn, ReadsOut, skip_comes, SkipsOn, SkipsOut}
@@ -25,7 +25,7 @@ use Rattle.laws_conforming_server.proofs.Lost.{Was, said_down, spoken_down, was_
 
 -- ---- What is due is the rest of an answer, or of what is said to an attention
 
-abbrev pub DueAs : {V T : Type 0} → Engine V T → Option Reset → Session V → List (ServerStep V T) → Type 0
+abbrev pub DueAs : {V T : Type 0} → AnyServer V T → Option Reset → Session V → List (ServerStep V T) → Type 0
 DueAs engine owed s due =
     ((due ≡ []) ⊎ ((acked : Bool) × IsStop s acked due)) ⊎ ((final : Bool) × IsAnswer engine.settings owed s final due)
 
@@ -52,25 +52,25 @@ none_said : {V : Type 0} (T : Type 0) (settings : V) (owed : Option Reset) (s : 
 none_said T settings None s = tt
 none_said T settings (Some reset) s = tt
 
-said : {V T : Type 0} (engine : Engine V T) (owed : Option Reset) (s : Session V) (due : List (ServerStep V T)) → DueAs engine owed s due → SaidAsOwed engine.settings owed s due
+said : {V T : Type 0} (engine : AnyServer V T) (owed : Option Reset) (s : Session V) (due : List (ServerStep V T)) → DueAs engine owed s due → SaidAsOwed engine.settings owed s due
 said {V} {T} engine owed s due (inl (inl e)) = subst (λ (d : List (ServerStep V T)). SaidAsOwed engine.settings owed s d) (sym e) (none_said T engine.settings owed s)
 said engine owed s due (inl (inr (acked, a))) = said_stop engine.settings owed s acked due a
 said engine owed s due (inr (final, a)) = said_answer engine.settings owed s final due a
 
-stop_rest : {V T : Type 0} (engine : Engine V T) (owed : Option Reset) (s : Session V) (acked : Bool) (due : List (ServerStep V T))
+stop_rest : {V T : Type 0} (engine : AnyServer V T) (owed : Option Reset) (s : Session V) (acked : Bool) (due : List (ServerStep V T))
     → UnlessAcknowledged acked due (IsStop s false due) → DueAs engine owed s due
 stop_rest engine owed s true due a = inl (inl a)
 stop_rest engine owed s false due a = inl (inr (false, a))
 
 -- behind the next thing
-due_stop : {V T : Type 0} (engine : Engine V T) (owed : Option Reset) (s : Session V) (acked : Bool) (step : ServerStep V T) (due : List (ServerStep V T))
-    → IsStop s acked (step ∷ due) → DueAs engine (owed_behind owed step) (session_behind s step) due
+due_stop : {V T : Type 0} (engine : AnyServer V T) (owed : Option Reset) (s : Session V) (acked : Bool) (step : ServerStep V T) (due : List (ServerStep V T))
+    → IsStop s acked (step ∷ due) → DueAs engine (owed_by_step owed step) (session_behind s step) due
 due_stop engine owed s acked (Says item after) due a = inl (inr ((acked || is_acknowledgement item.sign), a.1))
 due_stop engine owed s acked Ends due a = stop_rest engine owed s acked due a
 due_stop engine owed s acked Breaks due a = stop_rest engine owed s acked due a
 
-due_answer : {V T : Type 0} (engine : Engine V T) (owed : Option Reset) (s : Session V) (final : Bool) (step : ServerStep V T) (due : List (ServerStep V T))
-    → IsAnswer engine.settings owed s final (step ∷ due) → DueAs engine (owed_behind owed step) (session_behind s step) due
+due_answer : {V T : Type 0} (engine : AnyServer V T) (owed : Option Reset) (s : Session V) (final : Bool) (step : ServerStep V T) (due : List (ServerStep V T))
+    → IsAnswer engine.settings owed s final (step ∷ due) → DueAs engine (owed_by_step owed step) (session_behind s step) due
 due_answer engine owed s final (Says item after) due a = inr (final_by final item.sign, a.2)
 due_answer engine owed s final Ends due a = inl (inl a.2)
 due_answer engine owed s final Breaks due a = absurd a
@@ -78,23 +78,23 @@ due_answer engine owed s final Breaks due a = absurd a
 none_more : {V T : Type 0} (step : ServerStep V T) (due : List (ServerStep V T)) → step ∷ due ≡ [] → ⊥
 none_more step due e = cc
 
-due_behind : {V T : Type 0} (engine : Engine V T) (owed : Option Reset) (s : Session V) (step : ServerStep V T) (due : List (ServerStep V T))
-    → DueAs engine owed s (step ∷ due) → DueAs engine (owed_behind owed step) (session_behind s step) due
+due_behind : {V T : Type 0} (engine : AnyServer V T) (owed : Option Reset) (s : Session V) (step : ServerStep V T) (due : List (ServerStep V T))
+    → DueAs engine owed s (step ∷ due) → DueAs engine (owed_by_step owed step) (session_behind s step) due
 due_behind engine owed s step due (inl (inl e)) = absurd (none_more step due e)
 due_behind engine owed s step due (inl (inr (acked, a))) = due_stop engine owed s acked step due a
 due_behind engine owed s step due (inr (final, a)) = due_answer engine owed s final step due a
 
-abbrev pub DueOn : {V T : Type 0} → Engine V T → Option Reset → Link V T → Type 0
+abbrev pub DueOn : {V T : Type 0} → AnyServer V T → Option Reset → Link V T → Type 0
 DueOn engine owed link = DueAs engine owed link.server.session link.server.due
 
-due_spoken : {V T : Type 0} (engine : Engine V T) (owed : Option Reset) (link : Link V T) (due : List (ServerStep V T)) → link.server.due ≡ due → HasSome due
+due_spoken : {V T : Type 0} (engine : AnyServer V T) (owed : Option Reset) (link : Link V T) (due : List (ServerStep V T)) → link.server.due ≡ due → HasSome due
     → DueOn engine owed link → DueOn engine (owed_next owed due) (spoken link due)
 due_spoken engine owed link [] e t d = absurd t
 due_spoken {V} {T} engine owed link (step ∷ due) e t d =
     due_behind engine owed link.server.session step due (subst (λ (x : List (ServerStep V T)). DueAs engine owed link.server.session x) e d)
 
 -- the packet that is taken
-due_packet : {V T : Type 0} (engine : Engine V T) (lawful : IsLawful engine) (owed : Option Reset) (server : Server V T) (asking : Asking) (packet : Packet)
+due_packet : {V T : Type 0} (engine : AnyServer V T) (lawful : IsLawful engine) (owed : Option Reset) (server : Server V T) (asking : Asking) (packet : Packet)
     → RunsAsOwed owed server packet → DueAs engine owed server.session server.due
     → DueAs engine owed (takes engine server asking packet).session (takes engine server asking packet).due
 due_packet engine lawful owed server asking (OfRequest request first own false) r d = d
@@ -107,7 +107,7 @@ due_packet {V} {T} engine lawful owed server asking (OfRequest request first own
 due_packet engine lawful owed server asking (Ignore request) r d = d
 due_packet engine lawful owed server asking Attention r d = inl (inr (false, lawful.stops asking.request server.session))
 
-due_taken : {V T : Type 0} (engine : Engine V T) (lawful : IsLawful engine) (owed : Option Reset) (link : Link V T) (u : List Up)
+due_taken : {V T : Type 0} (engine : AnyServer V T) (lawful : IsLawful engine) (owed : Option Reset) (link : Link V T) (u : List PacketUp)
     → NextAsOwed owed link.server u → DueOn engine owed link → DueOn engine owed (taken engine link u)
 due_taken engine lawful owed link [] r d = d
 due_taken engine lawful owed link (next ∷ others) r d = due_packet engine lawful owed link.server next.asking next.packet r d
@@ -119,23 +119,23 @@ Owes owed h link = owed ≡ marks h.mark link.down
 
 marks_append : {V T : Type 0} (mark : Option Reset) (xs ys : List (ServerStep V T)) → marks mark (xs ++ ys) ≡ marks (marks mark xs) ys
 marks_append mark [] ys = refl
-marks_append mark (x ∷ xs) ys = marks_append (owed_behind mark x) xs ys
+marks_append mark (x ∷ xs) ys = marks_append (owed_by_step mark x) xs ys
 
 pub owes_still : {V T : Type 0} (owed : Option Reset) (h : Heard) (link : Link V T) → Still h link → Owes owed h link → owed ≡ h.mark
 owes_still owed h link s o = o ∙ ap (marks h.mark) s.down
 
 pub owes_spoken : {V T : Type 0} (owed : Option Reset) (h : Heard) (link : Link V T) (due : List (ServerStep V T)) → HasSome due → Owes owed h link → Owes (owed_next owed due) h (spoken link due)
 owes_spoken owed h link [] t o = absurd t
-owes_spoken owed h link (step ∷ due) t o = ap (λ (m : Option Reset). owed_behind m step) o ∙ sym (marks_append h.mark link.down (step ∷ []))
+owes_spoken owed h link (step ∷ due) t o = ap (λ (m : Option Reset). owed_by_step m step) o ∙ sym (marks_append h.mark link.down (step ∷ []))
 
-pub owes_taken : {V T : Type 0} (engine : Engine V T) (owed : Option Reset) (h : Heard) (link : Link V T) (u : List Up) → Owes owed h link → Owes owed h (taken engine link u)
+pub owes_taken : {V T : Type 0} (engine : AnyServer V T) (owed : Option Reset) (h : Heard) (link : Link V T) (u : List PacketUp) → Owes owed h link → Owes owed h (taken engine link u)
 owes_taken engine owed h link [] o = o
 owes_taken engine owed h link (next ∷ others) o = o
 
 abbrev pub OwesBehind : {V T : Type 0} → Option Reset → Link V T → Act T → Turn T → Type 0
 OwesBehind owed link a t = owed_here owed a t.answer ≡ marks t.line.heard.mark (behind_act a link.down)
 
-owes_read : {V T : Type 0} (engine : Engine V T) (owed : Option Reset) (n : ℕ) (h : Heard) (link : Link V T) (part : Part T) → Owes owed h link
+owes_read : {V T : Type 0} (engine : AnyServer V T) (owed : Option Reset) (n : ℕ) (h : Heard) (link : Link V T) (part : Part T) → Owes owed h link
     → ReadsOn engine n h link part ⊎ ReadsOut n h link part → OwesBehind owed link (Come part) (line_turn (line n Reading h) (Come part))
 owes_read {V} {T} engine owed n h link part o (inl r) = subst (λ (t : Turn T). OwesBehind owed link (Come part) t) (sym r.is) (o ∙ r.owes)
 owes_read {V} {T} engine owed n h link part o (inr r) =
@@ -152,7 +152,7 @@ owes_mark : {V T : Type 0} (owed : Option Reset) (h : Heard) (link : Link V T) (
 owes_mark {V} {T} owed h link reset s o =
     ap (λ (m : Option Reset). strongest (Some reset) m) (owes_still owed h link s o) ∙ sym (ap (λ (d : List (ServerStep V T)). marks (strongest (Some reset) h.mark) d) s.down)
 
-pub owes_act : {V T : Type 0} (engine : Engine V T) (owed : Option Reset) (n : ℕ) (stage : LineStage) (h : Heard) (link : Link V T) (a : Act T)
+pub owes_act : {V T : Type 0} (engine : AnyServer V T) (owed : Option Reset) (n : ℕ) (stage : LineStage) (h : Heard) (link : Link V T) (a : Act T)
     → NotBroken stage → Flow engine n stage h link → Comes a link.down link.server.due → Owes owed h link → OwesBehind owed link a (line_turn (line n stage h) a)
 owes_act engine owed n Idle h link (Mark reset) b f c o = owes_mark owed h link reset f.still o
 owes_act engine owed n Idle h link Ask b f c o = o
@@ -187,7 +187,7 @@ owes_act engine owed n (Broken fault) h link a b f c o = absurd b
 
 -- ---- A mark is set where nothing is due
 
-due_act : {V T : Type 0} (engine : Engine V T) (owed : Option Reset) (n : ℕ) (stage : LineStage) (h : Heard) (link : Link V T) (a : Act T)
+due_act : {V T : Type 0} (engine : AnyServer V T) (owed : Option Reset) (n : ℕ) (stage : LineStage) (h : Heard) (link : Link V T) (a : Act T)
     → NotBroken stage → Flow engine n stage h link → DueOn engine owed link → DueOn engine (owed_here owed a (line_turn (line n stage h) a).answer) link
 due_act engine owed n Idle h link (Mark reset) b f d = inl (inl f.still.due)
 due_act engine owed n (Sending begun) h link (Mark reset) b f d = d
@@ -230,10 +230,10 @@ left_owed : {V T : Type 0} (owed : Option Reset) (n : ℕ) (h : Heard) (link : L
 left_owed owed n h link packets o (inl are) = whole_owed owed n h link (Attention ∷ []) packets o are
 left_owed owed n h link packets o (inr are) = ignored_owed owed link packets are
 
-owed_up : {V T : Type 0} (owed : Option Reset) (link : Link V T) (u : List Up) → link.up ≡ u → NextAsOwed owed link.server u → NextAsOwed owed link.server link.up
-owed_up owed link u e r = subst (λ (x : List Up). NextAsOwed owed link.server x) (sym e) r
+owed_up : {V T : Type 0} (owed : Option Reset) (link : Link V T) (u : List PacketUp) → link.up ≡ u → NextAsOwed owed link.server u → NextAsOwed owed link.server link.up
+owed_up owed link u e r = subst (λ (x : List PacketUp). NextAsOwed owed link.server x) (sym e) r
 
-next_owed : {V T : Type 0} (engine : Engine V T) (owed : Option Reset) (n : ℕ) (stage : LineStage) (h : Heard) (link : Link V T)
+next_owed : {V T : Type 0} (engine : AnyServer V T) (owed : Option Reset) (n : ℕ) (stage : LineStage) (h : Heard) (link : Link V T)
     → NotBroken stage → Flow engine n stage h link → Owes owed h link → NextAsOwed owed link.server link.up
 next_owed engine owed n Idle h link b f o = owed_up owed link [] f.up tt
 next_owed engine owed n (Sending false) h link b f o = owed_up owed link [] f.0.up tt
@@ -248,10 +248,10 @@ next_owed engine owed n (Broken fault) h link b f o = absurd b
 -- ---- Along a run
 
 -- behind a loss of the connection
-abbrev pub Lost : {V T : Type 0} → Engine V T → Option Reset → ℕ → LineStage → Heard → List (ServerStep V T) → Link V T → Type 0
+abbrev pub Lost : {V T : Type 0} → AnyServer V T → Option Reset → ℕ → LineStage → Heard → List (ServerStep V T) → Link V T → Type 0
 Lost engine owed n stage h down link = NotBroken stage × Was engine n stage h down link × Owes owed h (with_down link down) × DueOn engine owed link
 
-owes_lost : {V T : Type 0} (engine : Engine V T) (owed : Option Reset) (h : Heard) (down : List (ServerStep V T)) (link : Link V T) (u : List Up)
+owes_lost : {V T : Type 0} (engine : AnyServer V T) (owed : Option Reset) (h : Heard) (down : List (ServerStep V T)) (link : Link V T) (u : List PacketUp)
     → Owes owed h (with_down link down) → Owes owed h (with_down (taken engine link u) down)
 owes_lost engine owed h down link [] o = o
 owes_lost engine owed h down link (next ∷ others) o = o
@@ -261,7 +261,7 @@ owes_said : {V T : Type 0} (owed : Option Reset) (h : Heard) (down : List (Serve
 owes_said {V} {T} owed h down link due t o =
     subst (λ (k : Link V T). Owes (owed_next owed due) h k) (sym (spoken_down link down due)) (owes_spoken owed h (with_down link down) due t o)
 
-fresh_lost : {V T : Type 0} (engine : Engine V T) (lawful : IsLawful engine) (owed : Option Reset) (n : ℕ) (stage : LineStage) (h : Heard) (down : List (ServerStep V T)) (fault : ClientFault) (last : Heard) (link : Link V T) (plan : List (Planned T))
+fresh_lost : {V T : Type 0} (engine : AnyServer V T) (lawful : IsLawful engine) (owed : Option Reset) (n : ℕ) (stage : LineStage) (h : Heard) (down : List (ServerStep V T)) (fault : ClientFault) (last : Heard) (link : Link V T) (plan : List (Planned T))
     → Lost engine owed n stage h down link → Runs engine link (moves_by (line n (Broken fault) last) plan)
     → StartsFresh engine owed link (moves_by (line n (Broken fault) last) plan)
 fresh_lost engine lawful owed n stage h down fault last link [] w runs = tt
@@ -296,7 +296,7 @@ fresh_lost engine lawful owed n stage h down fault last link (Speaks ∷ plan) w
 )
 
 -- it is lost now
-fresh_lose : {V T : Type 0} (engine : Engine V T) (lawful : IsLawful engine) (owed : Option Reset) (n : ℕ) (stage : LineStage) (h : Heard) (link : Link V T) (plan : List (Planned T))
+fresh_lose : {V T : Type 0} (engine : AnyServer V T) (lawful : IsLawful engine) (owed : Option Reset) (n : ℕ) (stage : LineStage) (h : Heard) (link : Link V T) (plan : List (Planned T))
     → NotBroken stage → Flow engine n stage h link → Owes owed h link → DueOn engine owed link
     → Runs engine (done_here link (done_by Lose (line_turn (line n stage h) Lose))) (moves_by (line_turn {T = T} (line n stage h) Lose).line plan)
     → StartsFresh engine owed (done_here link (done_by Lose (line_turn (line n stage h) Lose))) (moves_by (line_turn {T = T} (line n stage h) Lose).line plan)
@@ -310,7 +310,7 @@ fresh_lose engine lawful owed n Cancelling h link plan b f o d runs =
     fresh_lost engine lawful owed n Cancelling h link.down faults.Lost h _ plan (tt, stays engine n Cancelling h link f, o, d) runs
 fresh_lose engine lawful owed n (Broken fault) h link plan b f o d runs = absurd b
 
-pub starts_fresh : {V T : Type 0} (engine : Engine V T) (lawful : IsLawful engine) (owed : Option Reset) (l : Line) (link : Link V T) (plan : List (Planned T))
+pub starts_fresh : {V T : Type 0} (engine : AnyServer V T) (lawful : IsLawful engine) (owed : Option Reset) (l : Line) (link : Link V T) (plan : List (Planned T))
     → NotBroken l.stage → FlowOn engine l link → Owes owed l.heard link → DueOn engine owed link
     → Runs engine link (moves_by l plan) → StartsFresh engine owed link (moves_by l plan)
 starts_fresh engine lawful owed l link [] b f o d runs = tt

@@ -7,9 +7,9 @@ use Rattle.tds_service.specs.Parts as parts
 use Rattle.tds_service.specs.Parts.{Item, Close, Part}
 use Rattle.tds_service.specs.Line.{LineStage, Idle, Sending, Reading, Cancelling, Broken, Packet, OfRequest, Ignore, Attention, Act, Mark, Ask, Send, Cancel, Come, Lose}
 use Rattle.tds_service.specs.History.{Done}
-use Rattle.laws_conforming_server.specs.Lawful.{Session, ServerStep, Says, Ends, Breaks, Engine, IsAnswer}
+use Rattle.laws_conforming_server.specs.Lawful.{Session, ServerStep, Says, Ends, Breaks, AnyServer, IsAnswer}
 use Rattle.laws_conforming_server.specs.Link as links
-use Rattle.laws_conforming_server.specs.Link.{Link, Move, Server, Asking, Up, ups, Comes, HasSome, IsEnd, IsNext, TakesNext, goes, session_behind, spoken, taken, takes, without, without_end}
+use Rattle.laws_conforming_server.specs.Link.{Link, Move, Server, Asking, PacketUp, ups, Comes, HasSome, IsEnd, IsNext, TakesNext, goes, session_behind, spoken, taken, takes, without, without_end}
 use Rattle.laws_conforming_server.specs.Working.{left_at_attention, stopped, work_left, left_for, left_to_do, Brings, Delivers, Works, Waits, CanGo}
 use Rattle.laws_conforming_server.proofs.Flow.{IsWhole, IsIgnored, Flow}
 use Rattle.laws_conforming_server.proofs.Chains.{Cancels}
@@ -26,7 +26,7 @@ first_of a b = omega arith
 abbrev pub said_one : {V T : Type 0} → Server V T → ServerStep V T → List (ServerStep V T) → Server V T
 said_one server step due = record { session = session_behind server.session step; reset = server.reset; due = due }
 
-less_by : {V T : Type 0} (engine : Engine V T) (behind : Server V T → ℕ) (s : Session V) (reset : Option Reset) (step : ServerStep V T) (due : List (ServerStep V T)) (asking : Asking) (packet : Packet)
+less_by : {V T : Type 0} (engine : AnyServer V T) (behind : Server V T → ℕ) (s : Session V) (reset : Option Reset) (step : ServerStep V T) (due : List (ServerStep V T)) (asking : Asking) (packet : Packet)
     → 2 + work_left engine behind (record { session = session_behind s step; reset = reset; due = due }) asking packet
     ≤ work_left engine behind (record { session = s; reset = reset; due = step ∷ due }) asking packet
 less_by engine behind s reset step due asking (OfRequest request first own last) = omega arith
@@ -34,7 +34,7 @@ less_by engine behind s reset step due asking (Ignore request) = omega arith
 less_by engine behind s reset step due asking Attention =
     grows (suc (behind (stopped engine asking s))) (2 + left_at_attention (λ x. behind (stopped engine asking x)) (session_behind s step) due)
 
-less_for : {V T : Type 0} (engine : Engine V T) (up : List Up) (s : Session V) (reset : Option Reset) (step : ServerStep V T) (due : List (ServerStep V T))
+less_for : {V T : Type 0} (engine : AnyServer V T) (up : List PacketUp) (s : Session V) (reset : Option Reset) (step : ServerStep V T) (due : List (ServerStep V T))
     → 2 + left_for engine up (record { session = session_behind s step; reset = reset; due = due })
     ≤ left_for engine up (record { session = s; reset = reset; due = step ∷ due })
 less_for engine [] s reset step due = omega arith
@@ -44,7 +44,7 @@ one_more : {A : Type 0} (xs : List A) (x : A) → length (xs ++ x ∷ []) ≡ su
 one_more [] x = refl
 one_more (y ∷ xs) x = ap suc (one_more xs x)
 
-speaks_less : {V T : Type 0} (engine : Engine V T) (link : Link V T) (due : List (ServerStep V T)) → link.server.due ≡ due → HasSome due
+speaks_less : {V T : Type 0} (engine : AnyServer V T) (link : Link V T) (due : List (ServerStep V T)) → link.server.due ≡ due → HasSome due
     → left_to_do engine (spoken link due) < left_to_do engine link
 speaks_less engine link [] e t = absurd t
 speaks_less {V} {T} engine link (step ∷ due) e t =
@@ -65,7 +65,7 @@ attention_less behind s (step ∷ due) =
     let a : suc (behind s) ≤ max (suc (behind s)) (2 + left_at_attention behind (session_behind s step) due) = first_of (suc (behind s)) (2 + left_at_attention behind (session_behind s step) due) in
     omega (arith, a)
 
-takes_by : {V T : Type 0} (engine : Engine V T) (behind : Server V T → ℕ) (server : Server V T) (asking : Asking) (packet : Packet) (due : List (ServerStep V T))
+takes_by : {V T : Type 0} (engine : AnyServer V T) (behind : Server V T → ℕ) (server : Server V T) (asking : Asking) (packet : Packet) (due : List (ServerStep V T))
     → server.due ≡ due → links.MayTake packet server.due → behind (takes engine server asking packet) < work_left engine behind server asking packet
 takes_by {V} {T} engine behind server asking (OfRequest request first own last) due e m =
     subst (λ (d : List (ServerStep V T)). behind (takes engine (record { session = server.session; reset = server.reset; due = d }) asking (OfRequest request first own last))
@@ -77,14 +77,14 @@ takes_by {V} {T} engine behind server asking Attention due e m =
     subst (λ (d : List (ServerStep V T)). behind (stopped engine asking server.session) < left_at_attention (λ s. behind (stopped engine asking s)) server.session d) (sym e)
     (attention_less (λ (s : Session V). behind (stopped engine asking s)) server.session due)
 
-takes_less : {V T : Type 0} (engine : Engine V T) (link : Link V T) (u : List Up) → link.up ≡ u → TakesNext u link.server.due
+takes_less : {V T : Type 0} (engine : AnyServer V T) (link : Link V T) (u : List PacketUp) → link.up ≡ u → TakesNext u link.server.due
     → left_to_do engine (taken engine link u) < left_to_do engine link
 takes_less engine link [] e t = absurd t
 takes_less {V} {T} engine link (next ∷ others) e t =
     let a : left_for engine others (takes engine link.server next.asking next.packet) < work_left engine (λ x. left_for engine others x) link.server next.asking next.packet =
     takes_by engine (λ x. left_for engine others x) link.server next.asking next.packet link.server.due refl t in
     let b : left_for engine link.up link.server ≡ work_left engine (λ x. left_for engine others x) link.server next.asking next.packet =
-    ap (λ (u : List Up). left_for engine u link.server) e in
+    ap (λ (u : List PacketUp). left_for engine u link.server) e in
     omega (arith, a, b)
 
 -- ---- A part comes
@@ -126,7 +126,7 @@ part_less (item ∷ items) close (Says said after ∷ down) b n = let a : length
 sent_nothing : {V T : Type 0} (link : Link V T) (sent : List Packet) → sent ≡ [] → link.up ++ ups link.asking sent ≡ link.up
 sent_nothing link sent e = ap (λ (ps : List Packet). link.up ++ ups link.asking ps) e ∙ append_nothing link.up
 
-comes_less : {V T : Type 0} (engine : Engine V T) (link : Link V T) (d : Done T) (a : Act T) → d.act ≡ a → links.Comes a link.down link.server.due → Delivers a → d.sent ≡ []
+comes_less : {V T : Type 0} (engine : AnyServer V T) (link : Link V T) (d : Done T) (a : Act T) → d.act ≡ a → links.Comes a link.down link.server.due → Delivers a → d.sent ≡ []
     → left_to_do engine (links.done_here link d) < left_to_do engine link
 comes_less engine link d (Mark reset) e c w n = absurd w
 comes_less engine link d Ask e c w n = absurd w
@@ -136,12 +136,12 @@ comes_less engine link d Lose e c w n = absurd w
 comes_less {V} {T} engine link d (Come part) e c w n =
     let a : length (without part.items part.close link.down) < length link.down = part_less part.items part.close link.down w c.1 in
     let b : left_for engine (link.up ++ ups link.asking d.sent) link.server ≡ left_for engine link.up link.server =
-    ap (λ (u : List Up). left_for engine u link.server) (sent_nothing link d.sent n) in
+    ap (λ (u : List PacketUp). left_for engine u link.server) (sent_nothing link d.sent n) in
     let f : length (links.behind_act d.act link.down) ≡ length (without part.items part.close link.down) =
     ap (λ (x : Act T). length (links.behind_act x link.down)) e in
     omega (arith, a, b, f)
 
-pub lowers : {V T : Type 0} (engine : Engine V T) (link : Link V T) (move : Move T) → links.May link move → Works move
+pub lowers : {V T : Type 0} (engine : AnyServer V T) (link : Link V T) (move : Move T) → links.May link move → Works move
     → left_to_do engine (goes engine link move) < left_to_do engine link
 lowers engine link (links.Here d) m w = comes_less engine link d d.act refl m w.0 w.1
 lowers engine link links.Takes m w = takes_less engine link link.up refl m
@@ -179,10 +179,10 @@ stop_some mark s acked [] [] a = absurd a
 stop_some mark s acked [] (step ∷ due) a = inl tt
 stop_some mark s acked (step ∷ down) due a = inr tt
 
-takes_next : {V T : Type 0} (link : Link V T) (u : List Up) → link.up ≡ u → TakesNext u link.server.due → CanGo link
-takes_next link u e t = inl (subst (λ (x : List Up). TakesNext x link.server.due) (sym e) t)
+takes_next : {V T : Type 0} (link : Link V T) (u : List PacketUp) → link.up ≡ u → TakesNext u link.server.due → CanGo link
+takes_next link u e t = inl (subst (λ (x : List PacketUp). TakesNext x link.server.due) (sym e) t)
 
-pub can_go : {V T : Type 0} (engine : Engine V T) (n : ℕ) (stage : LineStage) (h : Heard) (link : Link V T) → Waits stage → Flow engine n stage h link → CanGo link
+pub can_go : {V T : Type 0} (engine : AnyServer V T) (n : ℕ) (stage : LineStage) (h : Heard) (link : Link V T) → Waits stage → Flow engine n stage h link → CanGo link
 can_go engine n Idle h link w f = absurd w
 can_go engine n (Sending begun) h link w f = absurd w
 can_go engine n Reading h link w (inl f) =

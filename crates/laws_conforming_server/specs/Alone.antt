@@ -4,8 +4,8 @@ use Rattle.tds_packet.specs.declared.status.Reset.{Reset}
 use Rattle.tds_client.specs.declared.sign.Sign.{Sign}
 use Rattle.tds_client.specs.declared.sign.Sign.TheVariants as signs
 use Rattle.tds_service.specs.Line.{Act, Answer, Mark, Marked, Packet, OfRequest, Ignore, Attention}
-use Rattle.laws_conforming_server.specs.Lawful.{Session, ServerStep, Says, Ends, Breaks, Engine, reset_by, reset_left}
-use Rattle.laws_conforming_server.specs.Link.{Asking, Up, Link, Move, Here, Takes, Speaks, goes, new_link, session_behind}
+use Rattle.laws_conforming_server.specs.Lawful.{Session, ServerStep, Says, Ends, Breaks, AnyServer, reset_by, reset_left}
+use Rattle.laws_conforming_server.specs.Link.{Asking, PacketUp, Link, Move, Here, Takes, Speaks, goes, new_link, session_behind}
 use Rattle.laws_conforming_server.specs.Starting.{owed_here, owed_next}
 use Rattle.laws_conforming_server.specs.Answering.{or_later}
 
@@ -30,7 +30,7 @@ DoesReset settings reset s (Ends ∷ steps) = ⊥
 DoesReset settings reset s (Breaks ∷ steps) = ⊥
 
 -- A request that asks for a reset is answered by that, and then as without one in the session that it leaves (MS-TDS 2.2.3.1.2).
-pub record ResetsFirst {V T : Type 0} (engine : Engine V T) : Type 0 where
+pub record ResetsFirst {V T : Type 0} (engine : AnyServer V T) : Type 0 where
   pub resets : (request : ℕ) (s : Session V) (reset : Reset) (named : ℕ) → List (ServerStep V T)
   pub does : (request : ℕ) (s : Session V) (reset : Reset) (named : ℕ)
       → DoesReset engine.settings (Some reset) s (resets request s reset named)
@@ -52,7 +52,7 @@ own_here settings owed s act answer own = own
 
 -- It takes the same packets, and answers in its own session, whose transaction their header names. An attention before the reset is
 -- done stops all there: the request doesn't run.
-abbrev pub own_takes : {V T : Type 0} → Engine V T → Option Reset → Asking → Packet → Own V T → Own V T
+abbrev pub own_takes : {V T : Type 0} → AnyServer V T → Option Reset → Asking → Packet → Own V T → Own V T
 own_takes engine owed asking (OfRequest request first reset true) own =
     record { session = own.session; due = engine.answers request own.session None own.session.transaction }
 own_takes engine owed asking (OfRequest request first reset false) own = own
@@ -60,7 +60,7 @@ own_takes engine owed asking (Ignore request) own = own
 own_takes engine None asking Attention own = record { session = own.session; due = engine.stops asking.request own.session }
 own_takes engine (Some reset) asking Attention own = record { session = own.session; due = [] }
 
-abbrev pub own_taken : {V T : Type 0} → Engine V T → Option Reset → List Up → Own V T → Own V T
+abbrev pub own_taken : {V T : Type 0} → AnyServer V T → Option Reset → List PacketUp → Own V T → Own V T
 own_taken engine owed [] own = own
 own_taken engine owed (next ∷ others) own = own_takes engine owed next.asking next.packet own
 
@@ -84,11 +84,11 @@ pub record Beside (V T : Type 0) : Type 0 where
   pub own : Own V T
 
 -- Behind a login both are the same.
-abbrev pub new_beside : {V T : Type 0} → Engine V T → Beside V T
+abbrev pub new_beside : {V T : Type 0} → AnyServer V T → Beside V T
 new_beside engine =
     record { link = new_link engine; owed = None; own = record { session = (new_link engine).server.session; due = [] } }
 
-abbrev pub goes_beside : {V T : Type 0} → Engine V T → Beside V T → Move T → Beside V T
+abbrev pub goes_beside : {V T : Type 0} → AnyServer V T → Beside V T → Move T → Beside V T
 goes_beside engine b (Here d) = record {
   link = goes engine b.link (Here d);
   owed = owed_here b.owed d.act d.answer;
@@ -102,7 +102,7 @@ goes_beside engine b Speaks = record {
   own = own_speaks engine.settings b.owed b.link.server.session b.link.server.due b.own;
 }
 
-abbrev pub beside_after : {V T : Type 0} → Engine V T → Beside V T → List (Move T) → Beside V T
+abbrev pub beside_after : {V T : Type 0} → AnyServer V T → Beside V T → List (Move T) → Beside V T
 beside_after engine b [] = b
 beside_after engine b (move ∷ moves) = beside_after engine (goes_beside engine b move) moves
 
@@ -115,17 +115,17 @@ pub record IsBeside {V T : Type 0} (settings : V) (b : Beside V T) : Type 0 wher
 
 -- ---- What it answers
 
-abbrev pub alone_by : {V T : Type 0} → Engine V T → Option Reset → ℕ → Asking → Packet → Own V T → Option (List (ServerStep V T))
+abbrev pub alone_by : {V T : Type 0} → AnyServer V T → Option Reset → ℕ → Asking → Packet → Own V T → Option (List (ServerStep V T))
 alone_by engine owed r asking (OfRequest request first reset true) own =
     if request == r then Some (own_takes engine owed asking (OfRequest request first reset true) own).due else None
 alone_by engine owed r asking packet own = None
 
-abbrev pub alone_now : {V T : Type 0} → Engine V T → Option Reset → ℕ → List Up → Own V T → Option (List (ServerStep V T))
+abbrev pub alone_now : {V T : Type 0} → AnyServer V T → Option Reset → ℕ → List PacketUp → Own V T → Option (List (ServerStep V T))
 alone_now engine owed r [] own = None
 alone_now engine owed r (next ∷ others) own = alone_by engine owed r next.asking next.packet own
 
 -- What is due there where the last packet of this request is taken. Nothing, where it isn't taken in this run.
-abbrev pub answered_alone : {V T : Type 0} → Engine V T → Beside V T → ℕ → List (Move T) → List (ServerStep V T)
+abbrev pub answered_alone : {V T : Type 0} → AnyServer V T → Beside V T → ℕ → List (Move T) → List (ServerStep V T)
 answered_alone engine b r [] = []
 answered_alone engine b r (Here d ∷ moves) = answered_alone engine (goes_beside engine b (Here d)) r moves
 answered_alone engine b r (Takes ∷ moves) = or_later (alone_now engine b.owed r b.link.up b.own) (answered_alone engine (goes_beside engine b Takes) r moves)

@@ -2,18 +2,18 @@
 use Rattle.std.specs.Prelude.{◌≡◌, ℕ, ◌==◌, ◌||◌, Bool, true, false, List, [], ◌∷◌, ◌++◌, Option, Some, None, if◌then◌else◌}
 use Rattle.tds_service.specs.Line.{Answer, Finished, Fault, Lost, Packet, OfRequest}
 use Rattle.tds_service.specs.History.{Done}
-use Rattle.laws_conforming_server.specs.Lawful.{ServerStep, Engine}
-use Rattle.laws_conforming_server.specs.Link.{Asking, Server, Up, Link, Move, Here, Takes, Speaks, goes, takes}
+use Rattle.laws_conforming_server.specs.Lawful.{ServerStep, AnyServer}
+use Rattle.laws_conforming_server.specs.Link.{Asking, Server, PacketUp, Link, Move, Here, Takes, Speaks, goes, takes}
 
 -- ---- The answer of a request
 
 -- What is due where the packet that is taken is the last one of this request.
-abbrev pub answer_by : {V T : Type 0} → Engine V T → Server V T → Asking → ℕ → Packet → Option (List (ServerStep V T))
+abbrev pub answer_by : {V T : Type 0} → AnyServer V T → Server V T → Asking → ℕ → Packet → Option (List (ServerStep V T))
 answer_by engine server asking r (OfRequest request first reset true) =
     if request == r then Some (takes engine server asking (OfRequest request first reset true)).due else None
 answer_by engine server asking r packet = None
 
-abbrev pub answer_now : {V T : Type 0} → Engine V T → Link V T → ℕ → List Up → Option (List (ServerStep V T))
+abbrev pub answer_now : {V T : Type 0} → AnyServer V T → Link V T → ℕ → List PacketUp → Option (List (ServerStep V T))
 answer_now engine link r [] = None
 answer_now engine link r (next ∷ others) = answer_by engine link.server next.asking r next.packet
 
@@ -22,7 +22,7 @@ or_later (Some now) later = now
 or_later None later = later
 
 -- Nothing, where its last packet isn't taken in this run.
-abbrev pub answered : {V T : Type 0} → Engine V T → Link V T → ℕ → List (Move T) → List (ServerStep V T)
+abbrev pub answered : {V T : Type 0} → AnyServer V T → Link V T → ℕ → List (Move T) → List (ServerStep V T)
 answered engine link r [] = []
 answered engine link r (Here d ∷ moves) = answered engine (goes engine link (Here d)) r moves
 answered engine link r (Takes ∷ moves) = or_later (answer_now engine link r link.up) (answered engine (goes engine link Takes) r moves)

@@ -26,7 +26,7 @@ pub data ServerStep (V T : Type 0) : Type 0 where
 
 -- The settings behind a login and behind a reset; what is answered to the request of this number, in this session, if it asks for
 -- this reset and its header names this transaction (MS-TDS 2.2.5.3.2); and what is said to an attention behind that request.
-pub record Engine (V T : Type 0) : Type 0 where
+pub record AnyServer (V T : Type 0) : Type 0 where
   pub settings : V
   pub answers : (request : ℕ) (s : Session V) (reset : Option Reset) (named : ℕ) → List (ServerStep V T)
   pub stops : (request : ℕ) (s : Session V) → List (ServerStep V T)
@@ -101,7 +101,7 @@ IsStop s acknowledged (Breaks ∷ steps) = UnlessAcknowledged acknowledged steps
 
 -- ---- A server that keeps the rules, whatever it answers
 
-pub record IsLawful {V T : Type 0} (engine : Engine V T) : Type 0 where
+pub record IsLawful {V T : Type 0} (engine : AnyServer V T) : Type 0 where
   pub answers : (request : ℕ) (s : Session V) (reset : Option Reset) (named : ℕ)
       → IsAnswer engine.settings reset s false (engine.answers request s reset named)
   pub stops : (request : ℕ) (s : Session V) → IsStop s false (engine.stops request s)

@@ -6,7 +6,7 @@ use Rattle.tds_service.specs.Parts.{Item, Close}
 use Rattle.tds_service.specs.Line as line
 use Rattle.tds_service.specs.Line.{Act, Answer, Packet, OfRequest, Ignore, Attention}
 use Rattle.tds_service.specs.History.{Done}
-use Rattle.laws_conforming_server.specs.Lawful.{Session, ServerStep, Says, Ends, Breaks, Engine}
+use Rattle.laws_conforming_server.specs.Lawful.{Session, ServerStep, Says, Ends, Breaks, AnyServer}
 
 -- ---- The server
 
@@ -22,18 +22,18 @@ pub record Asking : Type 0 where
   pub named : ℕ
 
 -- A packet on its way, and for which request it went out.
-pub record Up : Type 0 where
+pub record PacketUp : Type 0 where
   pub asking : Asking
   pub packet : Packet
 
 -- A request is run as soon as its last packet is there, with the reset that its first one asks for (MS-TDS 2.2.3.1.2).
-abbrev pub server_reads : {V T : Type 0} → Engine V T → Server V T → (request named : ℕ) → Option Reset → Bool → Server V T
+abbrev pub server_reads : {V T : Type 0} → AnyServer V T → Server V T → (request named : ℕ) → Option Reset → Bool → Server V T
 server_reads engine server request named reset false = record { session = server.session; reset = reset; due = server.due }
 server_reads engine server request named reset true =
     record { session = server.session; reset = None; due = engine.answers request server.session reset named }
 
 -- A request that is to be ignored is forgotten (2.2.3.1.2). An attention stops the answer (2.2.1.7).
-abbrev pub takes : {V T : Type 0} → Engine V T → Server V T → Asking → Packet → Server V T
+abbrev pub takes : {V T : Type 0} → AnyServer V T → Server V T → Asking → Packet → Server V T
 takes engine server asking (OfRequest request first reset last) =
     server_reads engine server request asking.named (if first then reset else server.reset) last
 takes engine server asking (Ignore request) = record { session = server.session; reset = None; due = server.due }
@@ -55,13 +55,13 @@ session_behind s Breaks = s
 
 -- What went out and wasn't taken yet; the server; what it said and hasn't come yet; and the request that was asked last.
 pub record Link (V T : Type 0) : Type 0 where
-  pub up : List Up
+  pub up : List PacketUp
   pub server : Server V T
   pub down : List (ServerStep V T)
   pub asking : Asking
 
 -- Behind a login.
-abbrev pub new_link : {V T : Type 0} → Engine V T → Link V T
+abbrev pub new_link : {V T : Type 0} → AnyServer V T → Link V T
 new_link engine = record {
   up = [];
   server = record { session = record { transaction = 0; settings = engine.settings }; reset = None; due = [] };
@@ -117,7 +117,7 @@ abbrev pub asking_by : Asking → Answer → Asking
 asking_by asking (line.Asked request named) = record { request = request; named = named }
 asking_by asking answer = asking
 
-abbrev pub ups : Asking → List Packet → List Up
+abbrev pub ups : Asking → List Packet → List PacketUp
 ups asking [] = []
 ups asking (packet ∷ packets) = (record { asking = asking; packet = packet }) ∷ ups asking packets
 
@@ -129,7 +129,7 @@ done_here link d = record {
   asking = asking_by link.asking d.answer;
 }
 
-abbrev pub taken : {V T : Type 0} → Engine V T → Link V T → List Up → Link V T
+abbrev pub taken : {V T : Type 0} → AnyServer V T → Link V T → List PacketUp → Link V T
 taken engine link [] = link
 taken engine link (next ∷ others) =
     record { up = others; server = takes engine link.server next.asking next.packet; down = link.down; asking = link.asking }
@@ -143,12 +143,12 @@ spoken link (step ∷ due) = record {
   asking = link.asking;
 }
 
-abbrev pub goes : {V T : Type 0} → Engine V T → Link V T → Move T → Link V T
+abbrev pub goes : {V T : Type 0} → AnyServer V T → Link V T → Move T → Link V T
 goes engine link (Here d) = done_here link d
 goes engine link Takes = taken engine link link.up
 goes engine link Speaks = spoken link link.server.due
 
-abbrev pub TakesNext : {V T : Type 0} → List Up → List (ServerStep V T) → Type 0
+abbrev pub TakesNext : {V T : Type 0} → List PacketUp → List (ServerStep V T) → Type 0
 TakesNext [] due = ⊥
 TakesNext (next ∷ others) due = MayTake next.packet due
 
@@ -159,11 +159,11 @@ May link Speaks = HasSome link.server.due
 
 -- ---- Runs
 
-abbrev pub Runs : {V T : Type 0} → Engine V T → Link V T → List (Move T) → Type 0
+abbrev pub Runs : {V T : Type 0} → AnyServer V T → Link V T → List (Move T) → Type 0
 Runs engine link [] = Unit {0}
 Runs engine link (move ∷ moves) = May link move × Runs engine (goes engine link move) moves
 
-abbrev pub link_after : {V T : Type 0} → Engine V T → Link V T → List (Move T) → Link V T
+abbrev pub link_after : {V T : Type 0} → AnyServer V T → Link V T → List (Move T) → Link V T
 link_after engine link [] = link
 link_after engine link (move ∷ moves) = link_after engine (goes engine link move) moves
 
@@ -175,6 +175,6 @@ here (Speaks ∷ moves) = here moves
 
 -- What was done on a connection, and came there, is that of a run of this server from its login: at every moment only what it had
 -- said by then had come.
-pub record IsRun {V T : Type 0} (engine : Engine V T) (moves : List (Move T)) (ds : List (Done T)) : Type 0 where
+pub record IsRun {V T : Type 0} (engine : AnyServer V T) (moves : List (Move T)) (ds : List (Done T)) : Type 0 where
   pub ours : here moves ≡ ds
   pub runs : Runs engine (new_link engine) moves

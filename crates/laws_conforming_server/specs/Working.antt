@@ -3,8 +3,8 @@ use Rattle.std.specs.Prelude.{◌≡◌, ◌⊎◌, ◌+◌, ℕ, suc, List, [],
 use Rattle.tds_service.specs.Parts as parts
 use Rattle.tds_service.specs.Parts.{Item, Close, Part}
 use Rattle.tds_service.specs.Line.{Act, Come, LineStage, Reading, Cancelling, Packet, OfRequest, Ignore, Attention}
-use Rattle.laws_conforming_server.specs.Lawful.{Session, ServerStep, Engine}
-use Rattle.laws_conforming_server.specs.Link.{Asking, Server, Up, Link, Move, Here, Takes, Speaks, HasSome, TakesNext, session_behind, takes}
+use Rattle.laws_conforming_server.specs.Lawful.{Session, ServerStep, AnyServer}
+use Rattle.laws_conforming_server.specs.Link.{Asking, Server, PacketUp, Link, Move, Here, Takes, Speaks, HasSome, TakesNext, session_behind, takes}
 
 -- ---- A measure
 
@@ -22,23 +22,23 @@ abbrev pub left_at_attention : {V T : Type 0} → (Session V → ℕ) → Sessio
 left_at_attention behind s [] = suc (behind s)
 left_at_attention behind s (step ∷ due) = max (suc (behind s)) (2 + left_at_attention behind (session_behind s step) due)
 
-abbrev pub stopped : {V T : Type 0} → Engine V T → Asking → Session V → Server V T
+abbrev pub stopped : {V T : Type 0} → AnyServer V T → Asking → Session V → Server V T
 stopped engine asking s = record { session = s; reset = None; due = engine.stops asking.request s }
 
 abbrev pub with_all_said : {V T : Type 0} → Server V T → Server V T
 with_all_said server = record { session = all_said server.session server.due; reset = server.reset; due = [] }
 
-abbrev pub work_left : {V T : Type 0} → Engine V T → (Server V T → ℕ) → Server V T → Asking → Packet → ℕ
+abbrev pub work_left : {V T : Type 0} → AnyServer V T → (Server V T → ℕ) → Server V T → Asking → Packet → ℕ
 work_left engine behind server asking (OfRequest request first reset last) =
     twice server.due + suc (behind (takes engine (with_all_said server) asking (OfRequest request first reset last)))
 work_left engine behind server asking (Ignore request) = twice server.due + suc (behind (takes engine (with_all_said server) asking (Ignore request)))
 work_left engine behind server asking Attention = left_at_attention (λ s. behind (stopped engine asking s)) server.session server.due
 
-abbrev pub left_for : {V T : Type 0} → Engine V T → List Up → Server V T → ℕ
+abbrev pub left_for : {V T : Type 0} → AnyServer V T → List PacketUp → Server V T → ℕ
 left_for engine [] server = twice server.due
 left_for engine (next ∷ others) server = work_left engine (λ s. left_for engine others s) server next.asking next.packet
 
-abbrev pub left_to_do : {V T : Type 0} → Engine V T → Link V T → ℕ
+abbrev pub left_to_do : {V T : Type 0} → AnyServer V T → Link V T → ℕ
 left_to_do engine link = left_for engine link.up link.server + length link.down
 
 -- ---- What lowers it

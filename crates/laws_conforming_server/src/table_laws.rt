@@ -7,7 +7,7 @@ ghost use Rattle.tds_service.specs.Line.{Idle, new_line};
 ghost use Rattle.tds_service.specs.History.{acts_of, given, line_after};
 ghost use Rattle.tds_service.specs.Service.{Back, Call, Free, Lent, is_clean, new_service};
 ghost use Rattle.tds_service.specs.Service.{on, service_after, step, steps};
-ghost use Rattle.laws_conforming_server.specs.Lawful.{Engine, IsLawful, told_of};
+ghost use Rattle.laws_conforming_server.specs.Lawful.{AnyServer, IsLawful, told_of};
 ghost use Rattle.laws_conforming_server.specs.Link.{IsRun, Move, link_after, new_link};
 ghost use Rattle.laws_conforming_server.specs.Answering.{Begins, NoFault, answered, finishes};
 ghost use Rattle.laws_conforming_server.specs.Agreeing.{AllInNamed, IsQuiet};
@@ -21,12 +21,12 @@ use tds_service::table_laws::{asks_for_reset, each_alone, line_by_history};
 /// What a request is told is a beginning of what the server answers to it, and all of that where it
 /// is finished.
 pub fn own_answers<V, T>()
-    ensures begins { (engine : Engine V T) (max n : ℕ) (calls : List (Call T))
+    ensures begins { (engine : AnyServer V T) (max n : ℕ) (calls : List (Call T))
         (moves : List (Move T)) (r : ℕ)
         → IsLawful engine → IsRun engine moves (on n (steps (new_service max) calls))
         → Begins (given r (on n (steps (new_service max) calls)))
         (told_of (answered engine (new_link engine) r moves)) }
-    ensures whole { (engine : Engine V T) (max n : ℕ) (calls : List (Call T))
+    ensures whole { (engine : AnyServer V T) (max n : ℕ) (calls : List (Call T))
         (moves : List (Move T)) (r : ℕ)
         → IsLawful engine → IsRun engine moves (on n (steps (new_service max) calls))
         → finishes r (on n (steps (new_service max) calls)) ≡ true
@@ -38,7 +38,7 @@ pub fn own_answers<V, T>()
 
 /// Nothing that comes is a fault, until the connection is lost.
 pub fn no_fault<V, T>()
-    ensures { (engine : Engine V T) (max n : ℕ) (calls : List (Call T))
+    ensures { (engine : AnyServer V T) (max n : ℕ) (calls : List (Call T))
         (moves : List (Move T))
         → IsLawful engine → IsRun engine moves (on n (steps (new_service max) calls))
         → NoFault (on n (steps (new_service max) calls)) }
@@ -49,7 +49,7 @@ pub fn no_fault<V, T>()
 /// Where a connection is idle nothing is on its way, its server has nothing to say, and both ends
 /// are in one transaction.
 pub fn idle_is_quiet<V, T>()
-    ensures { (engine : Engine V T) (max n : ℕ) (calls : List (Call T))
+    ensures { (engine : AnyServer V T) (max n : ℕ) (calls : List (Call T))
         (moves : List (Move T))
         → IsLawful engine → IsRun engine moves (on n (steps (new_service max) calls))
         → (line_after new_line (acts_of (on n (steps (new_service max) calls)))).stage ≡ Idle
@@ -62,7 +62,7 @@ pub fn idle_is_quiet<V, T>()
 /// Where a connection is lent again all is quiet: nothing is on its way, its server has nothing to
 /// say, and both ends are in one transaction.
 pub fn lends_quiet<V, T>()
-    ensures { (engine : Engine V T) (max lease n : ℕ) (calls : List (Call T)) (call : Call T)
+    ensures { (engine : AnyServer V T) (max lease n : ℕ) (calls : List (Call T)) (call : Call T)
         (moves : List (Move T))
         → IsLawful engine → IsRun engine moves (on n (steps (new_service max) calls))
         → (step (service_after (new_service max) calls) call).reply ≡ Lent lease n true
@@ -76,7 +76,7 @@ pub fn lends_quiet<V, T>()
 /// A request runs in the transaction that its header names, the one heard last when it was asked,
 /// or in none behind its full reset (MS-TDS 2.2.5.3.2).
 pub fn own_transaction<V, T>()
-    ensures { (engine : Engine V T) (max n : ℕ) (calls : List (Call T))
+    ensures { (engine : AnyServer V T) (max n : ℕ) (calls : List (Call T))
         (moves : List (Move T))
         → IsLawful engine → IsRun engine moves (on n (steps (new_service max) calls))
         → AllInNamed engine (new_link engine) moves }
@@ -89,7 +89,7 @@ pub fn own_transaction<V, T>()
 /// server runs nothing before it is done: the first that runs finds a fresh session, or the
 /// transaction that was kept, without settings.
 pub fn fresh_start<V, T>()
-    ensures { (engine : Engine V T) (max n : ℕ) (calls : List (Call T))
+    ensures { (engine : AnyServer V T) (max n : ℕ) (calls : List (Call T))
         (moves : List (Move T))
         → IsLawful engine → IsRun engine moves (on n (steps (new_service max) calls))
         → StartsFresh engine None (new_link engine) moves }
@@ -100,7 +100,7 @@ pub fn fresh_start<V, T>()
 /// Where a cleaning frees a connection, its server has done the reset that was marked last, and
 /// is in no transaction.
 pub fn left_clean<V, T>()
-    ensures freed { (engine : Engine V T) (max lease : ℕ) (calls : List (Call T))
+    ensures freed { (engine : AnyServer V T) (max lease : ℕ) (calls : List (Call T))
         (moves : List (Move T))
         → IsLawful engine
         → IsRun engine moves
@@ -111,7 +111,7 @@ pub fn left_clean<V, T>()
         → IsLeftClean (owed_after engine None (new_link engine) moves)
         (link_after engine (new_link engine) moves) }
     // So it is wherever an idle connection is found clean.
-    ensures idle { (engine : Engine V T) (max n : ℕ) (calls : List (Call T))
+    ensures idle { (engine : AnyServer V T) (max n : ℕ) (calls : List (Call T))
         (moves : List (Move T))
         → IsLawful engine → IsRun engine moves (on n (steps (new_service max) calls))
         → (line_after new_line (acts_of (on n (steps (new_service max) calls)))).stage ≡ Idle
@@ -128,7 +128,7 @@ pub fn left_clean<V, T>()
 /// While an answer or an acknowledgement is awaited there is a packet that the server may take, a
 /// thing that it may say, or something on its way to the client (each leaves less to do: `laws`).
 pub fn never_stuck<V, T>()
-    ensures { (engine : Engine V T) (max n : ℕ) (calls : List (Call T))
+    ensures { (engine : AnyServer V T) (max n : ℕ) (calls : List (Call T))
         (moves : List (Move T))
         → IsLawful engine → IsRun engine moves (on n (steps (new_service max) calls))
         → Waits (line_after new_line (acts_of (on n (steps (new_service max) calls)))).stage
@@ -142,20 +142,20 @@ pub fn never_stuck<V, T>()
 /// lease of a used connection, or one in a ticket's transaction
 /// (`tds_service::table_laws::asks_for_reset`).
 pub fn as_if_alone<V, T>()
-    ensures begins { (engine : Engine V T) (max n : ℕ) (calls : List (Call T))
+    ensures begins { (engine : AnyServer V T) (max n : ℕ) (calls : List (Call T))
         (moves : List (Move T)) (r : ℕ)
         → IsLawful engine → ResetsFirst engine
         → IsRun engine moves (on n (steps (new_service max) calls))
         → Begins (given r (on n (steps (new_service max) calls)))
         (told_of (answered_alone engine (new_beside engine) r moves)) }
-    ensures whole { (engine : Engine V T) (max n : ℕ) (calls : List (Call T))
+    ensures whole { (engine : AnyServer V T) (max n : ℕ) (calls : List (Call T))
         (moves : List (Move T)) (r : ℕ)
         → IsLawful engine → ResetsFirst engine
         → IsRun engine moves (on n (steps (new_service max) calls))
         → finishes r (on n (steps (new_service max) calls)) ≡ true
         → given r (on n (steps (new_service max) calls))
         ≡ told_of (answered_alone engine (new_beside engine) r moves) }
-    ensures beside { (engine : Engine V T) (max n : ℕ) (calls : List (Call T))
+    ensures beside { (engine : AnyServer V T) (max n : ℕ) (calls : List (Call T))
         (moves : List (Move T))
         → IsLawful engine → ResetsFirst engine
         → IsRun engine moves (on n (steps (new_service max) calls))

@@ -17,7 +17,7 @@ ghost use Rattle.tds_judge.specs.declared.talk.Event.{Event};
 ghost use Rattle.tds_judge.specs.declared.talk.Event.TheVariants as events;
 ghost use Rattle.tds_judge.specs.declared.talk.Limits.{Limits};
 ghost use Rattle.laws_conforming_server.specs.Answering.{NoFault};
-ghost use Rattle.laws_conforming_server.specs.Lawful.{Engine, IsLawful};
+ghost use Rattle.laws_conforming_server.specs.Lawful.{AnyServer, IsLawful};
 ghost use Rattle.laws_conforming_server.specs.Link.{IsRun, Move};
 ghost use Rattle.laws_never_blamed.specs.Called.{AreCalled, Called, acts_of, handed, new_end};
 ghost use Rattle.laws_never_blamed.specs.Crossing.{IsOfServer};
@@ -46,12 +46,12 @@ pub fn own_conversations_are_lawful()
 /// conversation and never blamed: whatever it answers, whatever is asked, cancelled and reset, and
 /// whichever way a cancel crosses an answer.
 pub fn never_blamed_before_a_lawful_server<V>()
-    ensures lawful { (engine : Engine V Token) (acts : List (Act Token)) (moves : List (Move Token))
-        (eye : Eye)
+    ensures lawful { (engine : AnyServer V Token) (acts : List (Act Token))
+        (moves : List (Move Token)) (eye : Eye)
         → IsLawful engine → IsRun engine moves (history new_line acts) → AllBehindLogin acts
         → judging.IsLawful (conversation eye (history new_line acts)) }
-    ensures blamed { (engine : Engine V Token) (acts : List (Act Token)) (moves : List (Move Token))
-        (eye : Eye)
+    ensures blamed { (engine : AnyServer V Token) (acts : List (Act Token))
+        (moves : List (Move Token)) (eye : Eye)
         → IsLawful engine → IsRun engine moves (history new_line acts) → AllBehindLogin acts
         → is_broken [] (conversation eye (history new_line acts)) ≡ false }
 {
@@ -77,7 +77,7 @@ pub fn bytes_spell_what_is_done()
 /// login on: whatever is asked, cancelled and reset, whatever it answers, and whichever way a cancel
 /// crosses an answer.
 pub fn our_bytes_are_never_blamed<V>()
-    ensures { (engine : Engine V Token) (moves : List (Move Token)) (limits : Limits)
+    ensures { (engine : AnyServer V Token) (moves : List (Move Token)) (limits : Limits)
         (judge : Judge) (reading : Parser) (acts : List (Act Token)) (shown : List Shown)
         → IsLawful engine → IsRun engine moves (history new_line acts) → AllBehindLogin acts
         → IsNew limits judge → judge.parser ≡ Some reading
@@ -92,7 +92,7 @@ pub fn our_bytes_are_never_blamed<V>()
 /// And so of our own client: whatever its calls append, whatever comes of such a server, no breach is
 /// found in the bytes. It begins with an idle client behind a login, for packets of any size.
 pub fn our_calls_are_never_blamed<V>()
-    ensures { (engine : Engine V Token) (moves : List (Move Token)) (limits : Limits)
+    ensures { (engine : AnyServer V Token) (moves : List (Move Token)) (limits : Limits)
         (judge : Judge) (reading : Parser) (size : ℕ) (calls : List Called)
         → IsPacketSize size → AreCalled (new_end size reading) calls
         → IsLawful engine

@@ -14,7 +14,7 @@ ghost use Rattle.tds_judge.specs.Told.{has_breach, is_broken};
 ghost use Rattle.tds_judge.specs.declared.judge.Judge.{Judge};
 ghost use Rattle.tds_judge.specs.declared.talk.Limits.{Limits};
 ghost use Rattle.laws_conforming_server.specs.Answering.{NoFault};
-ghost use Rattle.laws_conforming_server.specs.Lawful.{Engine, IsLawful};
+ghost use Rattle.laws_conforming_server.specs.Lawful.{AnyServer, IsLawful};
 ghost use Rattle.laws_conforming_server.specs.Link.{IsRun, Move};
 ghost use Rattle.laws_never_blamed.specs.Relayed.{AllSupposed, ComeBehindLogin, Side, relayed};
 ghost use Rattle.laws_never_blamed.specs.Seen.{AllBehindLogin, Eye, conversation};
@@ -36,13 +36,13 @@ pub fn relay_to_servers<V>()
         → NoFault (done_on sharing number events)
         → judging.IsLawful (conversation eye (done_on sharing number events)) }
     /// So before a server that keeps the rules none of it is a breach,
-    ensures blamed { (engine : Engine V Token) (moves : List (Move Token)) (sharing : Sharing)
+    ensures blamed { (engine : AnyServer V Token) (moves : List (Move Token)) (sharing : Sharing)
         (number : ℕ) (events : List Event) (eye : Eye)
         → IsLawful engine → IsRun engine moves (done_on sharing number events)
         → AllBehindLogin (acts_of (done_on sharing number events))
         → is_broken [] (conversation eye (done_on sharing number events)) ≡ false }
     /// and none is found in the connection's bytes, where those that go out are what was done there.
-    ensures bytes { (engine : Engine V Token) (moves : List (Move Token)) (limits : Limits)
+    ensures bytes { (engine : AnyServer V Token) (moves : List (Move Token)) (limits : Limits)
         (judge : Judge) (reading : Parser) (sharing : Sharing) (number : ℕ) (events : List Event)
         (shown : List Shown)
         → IsLawful engine → IsRun engine moves (done_on sharing number events)

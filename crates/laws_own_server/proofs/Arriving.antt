@@ -15,7 +15,7 @@ use Rattle.tds_world.specs.Entries as entries
 use Rattle.tds_world.specs.Entries.{Up, Part, End, Drop, Attention, Down, Step, Acknowledgement}
 use Rattle.tds_world.specs.Lane.{passed}
 use Rattle.tds_world.specs.Requests.{AreRequests, Message, Nothing}
-use Rattle.laws_conforming_server.specs.Lawful.{Engine, Session}
+use Rattle.laws_conforming_server.specs.Lawful.{AnyServer, Session}
 use Rattle.laws_conforming_server.specs.Link as links
 use Rattle.laws_conforming_server.specs.Link.{Asking, HasSome, Link, MayTake, Move, Takes, TakesNext, Runs, goes, here, link_after, taken, takes}
 use Rattle.laws_own_server.specs.Bench.{Asked, Kept, Log, bench, said, state_of}
@@ -25,30 +25,30 @@ use Rattle.laws_own_server.proofs.Standing.{AreUps, Holds, Leads, Names, leads_o
 
 -- ---- The next packet
 
-pub record First (place : Place) (e : Up) (es : List Up) (us : List links.Up) : Type 0 where
-  pub next : links.Up
-  pub others : List links.Up
+pub record First (place : Place) (e : Up) (es : List Up) (us : List links.PacketUp) : Type 0 where
+  pub next : links.PacketUp
+  pub others : List links.PacketUp
   pub are : us ≡ next ∷ others
   pub packet : next.packet ≡ packet_of place e
   pub names : Names e next.asking
   pub rest : AreUps (place_behind place e) es others
 
-pub first_of : (place : Place) (e : Up) (es : List Up) (us : List links.Up) → AreUps place (e ∷ es) us → First place e es us
+pub first_of : (place : Place) (e : Up) (es : List Up) (us : List links.PacketUp) → AreUps place (e ∷ es) us → First place e es us
 first_of place e es [] a = absurd a
 first_of place e es (u ∷ us) a = record { next = u; others = us; are = refl; packet = a.0; names = a.1; rest = a.2 }
 
 -- the link when it is taken
-abbrev pub took : Engine Kept Token → Link Kept Token → links.Up → List links.Up → line.Packet → Link Kept Token
+abbrev pub took : AnyServer Kept Token → Link Kept Token → links.PacketUp → List links.PacketUp → line.Packet → Link Kept Token
 took engine link u us packet = record { up = us; server = takes engine link.server u.asking packet; down = link.down; asking = link.asking }
 
-pub took_it : (engine : Engine Kept Token) (link : Link Kept Token) (u : links.Up) (us : List links.Up) (packet : line.Packet) → link.up ≡ u ∷ us → u.packet ≡ packet
+pub took_it : (engine : AnyServer Kept Token) (link : Link Kept Token) (u : links.PacketUp) (us : List links.PacketUp) (packet : line.Packet) → link.up ≡ u ∷ us → u.packet ≡ packet
     → goes engine link Takes ≡ took engine link u us packet
-took_it engine link u us packet e f = ap (λ (xs : List links.Up). taken engine link xs) e ∙ ap (λ (p : line.Packet). took engine link u us p) f
+took_it engine link u us packet e f = ap (λ (xs : List links.PacketUp). taken engine link xs) e ∙ ap (λ (p : line.Packet). took engine link u us p) f
 
-pub may_take : (link : Link Kept Token) (u : links.Up) (us : List links.Up) (packet : line.Packet) → link.up ≡ u ∷ us → u.packet ≡ packet → MayTake packet link.server.due
+pub may_take : (link : Link Kept Token) (u : links.PacketUp) (us : List links.PacketUp) (packet : line.Packet) → link.up ≡ u ∷ us → u.packet ≡ packet → MayTake packet link.server.due
     → TakesNext link.up link.server.due
 may_take link u us packet e f m =
-    subst (λ (xs : List links.Up). TakesNext xs link.server.due) (sym e) (subst (λ (p : line.Packet). MayTake p link.server.due) (sym f) m)
+    subst (λ (xs : List links.PacketUp). TakesNext xs link.server.due) (sym e) (subst (λ (p : line.Packet). MayTake p link.server.due) (sym f) m)
 
 -- ---- It arrived
 
@@ -68,7 +68,7 @@ Behind c e = places first_place (c.to_server.arrived ++ e ∷ [])
 pub place_next : (c : Connection) (e : Up) → Behind c e ≡ place_behind (place_of c) e
 place_next c e = places_both first_place c.to_server.arrived (e ∷ [])
 
-pub ups_next : (c : Connection) (e : Up) (es : List Up) (us : List links.Up) → AreUps (place_behind (place_of c) e) es us → AreUps (Behind c e) es us
+pub ups_next : (c : Connection) (e : Up) (es : List Up) (us : List links.PacketUp) → AreUps (place_behind (place_of c) e) es us → AreUps (Behind c e) es us
 ups_next c e es us a = subst (λ (p : Place). AreUps p es us) (sym (place_next c e)) a
 
 pub reset_next : (c : Connection) (e : Up) (reset : Option Reset) → reset ≡ (place_behind (place_of c) e).reset → reset ≡ (Behind c e).reset
@@ -85,7 +85,7 @@ takes_leads : (attention : OnAttention) (answers : Answers) (log : Log) (moves :
     → Holds (arrived answers c e) es downs (took (bench attention answers log) (link_of attention answers log moves) f.next f.others (packet_of (place_of c) e))
     → Leads attention answers log (moves ++ Takes ∷ []) (arrived answers c e) es downs
 takes_leads attention answers log moves c e es downs l f m i j h =
-    let engine : Engine Kept Token = bench attention answers log in
+    let engine : AnyServer Kept Token = bench attention answers log in
     let link : Link Kept Token = link_of attention answers log moves in
     leads_on attention answers log moves c (arrived answers c e) (e ∷ es) es downs downs l (Takes ∷ [])
     (may_take link f.next f.others (packet_of (place_of c) e) f.are f.packet m, tt)

@@ -14,7 +14,7 @@ use Rattle.tds_world.specs.Connection.{Connection}
 use Rattle.tds_world.specs.Entries.{Up, Down, Step, Acknowledgement}
 use Rattle.tds_world.specs.Lane.{passed}
 use Rattle.laws_conforming_server.specs.Lawful as lawful
-use Rattle.laws_conforming_server.specs.Lawful.{Engine}
+use Rattle.laws_conforming_server.specs.Lawful.{AnyServer}
 use Rattle.laws_conforming_server.specs.Link as links
 use Rattle.laws_conforming_server.specs.Link.{HasSome, IsNext, Link, Move, without}
 use Rattle.laws_own_server.specs.Bench.{Kept, Log}
@@ -99,7 +99,7 @@ come_leads attention answers log moves c e es ups items last s i j l =
     (sym (append-nil (packets_of first_place (c.to_server.arrived ++ ups))))
     (things_more c e items last j)
     (record {
-      up = subst (λ (us : List links.Up). AreUps (place_of c) ups us) (sym (append-nil link.up)) h.up;
+      up = subst (λ (us : List links.PacketUp). AreUps (place_of c) ups us) (sym (append-nil link.up)) h.up;
       reset = h.reset;
       transaction = h.transaction;
       settings = h.settings;

@@ -35,11 +35,11 @@ sent_more c e =
 none_came : (c : Connection) → things_of c.to_client.arrived ≡ things_of c.to_client.arrived ++ []
 none_came c = sym (append-nil (things_of c.to_client.arrived))
 
-holds_more : (c : Connection) (e : Up) (o : Option Record) (downs : List Down) (link : Link Kept Token) (us : List links.Up) (asking now : Asking) → Names e asking
+holds_more : (c : Connection) (e : Up) (o : Option Record) (downs : List Down) (link : Link Kept Token) (us : List links.PacketUp) (asking now : Asking) → Names e asking
     → Holds c c.to_server.waiting downs link → us ≡ link.up ++ (record { asking = asking; packet = next_packet c e }) ∷ []
     → Holds (with_sent c e o) (c.to_server.waiting ++ e ∷ []) downs (record { up = us; server = link.server; down = link.down; asking = now })
 holds_more c e o downs link us asking now n h i = record {
-  up = subst (λ (xs : List links.Up). AreUps (place_of c) (c.to_server.waiting ++ e ∷ []) xs) (sym i)
+  up = subst (λ (xs : List links.PacketUp). AreUps (place_of c) (c.to_server.waiting ++ e ∷ []) xs) (sym i)
       (ups_more (place_of c) c.to_server.waiting link.up e (record { asking = asking; packet = next_packet c e }) h.up refl n);
   reset = h.reset;
   transaction = h.transaction;
@@ -69,7 +69,7 @@ leads_sends attention answers log moves c e o last named n l =
     leads_on attention answers log moves c (with_sent c e o) c.to_server.waiting (c.to_server.waiting ++ e ∷ []) c.to_client.waiting c.to_client.waiting l
     (asks_it (out_place c).number named ∷ sends_it last (next_packet c e) ∷ []) (tt, (tt, tt)) (sent_more c e) (none_came c)
     (holds_more c e o c.to_client.waiting link ((link.up ++ []) ++ (record { asking = asking; packet = next_packet c e }) ∷ []) asking asking n l.holds
-    (ap (λ (us : List links.Up). us ++ (record { asking = asking; packet = next_packet c e }) ∷ []) (append-nil link.up)))
+    (ap (λ (us : List links.PacketUp). us ++ (record { asking = asking; packet = next_packet c e }) ∷ []) (append-nil link.up)))
 
 -- ---- It is one that cancels
 

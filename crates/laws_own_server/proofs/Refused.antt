@@ -20,7 +20,7 @@ use Rattle.tds_world.specs.declared.report.Place.TheVariants as place
 use Rattle.tds_world.specs.Connection.{Connection, new_connection}
 use Rattle.tds_world.specs.Entries.{Up, Part, Drop, Down, Step, packet}
 use Rattle.laws_conforming_server.specs.Lawful as lawful
-use Rattle.laws_conforming_server.specs.Lawful.{Engine, IsLawful}
+use Rattle.laws_conforming_server.specs.Lawful.{AnyServer, IsLawful}
 use Rattle.laws_conforming_server.specs.Link as links
 use Rattle.laws_conforming_server.specs.Link.{Asking, Here, HasSome, Link, Move, Runs, Server, Speaks, Takes, done_here, goes, here, link_after, new_link, spoken, taken, takes, ups}
 use Rattle.laws_own_server.specs.Bench.{Kept, Log, bench}
@@ -69,8 +69,8 @@ IsMute line.Attention = ⊥
 abbrev AllMute : List line.Packet → Type 0
 AllMute ps = AllByRecursion IsMute ps
 
-abbrev UpsMute : List links.Up → Type 0
-UpsMute us = AllByRecursion (λ (u : links.Up). IsMute u.packet) us
+abbrev UpsMute : List links.PacketUp → Type 0
+UpsMute us = AllByRecursion (λ (u : links.PacketUp). IsMute u.packet) us
 
 pub record Mute {V T : Type 0} (link : Link V T) : Type 0 where
   pub up : UpsMute link.up
@@ -81,18 +81,18 @@ all_of : (xs ys : List line.Packet) → AllMute (xs ++ ys) → AllMute xs × All
 all_of [] ys a = (tt, a)
 all_of (x ∷ xs) ys a = let b = all_of xs ys a.1 in ((a.0, b.0), b.1)
 
-more_mute : (us : List links.Up) (asking : Asking) (ps : List line.Packet) → UpsMute us → AllMute ps → UpsMute (us ++ ups asking ps)
+more_mute : (us : List links.PacketUp) (asking : Asking) (ps : List line.Packet) → UpsMute us → AllMute ps → UpsMute (us ++ ups asking ps)
 more_mute [] asking [] a b = tt
 more_mute [] asking (p ∷ ps) a b = (b.0, more_mute [] asking ps tt b.1)
 more_mute (u ∷ us) asking ps a b = (a.0, more_mute us asking ps a.1 b)
 
-takes_mute : {V T : Type 0} (engine : Engine V T) (server : Server V T) (asking : Asking) (p : line.Packet) → IsMute p → server.due ≡ [] → (takes engine server asking p).due ≡ []
+takes_mute : {V T : Type 0} (engine : AnyServer V T) (server : Server V T) (asking : Asking) (p : line.Packet) → IsMute p → server.due ≡ [] → (takes engine server asking p).due ≡ []
 takes_mute engine server asking (line.OfRequest n first reset false) m e = e
 takes_mute engine server asking (line.OfRequest n first reset true) m e = absurd m
 takes_mute engine server asking (line.Ignore n) m e = e
 takes_mute engine server asking line.Attention m e = absurd m
 
-taken_mute : {V T : Type 0} (engine : Engine V T) (link : Link V T) (us : List links.Up) → UpsMute us → link.server.due ≡ [] → link.down ≡ [] → Mute link → Mute (taken engine link us)
+taken_mute : {V T : Type 0} (engine : AnyServer V T) (link : Link V T) (us : List links.PacketUp) → UpsMute us → link.server.due ≡ [] → link.down ≡ [] → Mute link → Mute (taken engine link us)
 taken_mute engine link [] a e d m = m
 taken_mute engine link (u ∷ us) a e d m = record { up = a.1; due = takes_mute engine link.server u.asking u.packet a.0 e; down = d }
 
@@ -117,7 +117,7 @@ down_mute line.Cancel down e = e
 down_mute (line.Come part) down e = ap (λ d. links.without part.items part.close d) e ∙ none_left part.items part.close
 down_mute line.Lose down e = e
 
-mute : {V T : Type 0} (engine : Engine V T) (link : Link V T) (moves : List (Move T)) → Mute link → AllMute (packets_in (here moves)) → Runs engine link moves → Mute (link_after engine link moves)
+mute : {V T : Type 0} (engine : AnyServer V T) (link : Link V T) (moves : List (Move T)) → Mute link → AllMute (packets_in (here moves)) → Runs engine link moves → Mute (link_after engine link moves)
 mute engine link [] m a r = m
 mute engine link (Here d ∷ moves) m a r =
     let both = all_of d.sent (packets_in (here moves)) a in
@@ -139,7 +139,7 @@ said_done = Step 1 1 (step_of (token.Done 0 0 0 ∷ []) true new_session)
 abbrev a_part : Up
 a_part = Part 1 (packet kind.Batch 0 1 (1 ∷ []))
 
-new_mute : (engine : Engine Kept Token) → Mute (new_link engine)
+new_mute : (engine : AnyServer Kept Token) → Mute (new_link engine)
 new_mute engine = record { up = tt; due = refl; down = refl }
 
 no_run : (answers : Answers) (arrived : List Up) → AllMute (packets_of first_place arrived) → IsRunOf answers (here_was arrived [] [] (said_done ∷ [])) → ⊥

@@ -2,15 +2,15 @@
 use Rattle.std.proofs.Common.{◌≡◌, ◌∙◌, List, [], ◌∷◌, ◌++◌, refl, sym, ap, subst}
 use Rattle.std.proofs.lemmas.List.{append-nil, append_assoc}
 use Rattle.tds_service.specs.History.{Done}
-use Rattle.laws_conforming_server.specs.Lawful.{Session, ServerStep, Engine}
+use Rattle.laws_conforming_server.specs.Lawful.{Session, ServerStep, AnyServer}
 use Rattle.laws_conforming_server.specs.Link.{HasSome, Link, Move, Here, Takes, Speaks, Runs, goes, here, link_after, session_behind, spoken}
 
-pub runs_both : {V T : Type 0} (engine : Engine V T) (link : Link V T) (moves more : List (Move T))
+pub runs_both : {V T : Type 0} (engine : AnyServer V T) (link : Link V T) (moves more : List (Move T))
     → Runs engine link moves → Runs engine (link_after engine link moves) more → Runs engine link (moves ++ more)
 runs_both engine link [] more a b = b
 runs_both engine link (move ∷ moves) more a b = (a.0, runs_both engine (goes engine link move) moves more a.1 b)
 
-pub after_both : {V T : Type 0} (engine : Engine V T) (link : Link V T) (moves more : List (Move T))
+pub after_both : {V T : Type 0} (engine : AnyServer V T) (link : Link V T) (moves more : List (Move T))
     → link_after engine link (moves ++ more) ≡ link_after engine (link_after engine link moves) more
 after_both engine link [] more = refl
 after_both engine link (move ∷ moves) more = after_both engine (goes engine link move) moves more
@@ -61,7 +61,7 @@ same_link {V} {T} link rest e =
 step_more : {V T : Type 0} (down : List (ServerStep V T)) (step : ServerStep V T) (steps : List (ServerStep V T)) → (down ++ step ∷ []) ++ steps ≡ down ++ step ∷ steps
 step_more down step steps = append_assoc down (step ∷ []) steps
 
-pub says_all : {V T : Type 0} (engine : Engine V T) (link : Link V T) (steps rest : List (ServerStep V T)) → link.server.due ≡ steps ++ rest
+pub says_all : {V T : Type 0} (engine : AnyServer V T) (link : Link V T) (steps rest : List (ServerStep V T)) → link.server.due ≡ steps ++ rest
     → Runs engine link (speaks steps) × (link_after engine link (speaks steps) ≡ all_spoken link steps rest)
 says_all {V} {T} engine link [] rest e = (tt, same_link link rest e)
 says_all {V} {T} engine link (step ∷ steps) rest e =

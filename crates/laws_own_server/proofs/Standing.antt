@@ -14,7 +14,7 @@ use Rattle.tds_world.specs.Arrivals.{is_midway}
 use Rattle.tds_world.specs.Connection.{Connection}
 use Rattle.tds_world.specs.Entries.{Up, Part, End, Drop, Attention, Down, Step, Acknowledgement}
 use Rattle.laws_conforming_server.specs.Lawful as lawful
-use Rattle.laws_conforming_server.specs.Lawful.{Engine}
+use Rattle.laws_conforming_server.specs.Lawful.{AnyServer}
 use Rattle.laws_conforming_server.specs.Link as links
 use Rattle.laws_conforming_server.specs.Link.{Asking, Link, Move, Runs, goes, here, link_after, new_link, taken, takes}
 use Rattle.laws_own_server.specs.Bench.{Kept, Log, bench, said}
@@ -30,20 +30,20 @@ Names (End r a p) asking = asking.named ≡ a.descriptor
 Names (Drop r p) asking = Unit {0}
 Names (Attention r) asking = Unit {0}
 
-abbrev pub AreUps : Place → List Up → List links.Up → Type 0
+abbrev pub AreUps : Place → List Up → List links.PacketUp → Type 0
 AreUps place [] us = us ≡ []
 AreUps place (e ∷ es) [] = ⊥
 AreUps place (e ∷ es) (u ∷ us) = (u.packet ≡ packet_of place e) × Names e u.asking × AreUps (place_behind place e) es us
 
-pub ups_packets : (place : Place) (es : List Up) (us : List links.Up) → AreUps place es us → packets_up us ≡ packets_of place es
+pub ups_packets : (place : Place) (es : List Up) (us : List links.PacketUp) → AreUps place es us → packets_up us ≡ packets_of place es
 ups_packets place [] us a = ap packets_up a
 ups_packets place (e ∷ es) [] a = absurd a
 ups_packets place (e ∷ es) (u ∷ us) a =
     ap (λ (p : line.Packet). p ∷ packets_up us) a.0 ∙ ap (λ (ps : List line.Packet). packet_of place e ∷ ps) (ups_packets (place_behind place e) es us a.2)
 
-pub ups_more : (place : Place) (es : List Up) (us : List links.Up) (e : Up) (u : links.Up) → AreUps place es us → u.packet ≡ packet_of (places place es) e → Names e u.asking
+pub ups_more : (place : Place) (es : List Up) (us : List links.PacketUp) (e : Up) (u : links.PacketUp) → AreUps place es us → u.packet ≡ packet_of (places place es) e → Names e u.asking
     → AreUps place (es ++ e ∷ []) (us ++ u ∷ [])
-ups_more place [] us e u a p n = subst (λ (xs : List links.Up). AreUps place (e ∷ []) (xs ++ u ∷ [])) (sym a) (p, n, refl)
+ups_more place [] us e u a p n = subst (λ (xs : List links.PacketUp). AreUps place (e ∷ []) (xs ++ u ∷ [])) (sym a) (p, n, refl)
 ups_more place (x ∷ es) [] e u a p n = absurd a
 ups_more place (x ∷ es) (y ∷ us) e u a p n = (a.0, a.1, ups_more (place_behind place x) es us e u a.2 p n)
 
@@ -132,7 +132,7 @@ pub leads_on : (attention : OnAttention) (answers : Answers) (log : Log) (moves 
     → Holds d ups_then downs_then (link_after (bench attention answers log) (link_of attention answers log moves) more)
     → Leads attention answers log (moves ++ more) d ups_then downs_then
 leads_on attention answers log moves c d ups ups_then downs downs_then l more r s t h =
-    let engine : Engine Kept Token = bench attention answers log in
+    let engine : AnyServer Kept Token = bench attention answers log in
     record {
       runs = runs_both engine (new_link engine) moves more l.runs r;
       sent = ap packets_in (here_both moves more) ∙ packets_in_both (here moves) (here more) ∙ ap (λ (ps : List line.Packet). ps ++ packets_in (here more)) l.sent ∙ sym s;

@@ -9,7 +9,7 @@ use Rattle.tds_service.specs.Line as line
 use Rattle.tds_world.specs.Arrivals.{acknowledged_at, is_midway, stops}
 use Rattle.tds_world.specs.Connection.{Connection}
 use Rattle.tds_world.specs.Entries.{Up, Attention, Acknowledgement}
-use Rattle.laws_conforming_server.specs.Lawful.{Engine, Session, ServerStep, Ends}
+use Rattle.laws_conforming_server.specs.Lawful.{AnyServer, Session, ServerStep, Ends}
 use Rattle.laws_conforming_server.specs.Link as links
 use Rattle.laws_conforming_server.specs.Link.{Link, Move, Takes, Runs, goes, here, link_after}
 use Rattle.laws_own_server.specs.Bench.{Kept, Log, bench, said_stop}
@@ -35,7 +35,7 @@ stop_down c r down h =
     ∙ sym (things_both c.to_client.waiting (Acknowledgement r (acknowledged_at c.due c.taken) (stops c).changes ∷ []))
 
 -- the link behind it
-abbrev pub stopped_link : Connection → Link Kept Token → List links.Up → Link Kept Token
+abbrev pub stopped_link : Connection → Link Kept Token → List links.PacketUp → Link Kept Token
 stopped_link c link us = record {
   up = us;
   server = record { session = session (stops c).after.descriptor (record { settings = c.session.settings; midway = false }); reset = None; due = [] };
@@ -53,7 +53,7 @@ pub attention_leads : (answers : Answers) (log : Log) (moves : List (Move Token)
     → Leads c.on_attention answers log moves c (Attention r ∷ es) c.to_client.waiting
     → Leads c.on_attention answers log (moves ++ stopping c) (arrived answers c (Attention r)) es (arrived answers c (Attention r)).to_client.waiting
 attention_leads answers log moves c r es l =
-    let engine : Engine Kept Token = bench c.on_attention answers log in
+    let engine : AnyServer Kept Token = bench c.on_attention answers log in
     let link : Link Kept Token = link_of c.on_attention answers log moves in
     let h : Holds c (Attention r ∷ es) c.to_client.waiting link = l.holds in
     let f : First (place_of c) (Attention r) es link.up = first_of (place_of c) (Attention r) es link.up h.up in

@@ -13,7 +13,7 @@ use Rattle.tds_session.specs.Session.{is_in_transaction}
 use Rattle.tds_world.specs.Arrivals.{works_on}
 use Rattle.tds_world.specs.Connection.{Connection}
 use Rattle.tds_world.specs.Entries as entries
-use Rattle.laws_conforming_server.specs.Lawful.{Engine, Session, ServerStep}
+use Rattle.laws_conforming_server.specs.Lawful.{AnyServer, Session, ServerStep}
 use Rattle.laws_conforming_server.specs.Link.{Link, Move, link_after}
 use Rattle.laws_own_server.specs.Bench.{Kept, Log, bench, said, said_step}
 use Rattle.laws_own_server.specs.Runs.{Thing, first_place, packets_in, packets_of, things_in, things_of, things_said}
@@ -40,7 +40,7 @@ pub work_leads : (attention : OnAttention) (answers : Answers) (log : Log) (move
     → Leads attention answers log moves c c.to_server.waiting c.to_client.waiting
     → Leads attention answers log (moves ++ speaks (now_said c s)) (works_on c (s ∷ ss)) c.to_server.waiting (works_on c (s ∷ ss)).to_client.waiting
 work_leads attention answers log moves c s ss e some tells once l =
-    let engine : Engine Kept Token = bench attention answers log in
+    let engine : AnyServer Kept Token = bench attention answers log in
     let link : Link Kept Token = link_of attention answers log moves in
     let h : Holds c c.to_server.waiting c.to_client.waiting link = l.holds in
     let d : Connection = works_on c (s ∷ ss) in

@@ -14,7 +14,7 @@ use Rattle.tds_session.specs.Attention.{Stop, acknowledging, stopped}
 use Rattle.tds_session.specs.Session.{SessionState, no_settings}
 use Rattle.tds_client.specs.Signs.{sign_of}
 use Rattle.tds_service.specs.Parts.{Item}
-use Rattle.laws_conforming_server.specs.Lawful.{Session, ServerStep, Says, Ends, Engine}
+use Rattle.laws_conforming_server.specs.Lawful.{Session, ServerStep, Says, Ends, AnyServer}
 
 -- What a reset sets anew: the settings of the keys. And whether an answer is in its middle: behind its first step, and before its last.
 -- Behind a login and behind a full reset that says nothing, since there is no transaction to be rolled back.
@@ -80,7 +80,7 @@ Log = ℕ → Asked
 abbrev pub state_of : ℕ → Session Kept → SessionState
 state_of begun s = record { settings = s.settings.settings; descriptor = s.transaction; next_descriptor = suc begun }
 
-abbrev pub bench : OnAttention → Answers → Log → Engine Kept Token
+abbrev pub bench : OnAttention → Answers → Log → AnyServer Kept Token
 bench attention answers log = record {
   settings = kept_anew;
   answers = λ request s reset named. said s.transaction (answers (state_of (log request).begun s) named reset (log request).request);

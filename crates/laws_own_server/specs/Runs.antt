@@ -115,7 +115,7 @@ things_in (d ∷ ds) = things_by d.act ++ things_in ds
 
 -- ---- Both at one moment
 
-abbrev pub packets_up : List links.Up → List line.Packet
+abbrev pub packets_up : List links.PacketUp → List line.Packet
 packets_up [] = []
 packets_up (u ∷ us) = u.packet ∷ packets_up us
 
