@@ -6,7 +6,7 @@
  * printed from what came out. So besides what libmouktelf.a trusts (the checker, the kit's backend, the middle of
  * LLVM) it trusts the printer and the layer at its end (scripts/release_parts), and your C compiler. Never edit it.
  *
- * sources 2a255d113d60d2206f990d1b53239bc6695c122cb62e0045a6d92f179fbfaca1 of tds_judge_c
+ * sources fd1c8a662ab0e59bf26f7d1ce0db01effe48c6a7250441976e45066df7c37bcf of tds_judge_c
  * module bce68c6dbb6fd588190c72f7663d7f7fa7b75c33abe587319f01b016873c65f1: logic=proved functions=11 sum=dac8208d650f15bf
  * kit rattle-kit-13f logic dac8208d650f15bf
  *

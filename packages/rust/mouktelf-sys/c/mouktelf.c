@@ -6,7 +6,7 @@
  * printed from what came out. So besides what libmouktelf.a trusts (the checker, the kit's backend, the middle of
  * LLVM) it trusts the printer and the layer at its end (scripts/release_parts), and your C compiler. Never edit it.
  *
- * sources 2a23fe48ed5e9c84df7d4354102d2e9f86fcecb058013f2ce79e7ef9c2545623 of tds_c
+ * sources 886ef116b8abf4c4a9d9100d746709d90f45dbb84a5bc378222a2b499de33308 of tds_c
  * module e7c6cf78bcf6fcc27dbf7e1a6f7bbcab94ae466cf1456551c0fd9310ec52a521: logic=proved functions=324 sum=dac8208d650f15bf
  * kit rattle-kit-13f logic dac8208d650f15bf
  *
