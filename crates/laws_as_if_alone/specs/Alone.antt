@@ -75,8 +75,8 @@ abbrev pub does_by : {V : Type 0} → Pool → Moment V → ℕ → Action → O
 does_by d m count action None = []
 does_by d m count action (Some h) = does_at m count action (line_of d h.number).stage
 
--- A reset that keeps the transaction, where its connection can be kept with that; where memory is refused to it, that is closed, which no
--- visit has (`HasMemory`).
+-- A reset that keeps the transaction, where its connection can be kept with that; where memory is refused to it, that is closed, as in
+-- no visit (`HasMemory`).
 abbrev pub keeping_asks_by : {V : Type 0} → Pool → Bool → Option Hold → List (ServerAsk V)
 keeping_asks_by d resumes None = []
 keeping_asks_by d resumes (Some h) =

@@ -17,7 +17,7 @@ pub record Moments (V : Type 0) {sharing : Sharing} {key : ℕ} (v : Visit shari
   pub before_is : events_in before ≡ done_before v
   pub since_is : events_in since ≡ done_since v
 
--- A reset that is to keep its transaction does so: it isn't a full one for want of memory.
+-- Memory is given to a renewal: so the reset by which an open transaction is kept isn't a full one.
 abbrev pub HasMemory : Event → Type 0
 HasMemory (pool.Renews key resumes) = resumes ≡ true
 HasMemory _ = Unit {0}

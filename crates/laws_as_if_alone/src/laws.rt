@@ -123,8 +123,8 @@ pub fn alone_in_visits<V>()
         → AllSaid turn key server (world_in server ms) ms.since
         → AsIfAlone turn key server (fresh server) (world_in server ms) ms.since
         (world_after turn server (world_in server ms) ms.since) }
-    // A reset that it asks for to keep its transaction is asked of its own server so, never as a full one: no
-    // renewal wants memory.
+    // A renewal, by which an application keeps its open transaction, never wants memory: so its own server is
+    // asked for a full reset in its place by none. Where no transaction is open it is parted, and is asked for one.
     ensures keeps { (sharing : Sharing) (key : ℕ) (v : Visit sharing key)
         → Each HasMemory (done_since v) }
 {
