@@ -11,7 +11,7 @@ mod dialing;
 mod disconnecting;
 mod ending;
 mod event_loop;
-mod limiting;
+mod group_sizes;
 mod logins;
 mod names;
 mod naming;

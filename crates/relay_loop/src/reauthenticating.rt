@@ -9,7 +9,7 @@ use std::net::Net;
 impl EventLoop {
     /// Has those groups authenticated again whose time it is.
     pub fn reauthenticate<R: Net>(&mut self, rt: &R) -> io::Result<()> {
-        let seconds = self.asked.limits.authentication;
+        let seconds = self.asked.limits.judge_again;
         if seconds == 0 {
             return Ok(());
         }

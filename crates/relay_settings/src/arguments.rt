@@ -187,7 +187,7 @@ fn limits_of(alloc: Global, matches: &ArgMatches, config: &Config) -> Result<Lim
         drain: seconds_of(alloc, matches, config, "drain", usual.drain)?,
         check: seconds_of(alloc, matches, config, "check", usual.check)?,
         away: seconds_of(alloc, matches, config, "away", usual.away)?,
-        authentication: seconds_of(alloc, matches, config, "judge-again", usual.authentication)?,
+        judge_again: seconds_of(alloc, matches, config, "judge-again", usual.judge_again)?,
         half: seconds_of(alloc, matches, config, "half-closed", usual.half)?,
     })
 }

@@ -25,8 +25,8 @@ pub struct Limits {
     pub check: u64,
     /// For how long others are preferred to a server that has failed.
     pub away: u64,
-    /// From one authentication of a kind of login to the next.
-    pub authentication: u64,
+    /// From one authentication of a kind of login to the next (`--judge-again`).
+    pub judge_again: u64,
     /// For how long who has shut its sending side may wait for its answer, 0 for not at all.
     pub half: u64,
 }
@@ -44,7 +44,7 @@ pub const USUAL: Limits = Limits {
     drain: 30,
     check: 30,
     away: 10,
-    authentication: 600,
+    judge_again: 600,
     half: 0,
 };
 

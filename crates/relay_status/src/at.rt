@@ -15,14 +15,15 @@ pub enum Role {
 /// What a socket is at.
 #[derive(Clone, Copy, PartialEq, Eq)]
 pub enum At {
-    /// A login, of an application or a connection.
+    /// An application or a connection that logs in, or an application that waits for another's login.
     Login,
-    /// An application with nothing underway, which holds a connection or not.
+    /// An application with nothing underway, which holds no connection.
     Quiet,
     /// It holds none, and something of it has come that isn't read, since its group is paused.
     Kept,
     /// It is none of its group's any more, and is told why at its next request.
     Owed,
+    /// An application with nothing underway, which holds a connection.
     Holding,
     /// It holds one on which a transaction is open.
     InTransaction,

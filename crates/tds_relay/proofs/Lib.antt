@@ -2,6 +2,7 @@ pub mod bytes
 pub mod ends
 pub mod held
 pub mod indexed
+pub mod lending
 pub mod promises
 pub mod seats
 pub mod spared

@@ -7,7 +7,6 @@ pub mod Cleaned
 pub mod Closings
 pub mod Coming
 pub mod Counted
-pub mod Drained
 pub mod Elsewhere
 pub mod Ended
 pub mod Few
@@ -15,6 +14,7 @@ pub mod Filling
 pub mod Freeing
 pub mod Growing
 pub mod Held
+pub mod Kepts
 pub mod Lasting
 pub mod Letting
 pub mod Lines
@@ -27,7 +27,6 @@ pub mod Only
 pub mod Opening
 pub mod Ordered
 pub mod Parks
-pub mod Resting
 pub mod Sending
 pub mod Reasons
 pub mod Rightly

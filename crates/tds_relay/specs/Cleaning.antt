@@ -1,5 +1,5 @@
 -- What the relay puts on a connection itself, where an application lets that go: what cancels its request, and a cleaning.
-use Rattle.std.specs.Prelude.{◌≡◌, ◌⊎◌, ◌==◌, ℕ, codes, Bool, true, false, List, [], ◌∷◌, ◌++◌, Option, Some, None, IsSome, length, option_map}
+use Rattle.std.specs.Prelude.{◌≡◌, ◌≤◌, ◌⊎◌, ◌==◌, ◌+◌, ℕ, suc, codes, Bool, true, false, List, [], ◌∷◌, ◌++◌, Option, Some, None, IsSome, length, option_map}
 use Rattle.tds_client.specs.declared.message.MessageKind.TheVariants.{Batch}
 use Rattle.tds_client.specs.Session as session
 use Rattle.tds_client.specs.Session.{ClientSession, Stage}
@@ -24,7 +24,7 @@ use Rattle.tds_relay.specs.Few.{has_seat}
 use Rattle.tds_relay.specs.Pool.{Brings, Leaves, Pool, Way, find_key, next, turn}
 use Rattle.tds_relay.specs.Queues.{Queue, fits, empty_queue}
 use Rattle.tds_relay.specs.Lent.{HasClosed, IsMade}
-use Rattle.tds_relay.specs.Reads.{CalledAt, bytes_on, open_at, open_waits, queue_on, reader_at, seen_at, waits_on}
+use Rattle.tds_relay.specs.Reads.{open_at, queue_on, reader_at, waits_on}
 use Rattle.tds_relay.specs.Core.{holder}
 use Rattle.tds_relay.specs.Ties.{LedOn, pool_in}
 
@@ -62,22 +62,36 @@ pub record IsPutBehind (Is : List ℕ → Type 0) (before after : List ℕ) : Ty
 abbrev pub MayClean : Option ℕ → List ℕ → List ℕ → Type 0
 MayClean who before after = (after ≡ before) ⊎ ((who ≡ None) × IsPutBehind (IsCleaning text_of_cleaning) before after)
 
--- These are cleanings, one behind the other.
-pub data AreCleanings : List ℕ → Type 0 where
-  NoCleaning : AreCleanings []
-  AndACleaning : (out more : List ℕ) → AreCleanings out → IsCleaning text_of_cleaning more → AreCleanings (out ++ more)
+-- Nothing more goes out; or a lease was given, from so many to so many.
+abbrev pub PutsByLease : List ℕ → List ℕ → ℕ → ℕ → Type 0
+PutsByLease before after from to = (after ≡ before) ⊎ (suc from ≤ to)
 
--- Cleanings alone were put there, behind what waited; or the connection is there no more.
-abbrev pub CleansAlone : Option (List ℕ) → Option (List ℕ) → Type 0
-CleansAlone old None = Unit {0}
-CleansAlone None (Some new) = ⊥
-CleansAlone (Some waits) (Some new) = (out : List ℕ) × AreCleanings out × (new ≡ waits ++ out)
+-- These are so many cleanings, one behind the other.
+pub data AreCleanings : ℕ → List ℕ → Type 0 where
+  NoCleaning : AreCleanings 0 []
+  AndACleaning : (count : ℕ) (out more : List ℕ) → AreCleanings count out
+      → IsCleaning text_of_cleaning more → AreCleanings (suc count) (out ++ more)
+
+-- They are, and no more than leases were given, from so many to so many: each is put by one.
+pub record AreByLeases (from to : ℕ) (out : List ℕ) : Type 0 where
+  pub count : ℕ
+  pub are : AreCleanings count out
+  pub by_leases : from + count ≤ to
+
+-- Cleanings alone were put there so, behind what waited; or the connection is there no more.
+abbrev pub CleansAlone : ℕ → ℕ → Option (List ℕ) → Option (List ℕ) → Type 0
+CleansAlone from to old None = Unit {0}
+CleansAlone from to None (Some new) = ⊥
+CleansAlone from to (Some waits) (Some new) =
+    (out : List ℕ) × AreByLeases from to out × (new ≡ waits ++ out)
 
 -- And more may wait behind them, where it is lent to somebody since.
-abbrev pub CleansOn : Type 0 → Option (List ℕ) → Option (List ℕ) → Type 0
-CleansOn lent old None = Unit {0}
-CleansOn lent None (Some new) = ⊥
-CleansOn lent (Some waits) (Some new) = (out : List ℕ) × (more : List ℕ) × AreCleanings out × (new ≡ (waits ++ out) ++ more) × ((more ≡ []) ⊎ lent)
+abbrev pub CleansOn : ℕ → ℕ → Type 0 → Option (List ℕ) → Option (List ℕ) → Type 0
+CleansOn from to lent old None = Unit {0}
+CleansOn from to lent None (Some new) = ⊥
+CleansOn from to lent (Some waits) (Some new) =
+    (out : List ℕ) × (more : List ℕ) × AreByLeases from to out
+    × (new ≡ (waits ++ out) ++ more) × ((more ≡ []) ⊎ lent)
 
 -- Whether nothing is to come any more once what is underway is cancelled.
 abbrev pub rests_once : Stage → Bool
@@ -126,7 +140,9 @@ OfItsHold Left key old now = (hold : Hold) → find_key key old.pool.holds.items
 
 abbrev pub WaitsSinceEnd : ℕ → code.Relay → code.Relay → Type 0
 WaitsSinceEnd key old new = (hold : Hold) → find_key key old.pool.holds.items ≡ Some hold
-    → WaitsBehindEnd (IsSome (holder (pool_in new.pool) hold.number)) (client_of hold.lease old.pool.service) (waits_on hold.number old.links.items) (open_waits hold.number new.links.items)
+    → WaitsBehindEnd (IsSome (holder (pool_in new.pool) hold.number))
+    (client_of hold.lease old.pool.service) (waits_on hold.number old.links.items)
+    (waits_on hold.number new.links.items)
 
 -- ---- How often
 
@@ -176,10 +192,11 @@ CountsAtEnd key old new = (hold : Hold) → find_key key old.pool.holds.items �
     → CountsSent (CannotClean key hold old new) (waits_on hold.number new.links.items) (cleaned_in old) (cleaned_in new)
 
 -- Then those who wait are served: what is counted as cleaned is there, or was lost with one of them; what is counted as closed is so for this
--- reason, and isn't there, but for another by its number that is yet to be opened.
+-- reason, and isn't there.
 pub data CountsSince (Fails Lost : Type 0) (number : ℕ) (old new : ℕ × ℕ) (ls : List Link) : Type 0 where
   IsCleaned : new ≡ (next old.0, old.1) → IsSome (waits_on number ls) ⊎ Lost → CountsSince Fails Lost number old new ls
-  IsFailed : new ≡ (old.0, next old.1) → CalledAt None (seen_at number ls) → Fails → CountsSince Fails Lost number old new ls
+  IsFailed : new ≡ (old.0, next old.1) → waits_on number ls ≡ None → Fails
+      → CountsSince Fails Lost number old new ls
 
 -- one of them is closed since
 abbrev pub LosesWaiting : Register → code.Relay → code.Relay → Type 0
@@ -224,10 +241,11 @@ IsLentBy number s = (lease : ℕ) × (had : Bool) × ((step {T = Token} s calls.
 abbrev pub IsNotBrought : List Link → Pool → Pool → Type 0
 IsNotBrought links old new = ((length links == 0) ≡ false) ⊎ ((gives : Bool) × (way : Way) × (new ≡ (turn old (Brings gives way)).pool))
 
--- One is behind them that is open and called so, on which nothing waits, and made as the relay was told; or none is.
+-- One is behind them that is open and called so, made as the relay was told; or none is.
 abbrev pub IsFirst : ℕ → Settings → List Link → List Link → Type 0
 IsFirst tag s old new =
-    (new ≡ old) ⊎ ((l : Link) × (new ≡ old ++ l ∷ []) × (l.tag ≡ Some tag) × (l.is_open ≡ true) × (bytes_on l ≡ []) × IsMade s.size s.features l)
+    (new ≡ old) ⊎ ((l : Link) × (new ≡ old ++ l ∷ []) × (l.tag ≡ Some tag)
+    × (l.is_open ≡ true) × IsMade s.size s.features l)
 
 -- A cleaning waits there, and nothing else but where it is lent to somebody since; or it is there no more.
 pub data CleaningWaits (lent : Type 0) : Option (List ℕ) → Type 0 where

@@ -12,7 +12,7 @@ use Rattle.tds_relay.specs.Pool.{Event, Sharing, whose}
 use Rattle.tds_relay.specs.Fronting.{AnswersOnce, done_on}
 use Rattle.tds_relay.specs.Core as core
 use Rattle.tds_relay.specs.Core.{Move, end_at, new_core}
-use Rattle.tds_relay.specs.Machine.{Machine, Step, Makes, Hands, Takes, Writes, Admits, Removes, Manner, CausesStep, IsRight, MayAll, after, after_all, handed, moves_of, new_machine, owed}
+use Rattle.tds_relay.specs.Machine.{Machine, Step, Hands, Takes, Writes, Admits, Removes, Manner, CausesStep, IsRight, MayAll, after, after_all, handed, moves_of, new_machine, owed}
 use Rattle.tds_relay.specs.Promises.{Each}
 use Rattle.tds_relay.specs.Ties.{Cause}
 use Rattle.tds_relay.specs.Queues.{Queue, Queues, acknowledgement, queue_at}

@@ -1,5 +1,5 @@
 -- Connections where one is lent: what is known of the message that comes there, which are there still, and on which something is put.
-use Rattle.std.specs.Prelude.{◌≡◌, ◌≢◌, ◌⊎◌, ℕ, true, false, IfSome, IsSome, List, Some, None, option_map}
+use Rattle.std.specs.Prelude.{◌≡◌, ◌≢◌, ◌≤◌, ◌⊎◌, ℕ, true, false, IfSome, IsSome, List, [], ◌∷◌, Option, Some, None, option_map}
 use Rattle.tds_wire.specs.declared.features.Features.{Features}
 use Rattle.tds_service.specs.Beginning.{Begins}
 use Rattle.tds_relay.specs.Cutting.{at_its_beginning}
@@ -12,7 +12,7 @@ use Rattle.tds_relay.specs.Closings.{Register, open_name}
 use Rattle.tds_relay.specs.Fronts.{ends_in}
 use Rattle.tds_relay.specs.Pool.{find_key, find_number, key_of, without_number}
 use Rattle.tds_relay.specs.Core.{end_at, holder, is_in}
-use Rattle.tds_relay.specs.Reads.{StaysAt, answer_at, carried_there, link_at, waits_on}
+use Rattle.tds_relay.specs.Reads.{FillsAt, MayBegin, Seen, StaysAt, answer_at, bytes_on, carried_there, fullness_at, link_at, open_at, opened_seen, seen_at, waits_on}
 use Rattle.tds_relay.specs.Sparing.{HeldConnection, held_at}
 use Rattle.tds_relay.specs.Taking.{IsDeaf}
 use Rattle.tds_relay.specs.Ties.{pool_in}
@@ -25,10 +25,13 @@ pub record KeepsAnswers (old new : List Link) : Type 0 where
 abbrev pub BeginsOn : ℕ → List Link → List Link → Type 0
 BeginsOn number old new = StaysAt (option_map at_its_beginning (answer_at number old)) (answer_at number new)
 
--- Packets of this size are read there, set anew, and sent. Its login acknowledged these features, no message has begun, and what is put there fits.
+-- Packets of this size are read there, set anew, and sent. Its login acknowledged these features,
+-- no message has begun, and nothing waits there, nor was there anything that didn't fit.
 abbrev pub IsMade : ℕ → Features → Link → Type 0
 IsMade size features l =
-    (l.reader.size ≡ size) × (l.answer.size ≡ size) × (l.out.size ≡ size) × Begins COLUMNS features l.answer.parser × (l.answer.known ≡ knowns.None) × (l.out.is_full ≡ false)
+    (l.reader.size ≡ size) × (l.answer.size ≡ size) × (l.out.size ≡ size)
+    × Begins COLUMNS features l.answer.parser × (l.answer.known ≡ knowns.None)
+    × (l.out.is_full ≡ false) × (bytes_on l ≡ [])
 
 abbrev pub IsMadeOn : ℕ → Features → ℕ → List Link → Type 0
 IsMadeOn size features number ls = IfSome (link_at number ls) (IsMade size features)
@@ -58,7 +61,132 @@ AllLastBut But old new = (number : ℕ) → waits_on number new ≡ None → (wa
 abbrev pub LastBesides : (ℕ → Type 0) → (ℕ → Type 0) → Register → Register → Type 0
 LastBesides But May old new = AllLastBut But old.links new.links ⊎ HasClosed May old new
 
+-- ---- Those that were there before a call, open or yet to be opened
+
+-- It is called so still, and is open or not as it was; or it is there no more.
+abbrev pub StaysCalled : Option Seen → Option Seen → Type 0
+StaysCalled old None = Unit {0}
+StaysCalled None (Some new) = ⊥
+StaysCalled (Some old) (Some new) = (new.1 ≡ old.1) × (new.2 ≡ old.2)
+
+-- Each whose number is one of those up to this one is called as it was, and open or not; what
+-- waited there waits still, with more behind it or not; and it is as full. Or it is there no more,
+-- and no other is by its number. Of these ones its reader has what it had, and what is known of a
+-- message stays, or the next one begins.
+pub record GivenStay (last : ℕ) (These : ℕ → Type 0) (was : ℕ → Option Seen) (old new : List Link)
+    : Type 0 where
+  pub called : (number : ℕ) → number ≤ last → StaysCalled (was number) (seen_at number new)
+  pub seen : (number : ℕ) → number ≤ last → These number
+      → StaysAt (was number) (seen_at number new)
+  pub begins : (number : ℕ) → number ≤ last → These number
+      → MayBegin (answer_at number old) (answer_at number new)
+  pub fills : (number : ℕ) → number ≤ last
+      → FillsAt (waits_on number old) (waits_on number new)
+  pub fullness : (number : ℕ) → number ≤ last
+      → StaysAt (fullness_at number old) (fullness_at number new)
+
+-- what is seen on each
+abbrev pub seen_in : List Link → ℕ → Option Seen
+seen_in ls number = seen_at number ls
+
+abbrev pub Any : ℕ → Type 0
+Any number = Unit {0}
+
+-- It is another one, or not open, so that nothing comes there.
+abbrev pub ElseThanHeard : ℕ → List Link → ℕ → Type 0
+ElseThanHeard number ls other = (other ≢ number) ⊎ (open_at number ls ≡ None)
+
+-- The service gives no number twice. So it is with each one that the service had given;
+abbrev pub KeepsGiven : code.Relay → code.Relay → Type 0
+KeepsGiven old new =
+    GivenStay old.pool.service.last Any (seen_in old.links.items) old.links.items new.links.items
+
+-- where bytes come on this one;
+abbrev pub HearsGiven : ℕ → code.Relay → code.Relay → Type 0
+HearsGiven number old new =
+    GivenStay old.pool.service.last (ElseThanHeard number old.links.items) (seen_in old.links.items)
+    old.links.items new.links.items
+
+-- and where this one is opened.
+abbrev pub OpensGiven : ℕ → code.Relay → code.Relay → Type 0
+OpensGiven number old new =
+    GivenStay old.pool.service.last Any (λ other. opened_seen number other old.links.items)
+    old.links.items new.links.items
+
+-- Where one of these isn't open, nothing is put; or it is there no more.
+pub record ShutStay (These : ℕ → Type 0) (old new : List Link) : Type 0 where
+  pub stays : (number : ℕ) → These number → open_at number old ≡ None
+      → (waits_on number new ≡ None) ⊎ (waits_on number new ≡ waits_on number old)
+
+-- So it is with those that the service had given,
+abbrev pub ShutGiven : code.Relay → code.Relay → Type 0
+ShutGiven old new =
+    ShutStay (λ number. number ≤ old.pool.service.last) old.links.items new.links.items
+
+-- and with others than this one.
+abbrev pub ShutElse : ℕ → List Link → List Link → Type 0
+ShutElse number old new = ShutStay (λ other. other ≢ number) old new
+
+abbrev pub ShutGivenElse : ℕ → code.Relay → code.Relay → Type 0
+ShutGivenElse number old new =
+    ShutStay (λ other. (other ≢ number) × (other ≤ old.pool.service.last)) old.links.items
+    new.links.items
+
+-- ---- Those that are new behind it
+
+-- It is as it was made, yet to be opened, and has no name; or none is there.
+abbrev pub IsDialled : ℕ → Features → Option Link → Type 0
+IsDialled size features None = Unit {0}
+IsDialled size features (Some l) =
+    IsMade size features l × (l.is_open ≡ false) × (l.tag ≡ None) × (l.reader.taken ≡ [])
+
+-- Where none was, none is or such a one.
+abbrev pub DialsNew : ℕ → Features → List Link → List Link → Type 0
+DialsNew size features old new = (number : ℕ) → link_at number old ≡ None
+    → IsDialled size features (link_at number new)
+
+abbrev pub DialsNewAt : code.Relay → code.Relay → Type 0
+DialsNewAt old new = DialsNew old.size old.features old.links.items new.links.items
+
+-- The first one of all has come: it is called so, open, and as it was made. It stays as one does
+-- that was there, and each other is new.
+pub record FirstStays (tag number : ℕ) (old new : code.Relay) : Type 0 where
+  pub first : Link
+  pub numbered : first.number ≡ number
+  pub named : first.tag ≡ Some tag
+  pub is_open : first.is_open ≡ true
+  pub made : IsMade old.size old.features first
+  pub stays : GivenStay number Any (seen_in (first ∷ [])) (first ∷ []) new.links.items
+  pub others : DialsNew old.size old.features (first ∷ []) new.links.items
+
 -- ---- As the code has it
+
+-- Of any numbers.
+abbrev pub HearsAny : ℕ → List Link → List Link → Type 0
+HearsAny number old new = (last : ℕ) → GivenStay last (ElseThanHeard number old) (seen_in old) old new
+
+-- Such a one is there still, or none, where such a one was.
+abbrev pub StaysDialled : ℕ → Features → List Link → List Link → Type 0
+StaysDialled size features old new = (number : ℕ)
+    → IsDialled size features (link_at number old) → IsDialled size features (link_at number new)
+
+abbrev pub StaysDialledAt : code.Relay → code.Relay → Type 0
+StaysDialledAt old new = StaysDialled old.size old.features old.links.items new.links.items
+
+-- But on this one the same waits, and the same is known of the message that comes there;
+pub record OffRest (number : ℕ) (old new : List Link) : Type 0 where
+  pub rest : (other : ℕ) → other ≢ number
+      → carried_there other new ≡ carried_there other old
+
+-- but on what this application holds;
+abbrev pub OffHoldRests : ℕ → code.Relay → code.Relay → Type 0
+OffHoldRests key old new = (hold : Hold) → find_key key old.pool.holds.items ≡ Some hold
+    → OffRest hold.number old.links.items new.links.items
+
+-- and on each that isn't open.
+pub record ShutRest (old new : List Link) : Type 0 where
+  pub rest : (number : ℕ) → open_at number old ≡ None
+      → carried_there number new ≡ carried_there number old
 
 -- Or this application is to be closed.
 abbrev pub LastOrDeaf : ℕ → List Link → code.Relay → Type 0

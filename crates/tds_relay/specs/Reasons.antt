@@ -33,18 +33,18 @@ use Rattle.tds_relay.specs.declared.link.Link.{Link}
 use Rattle.tds_relay.specs.declared.relay.Relay as code
 use Rattle.tds_relay.specs.Anew.{ResetsFor}
 use Rattle.tds_relay.specs.Asking.{IsTakenBack}
-use Rattle.tds_relay.specs.Bodies.{Astray, Body, ClientPuts, ClientStops, Closed, Going, Kept, Nowhere, body_of, last_of}
+use Rattle.tds_relay.specs.Bodies.{Astray, Body, ClientPuts, ClientStops, Closed, Kept, Nowhere, body_of, last_of}
 use Rattle.tds_relay.specs.Cleaning.{MayClean}
 use Rattle.tds_relay.specs.Closings.{IsNoRequest, IsWho}
 use Rattle.tds_relay.specs.Pool as pool
 use Rattle.tds_relay.specs.Pool.{Pool, find_key, turn}
 use Rattle.tds_relay.specs.Fronts.{ends_in, machine_in}
-use Rattle.tds_relay.specs.Core.{AsksFor, End, EndList, IfOpen, IfOpenAsks, Open, Over, asks_by, end_at, holder}
+use Rattle.tds_relay.specs.Core.{AsksFor, End, EndList, IfOpen, IfOpenAsks, Open, asks_by, end_at, holder}
 use Rattle.tds_relay.specs.Handing.{HearsBy, IsNothing}
 use Rattle.tds_relay.specs.Machine.{Machine}
 use Rattle.tds_relay.specs.Places.{HasNoTransaction, open_on}
 use Rattle.tds_relay.specs.Queues.{Queue, Queues, acknowledgement, fits, give, queue_at, queue_in, queues_in}
-use Rattle.tds_relay.specs.Reads.{LinksStay, link_at, open_at}
+use Rattle.tds_relay.specs.Reads.{link_at, open_at}
 use Rattle.tds_relay.specs.Sparing.{IsKept, MayKeep}
 use Rattle.tds_relay.specs.Taking.{IsDeaf}
 use Rattle.tds_relay.specs.Ties.{Leaving, Turns, pool_in}

@@ -7,7 +7,7 @@ use Rattle.tds_service.specs.declared.service.Service as services
 use Rattle.tds_wire.specs.declared.told.Token.{Token}
 use Rattle.tds_service.specs.Service as calls
 use Rattle.tds_service.specs.Service.{Seat, Service, has_lease, step}
-use Rattle.tds_service.specs.Table.{client_of, reading_on, service_in}
+use Rattle.tds_service.specs.Table.{client_of, service_in}
 use Rattle.tds_relay.specs.declared.pool.Pool as pools
 use Rattle.tds_relay.specs.declared.pool.Hold.{Hold}
 use Rattle.tds_relay.specs.declared.pool.leaving.Renewed.{Renewed}

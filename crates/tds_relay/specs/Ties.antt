@@ -14,7 +14,7 @@ use Rattle.tds_relay.specs.declared.pool.Pool as code
 use Rattle.tds_relay.specs.declared.pool.Hold.{Hold}
 use Rattle.tds_relay.specs.declared.pool.Served.{Served}
 use Rattle.tds_relay.specs.declared.pool.leaving.Left.{Left}
-use Rattle.tds_relay.specs.Pool.{Pool, Event, Action, Sharing, Waits, Unwaits, Serves, Brings, Does, Leaves, Renews, Comes, Loses, Asks, Puts, Ends, Stops, Way, Sent, NotLent, NotAsked, NotPut, NotEnded, pool_after, new_pool, turn}
+use Rattle.tds_relay.specs.Pool.{Pool, Event, Action, Sharing, Waits, Unwaits, Serves, Brings, Does, Leaves, Renews, Comes, Loses, Asks, Puts, Ends, Stops, Way, Sent, pool_after, new_pool, turn}
 use Rattle.tds_relay.specs.Promises.{Cancels, Each, attentions_on}
 
 abbrev pub pool_in : code.Pool → Pool

@@ -18,16 +18,18 @@ use Rattle.tds_relay.specs.Closings.{IsWho, IsWaiting}
 use Rattle.tds_relay.specs.Pool.{find_key, Sharing, without}
 use Rattle.tds_relay.specs.Fronts.{own_end, ends_in, told_by, MovedOn, core_in, machine_in}
 use Rattle.tds_relay.specs.Queues.{queues_in}
+use Rattle.tds_relay.specs.Cleaning.{CleansAlone}
+use Rattle.tds_relay.specs.Handing.{heard_key}
 use Rattle.tds_relay.specs.Core.{AsksFor, IfOpen, IsBegun, end_at, holder, is_in}
-use Rattle.tds_relay.specs.Reads.{open_at, opened_at, queue_on, Opens, OpensOne, OpensOthers, LinksStay, StreamsAll, answer_at}
+use Rattle.tds_relay.specs.Reads.{open_at, opened_at, queue_on, Opens, OpensOne, OpensOthers, LinksStay, StreamsAll, StaysAt, answer_at, waits_on}
 use Rattle.tds_relay.specs.Reasons.{HasNoRoom, HasTakenBack, IsLeftOpen, IsTurnedAway, IsTurnedAwayAt, IsUnheld, LosesFor, ResumesNot, GivesReason, IsReadyThere, ItselfFor, LosesOn}
-use Rattle.tds_relay.specs.Sparing.{IsHeldBack, IsUnkept, AllGo, IsKept}
+use Rattle.tds_relay.specs.Sparing.{IsHeldBack, IsUnkept, AllGo, IsKept, OffGo}
 use Rattle.tds_relay.specs.Taking.{IsDeaf}
 use Rattle.tds_relay.specs.Ties.{pool_in, Cause, IsReached, Neither, Turns}
 use Rattle.tds_relay.specs.Told.{room_to_keep}
 use Rattle.tds_relay.specs.Coming.{StreamsAnew}
 use Rattle.tds_relay.specs.Few.{IsSeated}
-use Rattle.tds_relay.specs.Lent.{FirstKeeps, IsWithHolder, MayBeLent, OthersKeepAt}
+use Rattle.tds_relay.specs.Lent.{FirstKeeps, IsWithHolder, MayBeLent, OthersKeepAt, ShutElse}
 use Rattle.tds_relay.specs.Machine.{IsLedTo, Steps}
 
 -- It goes on, or waits for its connection to open, or for the acknowledgement of what its application took back.
@@ -48,6 +50,13 @@ pub data StandsInLine (key : ℕ) (r : code.Relay) : Type 0 where
 abbrev pub IsNotAcknowledged : Option Heard → Type 0
 IsNotAcknowledged None = Unit {0}
 IsNotAcknowledged (Some heard) = heard.what ≢ whats.Acknowledged
+
+-- By what is heard of a packet nothing is put on others than this one, but where what somebody took
+-- back is acknowledged: then on none that isn't open.
+pub record RestsElse (heard : Option Heard) (number : ℕ) (old new : List Link) : Type 0 where
+  pub same : IsNotAcknowledged heard → (other : ℕ) → other ≢ number
+      → waits_on other new ≡ waits_on other old
+  pub still : ShutElse number old new
 
 -- These bytes of a request that has begun and stands in the line are kept behind the others, where they are no more than may be kept.
 abbrev pub KeepsInLine : Bool → List ℕ → Option Application → Body → Type 0
@@ -173,15 +182,55 @@ ForReasonOrWaiting key bytes r other = ItselfFor key (HasReason key bytes r) oth
 
 -- ---- By bytes that come
 
--- They come behind others, by which none was opened or filled; what waited on one waits still, and more may. Or all have come, and one that waits
--- is lent a connection in vain.
+-- The connection of this number, or one that this application holds, if there is one.
+abbrev pub IsOnOrHeld : ℕ → Option ℕ → code.Relay → ℕ → Type 0
+IsOnOrHeld number who r other =
+    (other ≡ number) ⊎ (IsSome who × (holder (pool_in r.pool) other ≡ who))
+
+-- or one of who holds it
+abbrev pub IsItsHolders : ℕ → code.Relay → ℕ → Type 0
+IsItsHolders number r other = IsOnOrHeld number (holder (pool_in r.pool) number) r other
+
+-- Where this application holds it, and its request is kept, it held it before, and that was kept
+-- so; and the same waits there.
+abbrev pub KeepsWaiting : ℕ → code.Relay → code.Relay → ℕ → Type 0
+KeepsWaiting number old new key =
+    holder (pool_in new.pool) number ≡ Some key → IsKept (body_of key new)
+    → (holder (pool_in old.pool) number ≡ Some key) × ((body_of key new ≡ body_of key old)
+    × StaysAt (waits_on number old.links.items) (waits_on number new.links.items))
+
+-- What is done behind a packet of which this was heard. So it is for whom that tells, or anybody
+-- where it tells nobody; where the connection stays, nothing may go out by it.
+pub record KeepsHeard (number : ℕ) (heard : Option Heard) (old new : code.Relay) : Type 0 where
+  pub others : FirstKeeps (IsOnOrHeld number (heard_key heard) old) old new
+  pub rests : (IsLeftOpen heard → old.outbox.items ≡ []) → (key : ℕ)
+      → ((whose : ℕ) → heard_key heard ≡ Some whose → whose ≡ key) → KeepsWaiting number old new key
+
+-- Packets were heard on it, by which none was opened or filled. What others than its holder ask
+-- stays, or starts. On each that isn't its holder's the same waits, and who holds it does so still.
+-- On this one, where nobody held it, cleanings alone were put, no more than leases were given; and
+-- while the request of who holds it is kept, that stays, and the same waits.
+pub record IsHeardTo (number : ℕ) (r mid : code.Relay) : Type 0 where
+  pub opens : OpensOthers number r.links.items mid.links.items
+  pub goes : OffGo number None r mid
+  pub keeps : FirstKeeps (IsItsHolders number r) r mid
+  pub cleans : holder (pool_in r.pool) number ≡ None
+      → CleansAlone r.pool.service.given mid.pool.service.given
+      (waits_on number r.links.items) (waits_on number mid.links.items)
+  pub rests : (key : ℕ) → KeepsWaiting number r mid key
+
+-- They come behind others. Or all have come, and one that waits is lent a connection in vain.
 pub data IsClosedByHearing (number : ℕ) (bytes : List ℕ) (r : code.Relay) (other : ℕ) : Type 0 where
   ByPacket : (mid : code.Relay) (left : List ℕ)
-      → StreamsAnew number (answer_at number r.links.items) (open_at number r.links.items) (machine_in r) r.pool.service bytes left (answer_at number mid.links.items) (open_at number mid.links.items) (machine_in mid) mid.pool.service
-      → OpensOthers number r.links.items mid.links.items → LosesOn number left mid other → IsClosedByHearing number bytes r other
+      → StreamsAnew number (answer_at number r.links.items) (open_at number r.links.items)
+      (machine_in r) r.pool.service bytes left (answer_at number mid.links.items)
+      (open_at number mid.links.items) (machine_in mid) mid.pool.service
+      → IsHeardTo number r mid → LosesOn number left mid other
+      → IsClosedByHearing number bytes r other
   InLine : (mid : code.Relay)
-      → StreamsAll number (open_at number r.links.items) (machine_in r) r.pool.service bytes (open_at number mid.links.items) (machine_in mid) mid.pool.service
-      → OpensOthers number r.links.items mid.links.items → IsLentInVain mid other → IsClosedByHearing number bytes r other
+      → StreamsAll number (open_at number r.links.items) (machine_in r) r.pool.service bytes
+      (open_at number mid.links.items) (machine_in mid) mid.pool.service
+      → IsHeardTo number r mid → IsLentInVain mid other → IsClosedByHearing number bytes r other
 
 -- where the service has the connections that the relay has, as it has behind each call
 abbrev pub HeardFor : ℕ → List ℕ → code.Relay → ℕ → Type 0

@@ -10,8 +10,8 @@ mod polling;
 mod program;
 mod sweeping;
 mod telling;
+mod time_limits;
 mod turns;
-mod watching;
 mod why;
 mod writing;
 

@@ -8,7 +8,7 @@ use Rattle.tds_relay.specs.Core.{is_in}
 use Rattle.tds_relay.specs.Reads.{waits_on}
 use Rattle.tds_relay.specs.Sparing.{AllHold, AwayRest, OthersRest}
 use Rattle.tds_relay.specs.Ties.{IsReached, pool_in}
-use Rattle.tds_relay.proofs.spared.Resting.{held_rest, rests_both}
+use Rattle.tds_relay.proofs.lending.Resting.{held_rest, rests_both}
 
 pub away_refl : (r : code.Relay) → AwayRest r r
 away_refl r = record { rest = λ key away. inl (inl refl) }

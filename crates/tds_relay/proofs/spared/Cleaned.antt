@@ -1,5 +1,5 @@
 -- What a cleaning puts, and what goes out where a connection is let go.
-use Rattle.std.proofs.Common.{◌≡◌, ◌∙◌, ◌==◌, ◌&&◌, ◌++◌, ℕ, Bool, true, false, not, List, [], ◌∷◌, Option, Some, None, inl, inr, refl, sym, ap, subst, append_assoc, option_map, if◌then◌else◌}
+use Rattle.std.proofs.Common.{◌≡◌, ◌∙◌, ◌==◌, ◌&&◌, ◌++◌, ◌≤◌, ℕ, Bool, true, false, not, List, [], ◌∷◌, Option, Some, None, inl, inr, refl, sym, ap, subst, append_assoc, arith, option_map, if◌then◌else◌}
 use Rattle.std.specs.Prelude.{IsSome, OnOk, Result, Ok, Err, ◌⊎◌}
 use Rattle.std.proofs.lemmas.Bool.{eqb-true, eq-eqb}
 use Rattle.tds_client.specs.declared.message.MessageKind.TheVariants.{Batch}
@@ -20,13 +20,14 @@ use Rattle.tds_relay.specs.Pool as pool
 use Rattle.tds_relay.specs.Pool.{Pool, find_key, find_lease, find_number, whose_by, without_lease, next}
 use Rattle.tds_relay.specs.Promises.{Each}
 use Rattle.tds_relay.specs.Closings.{ClosesOnly, IsWaiting, NoKey, Register, open_name, register_in}
-use Rattle.tds_relay.specs.Lent.{HasClosed, IsMade, LastBut}
-use Rattle.tds_relay.specs.Reads.{CalledAt, FillsBy, Opens as OpensLinks, Seen, bytes_on, link_at, queue_on, reader_at, reader_of, seen_at, seen_of, waits_on}
+use Rattle.tds_relay.specs.Lent.{HasClosed, IsMade, LastBut, KeepsGiven}
+use Rattle.tds_relay.specs.Reads.{FillsAt, FillsBy, bytes_on, link_at, queue_on, reader_at, reader_of, waits_on}
 use Rattle.tds_relay.specs.Few.{LeavesSeat, SeatStays, has_seat}
 use Rattle.tds_relay.specs.Queues.{Queue, fits, empty_queue, queue_in}
 use Rattle.tds_relay.specs.Reasons.{HasNoRoom}
 use Rattle.tds_wire.specs.declared.features.Features.{Features}
 use Rattle.tds_relay.specs.Ties.{LedOn, IsNumberOf, IsReached, Reaches, Turns, pool_in}
+use Rattle.tds_relay.proofs.spared.Freeing.{held_low}
 use Rattle.tds_relay.proofs.held.Sitting.{Sits}
 use Rattle.tds_relay.proofs.spared.Held.{Seated, same_lease, seated, sits_at, sound_at}
 
@@ -308,24 +309,25 @@ nobody_counted key o old new same is = λ hold its was. absurd (subst (λ (p : O
 
 -- ---- And those who wait are served
 
-seen_none : (o : Option Link) → option_map bytes_on o ≡ None → option_map seen_of o ≡ None
-seen_none None e = refl
-seen_none (Some l) e = absurd (let u : ⊥ = cc in u)
+none_on : (o p : Option (List ℕ)) → o ≡ None → FillsAt o p → p ≡ None
+none_on o None e h = refl
+none_on None (Some new) e h = absurd h
+none_on (Some old) (Some new) e h = absurd (let u : Some old ≡ None = e in let v : ⊥ = cc in v)
 
 gone_or : {Was : Option (List ℕ)} (Fails Lost : Type 0) (number : ℕ) (p q u : ℕ × ℕ) (ns : List Link) (w : List ℕ) → u ≡ (next p.0, p.1) → (Was ≡ None) ⊎ Lost → Was ≡ Some w → CountsSince Fails Lost number p u ns
 gone_or Fails Lost number p q u ns w counts (inl none) was = absurd (let e : Some w ≡ None = sym was ∙ none in let f : ⊥ = cc in f)
 gone_or Fails Lost number p q u ns w counts (inr gone) was = cleaning.IsCleaned counts (inr gone)
 
 since_by : (Fails Lost : Type 0) (number : ℕ) (p q u : ℕ × ℕ) (ms ns : List Link) (w v : Option (List ℕ)) → waits_on number ms ≡ w → waits_on number ns ≡ v → CountsSent Fails w p q → u ≡ q
-    → CalledAt (seen_at number ms) (seen_at number ns) → (waits_on number ns ≡ None → (waits_on number ms ≡ None) ⊎ Lost) → CountsSince Fails Lost number p u ns
-since_by Fails Lost number p q u ms ns None v was is counts same called lost =
-    cleaning.IsFailed (same ∙ counts.0) (subst (λ (o : Option Seen). CalledAt o (seen_at number ns)) (seen_none (link_at number ms) was) called) counts.1
-since_by Fails Lost number p q u ms ns (Some w) (Some v) was is counts same called lost = cleaning.IsCleaned (same ∙ counts) (inl (subst IsSome (sym is) refl))
-since_by Fails Lost number p q u ms ns (Some w) None was is counts same called lost = gone_or Fails Lost number p q u ns w (same ∙ counts) (lost is) was
+    → FillsAt (waits_on number ms) (waits_on number ns) → (waits_on number ns ≡ None → (waits_on number ms ≡ None) ⊎ Lost) → CountsSince Fails Lost number p u ns
+since_by Fails Lost number p q u ms ns None v was is counts same fills lost =
+    cleaning.IsFailed (same ∙ counts.0) (none_on (waits_on number ms) (waits_on number ns) was fills) counts.1
+since_by Fails Lost number p q u ms ns (Some w) (Some v) was is counts same fills lost = cleaning.IsCleaned (same ∙ counts) (inl (subst IsSome (sym is) refl))
+since_by Fails Lost number p q u ms ns (Some w) None was is counts same fills lost = gone_or Fails Lost number p q u ns w (same ∙ counts) (lost is) was
 
-pub since_at : (Fails Lost : Type 0) (number : ℕ) (p q u : ℕ × ℕ) (ms ns : List Link) → CountsSent Fails (waits_on number ms) p q → u ≡ q → OpensLinks ms ns
+pub since_at : (Fails Lost : Type 0) (number : ℕ) (p q u : ℕ × ℕ) (ms ns : List Link) → CountsSent Fails (waits_on number ms) p q → u ≡ q → FillsAt (waits_on number ms) (waits_on number ns)
     → (waits_on number ns ≡ None → (waits_on number ms ≡ None) ⊎ Lost) → CountsSince Fails Lost number p u ns
-since_at Fails Lost number p q u ms ns counts same opens lost = since_by Fails Lost number p q u ms ns (waits_on number ms) (waits_on number ns) refl refl counts same (opens.called number) lost
+since_at Fails Lost number p q u ms ns counts same fills lost = since_by Fails Lost number p q u ms ns (waits_on number ms) (waits_on number ns) refl refl counts same fills lost
 
 cannot_on : (key : ℕ) (hold : Hold) (old mid new : code.Relay) → LedOn (pool_in mid.pool) (pool_in new.pool) → CannotClean key hold old mid → CannotClean key hold old new
 cannot_on key hold old mid new on (inl up) = inl (record { gives = up.gives; way = up.way; lost = up.lost; goes = λ by from h. on by from (up.goes by from h) })
@@ -337,17 +339,18 @@ lost_since : (May : ℕ → Type 0) (a b c : Register) → ((key tag : ℕ) → 
 lost_since May a b c were (inl all) number e = inl (all number e)
 lost_since May a b c were (inr y) number e = inr (record { key = y.key; may = y.may; tag = y.tag; was = were y.key y.tag y.was; closed = y.closed })
 
-pub since_served : (key : ℕ) (was : Register) (old mid new : code.Relay) → CountsAtEnd key old mid → LedOn (pool_in mid.pool) (pool_in new.pool) → OpensLinks mid.links.items new.links.items → cleaned_in new ≡ cleaned_in mid → ClosesOnly NoKey was (register_in mid)
+pub since_served : (key : ℕ) (was : Register) (old mid new : code.Relay) → IsReached (pool_in old.pool) → old.pool.service.last ≤ mid.pool.service.last → CountsAtEnd key old mid → LedOn (pool_in mid.pool) (pool_in new.pool) → KeepsGiven mid new → cleaned_in new ≡ cleaned_in mid → ClosesOnly NoKey was (register_in mid)
     → LastBut (IsWaiting (pool_in old.pool).line) (register_in mid) (register_in new) → CountsSinceEnd key was old new
-since_served key was old mid new counts on opens same closes lasts = λ hold its there.
+since_served key was old mid new reached rises counts on given same closes lasts = λ hold its there.
+    let low : hold.number ≤ old.pool.service.last = held_low old.pool key hold reached its in
     since_at (CannotClean key hold old new) (LosesWaiting was old new) hold.number (cleaned_in old) (cleaned_in mid) (cleaned_in new) mid.links.items new.links.items
-    (sent_for (CannotClean key hold old mid) (CannotClean key hold old new) (waits_on hold.number mid.links.items) (cleaned_in old) (cleaned_in mid) (cannot_on key hold old mid new on) (counts hold its there)) same opens
+    (sent_for (CannotClean key hold old mid) (CannotClean key hold old new) (waits_on hold.number mid.links.items) (cleaned_in old) (cleaned_in mid) (cannot_on key hold old mid new on) (counts hold its there)) same (given.fills hold.number (omega (arith, low, rises)))
     (lost_since (IsWaiting (pool_in old.pool).line) was (register_in mid) (register_in new) closes.were_open lasts hold.number)
 
-pub since_served_on : {A E : Type 0} (r : Result A E) (key : ℕ) (was : Register) (old mid new : code.Relay) → CountsAtEnd key old mid → OnOk r (LedOn (pool_in mid.pool) (pool_in new.pool))
-    → OnOk r (OpensLinks mid.links.items new.links.items) → cleaned_in new ≡ cleaned_in mid → ClosesOnly NoKey was (register_in mid) → OnOk r (LastBut (IsWaiting (pool_in old.pool).line) (register_in mid) (register_in new)) → OnOk r (CountsSinceEnd key was old new)
-since_served_on (Ok x) key was old mid new counts on opens same closes lasts = since_served key was old mid new counts on opens same closes lasts
-since_served_on (Err e) key was old mid new counts on opens same closes lasts = tt
+pub since_served_on : {A E : Type 0} (r : Result A E) (key : ℕ) (was : Register) (old mid new : code.Relay) → IsReached (pool_in old.pool) → old.pool.service.last ≤ mid.pool.service.last → CountsAtEnd key old mid → OnOk r (LedOn (pool_in mid.pool) (pool_in new.pool))
+    → OnOk r (KeepsGiven mid new) → cleaned_in new ≡ cleaned_in mid → ClosesOnly NoKey was (register_in mid) → OnOk r (LastBut (IsWaiting (pool_in old.pool).line) (register_in mid) (register_in new)) → OnOk r (CountsSinceEnd key was old new)
+since_served_on (Ok x) key was old mid new reached rises counts on given same closes lasts = since_served key was old mid new reached rises counts on given same closes lasts
+since_served_on (Err e) key was old mid new reached rises counts on given same closes lasts = tt
 
 -- ---- One was brought
 
@@ -367,10 +370,10 @@ too_long size number features l ls ms before outbox empty more is made none noth
     ∙ ap (λ (b : Bool). record { tag = None; size = size; bytes = []; is_full = b }) made.5 in
     (p.out, p.is, ap (λ (q : Queue). fits q p.out) (sym queue) ∙ one)
 
-pub since_brought : (Fails Now : Type 0) (number : ℕ) (old mid new : code.Relay) → (Now → Fails) → CountsSent Now (waits_on number mid.links.items) (cleaned_in old) (cleaned_in mid) → OpensLinks mid.links.items new.links.items → cleaned_in new ≡ cleaned_in mid
+pub since_brought : (Fails Now : Type 0) (number : ℕ) (old mid new : code.Relay) → (Now → Fails) → CountsSent Now (waits_on number mid.links.items) (cleaned_in old) (cleaned_in mid) → FillsAt (waits_on number mid.links.items) (waits_on number new.links.items) → cleaned_in new ≡ cleaned_in mid
     → ((key tag : ℕ) → open_name key (register_in mid) ≡ Some tag → open_name key (register_in old) ≡ Some tag) → LastBut (IsWaiting (pool_in old.pool).line) (register_in mid) (register_in new)
     → CountsSince Fails (LosesWaiting (register_in old) old new) number (cleaned_in old) (cleaned_in new) new.links.items
-since_brought Fails Now number old mid new why counts opens same were lasts =
+since_brought Fails Now number old mid new why counts fills same were lasts =
     since_at Fails (LosesWaiting (register_in old) old new) number (cleaned_in old) (cleaned_in mid) (cleaned_in new) mid.links.items new.links.items
-    (sent_for Now Fails (waits_on number mid.links.items) (cleaned_in old) (cleaned_in mid) why counts) same opens
+    (sent_for Now Fails (waits_on number mid.links.items) (cleaned_in old) (cleaned_in mid) why counts) same fills
     (lost_since (IsWaiting (pool_in old.pool).line) (register_in old) (register_in mid) (register_in new) were lasts number)

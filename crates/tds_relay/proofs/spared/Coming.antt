@@ -17,7 +17,7 @@ use Rattle.tds_relay.specs.Pool.{find_key}
 use Rattle.tds_relay.specs.Reads.{waits_on}
 use Rattle.tds_relay.specs.Sparing.{AllGo, AllRest, IsUnkept, OthersRest}
 use Rattle.tds_relay.specs.Ties.{Connection, LedTo, IsReached, pool_in}
-use Rattle.tds_relay.proofs.spared.Resting.{go_one, rests_start}
+use Rattle.tds_relay.proofs.lending.Resting.{go_one, rests_start}
 use Rattle.tds_relay.proofs.steps.Reaching.{reached_on}
 
 -- ---- One after the other

@@ -7,15 +7,13 @@ use Rattle.tds_service.specs.Service as calls
 use Rattle.tds_service.specs.Service.{Service, step}
 use Rattle.tds_relay.specs.declared.pool.Pool as pools
 use Rattle.tds_relay.specs.declared.pool.Hold.{Hold}
-use Rattle.tds_relay.specs.declared.link.Answer.{Answer}
 use Rattle.tds_relay.specs.declared.link.Link.{Link}
 use Rattle.tds_relay.specs.declared.relay.Relay as code
 use Rattle.tds_relay.specs.Pool as pool
 use Rattle.tds_relay.specs.Pool.{Pool, find_key, find_number, key_of, keeps_by, lent_in, renews, renews_by, ticket_in, turn, without_lease}
 use Rattle.tds_relay.specs.Core.{holder, is_in}
 use Rattle.tds_relay.specs.Lent.{IsOnItsOwn, KeepsAnswers, KeepsToItsOwn, KeepsWaits, LendsInLine, MayBeLent, OthersKeep, OthersKeepAt, PutsOnly}
-use Rattle.tds_relay.specs.Reads.{StaysAt, answer_at, carried_there, queue_on}
-use Rattle.tds_relay.specs.Sparing.{held_at}
+use Rattle.tds_relay.specs.Reads.{answer_at, carried_there, queue_on}
 use Rattle.tds_relay.specs.Ties.{Application as ByApplication, LedTo, IsReached, pool_in}
 use Rattle.tds_relay.proofs.held.Fewer.{same_left}
 use Rattle.tds_relay.proofs.held.Numbers.{apart_at, its_holder}

@@ -12,7 +12,7 @@ use Rattle.tds_relay.specs.declared.order.Order.TheVariants as orders
 use Rattle.tds_relay.specs.declared.relay.Relay as code
 use Rattle.tds_relay.specs.Closings.{AConnection, AnApplication, ClosesOnce, ClosesOnly, IsDue, IsToWriteAll, Itself, OfApplication, OfConnection, Register, IsOneCalled, Named, is_shut, name_in_register, name_with, open_name, register_in, times_closed}
 use Rattle.tds_relay.specs.Fronts.{own_end, ends_in}
-use Rattle.tds_relay.specs.Core.{End, EndList, Open, Over, change_end, end_at, end_told}
+use Rattle.tds_relay.specs.Core.{End, EndList, Open, Over, change_end, end_at}
 use Rattle.tds_relay.specs.Ordering.{IsOrdered, StayOrdered}
 use Rattle.tds_relay.specs.Queues.{HasAll, Queue, Queues, names_in, names_of, queue_at, queue_of, queues_in}
 use Rattle.tds_relay.specs.Reads.{HoldsOnLinks, seen_at, without_link}

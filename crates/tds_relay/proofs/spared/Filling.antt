@@ -139,7 +139,7 @@ own_end (Ok v) key old new at links =
 own_end (Err v) key old new at links = tt
 
 -- one more connection is there
-pushed_link : (n : ℕ) (l : Link) (ls : List Link) → l.number ≢ n → link_at n (ls ++ l ∷ []) ≡ link_at n ls
+pub pushed_link : (n : ℕ) (l : Link) (ls : List Link) → l.number ≢ n → link_at n (ls ++ l ∷ []) ≡ link_at n ls
 pushed_link n l [] differs = let other : (l.number == n) ≡ false = differs_by (l.number == n) l.number n refl differs in rw other refl
 pushed_link n l (x ∷ xs) differs = ap (λ (o : Option Link). if x.number == n then Some x else o) (pushed_link n l xs differs)
 

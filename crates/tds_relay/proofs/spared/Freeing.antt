@@ -1,5 +1,5 @@
 -- A connection that is let go: who else holds one does so still, nobody holds that, and what is put there.
-use Rattle.std.proofs.Common.{◌≡◌, ◌≢◌, ◌⊎◌, ◌∙◌, ◌==◌, ◌++◌, ℕ, Bool, true, false, not, List, [], ◌∷◌, Option, Some, None, inl, inr, refl, sym, ap, subst, append-nil, if◌then◌else◌}
+use Rattle.std.proofs.Common.{◌≡◌, ◌≢◌, ◌⊎◌, ◌∙◌, ◌==◌, ◌++◌, ◌≤◌, ℕ, Bool, true, false, not, List, [], ◌∷◌, Option, Some, None, inl, inr, refl, sym, ap, subst, append-nil, arith, if◌then◌else◌}
 use Rattle.std.specs.Prelude.{Result, Ok, Err, OnOk, IsSome, filter}
 use Rattle.std.proofs.lemmas.Bool.{eqb-true, eq-eqb}
 use Rattle.tds_client.specs.Session.{ClientSession}
@@ -13,20 +13,21 @@ use Rattle.tds_relay.specs.Cleaning.{OfItsHold, WaitsAtEnd, WaitsBehindEnd, Wait
 use Rattle.tds_relay.specs.Cleaning as cleaning
 use Rattle.tds_relay.specs.Pool as pool
 use Rattle.tds_relay.specs.Pool.{Pool, find_key, find_lease, find_number, key_of, without_lease, without_number}
-use Rattle.tds_relay.specs.Lent.{IsLetGo, KeepsAnswers, LendsInLine, MayForget, MayBeLent, OthersKeepAt}
+use Rattle.tds_relay.specs.Lent.{IsLetGo, KeepsAnswers, LendsInLine, MayForget, MayBeLent, OthersKeepAt, KeepsGiven}
 use Rattle.tds_relay.specs.Lent as filling
 use Rattle.tds_relay.specs.Core.{holder}
 use Rattle.tds_relay.specs.Promises.{Each}
-use Rattle.tds_relay.specs.Reads.{FillsAt, Opens as OpensLinks, carried_there, queue_on, if_open, open_at, open_waits, waits_on}
+use Rattle.tds_relay.specs.Reads.{FillsAt, carried_there, queue_on, if_open, waits_on}
 use Rattle.tds_relay.specs.Ties.{IsNumberOf, IsReached, Turns, pool_in}
 use Rattle.tds_relay.proofs.held.Fewer.{each_number, same_left}
+use Rattle.tds_relay.proofs.held.Sitting.{Sits}
 use Rattle.tds_relay.proofs.held.Lists.{found_key}
 use Rattle.tds_relay.proofs.held.Numbers.{Apart, apart_at, found_number, its_holder}
-use Rattle.tds_relay.proofs.held.Seated.{each_found_by}
+use Rattle.tds_relay.proofs.held.Seated.{each_found_by, each_key}
 use Rattle.tds_relay.proofs.promises.Caring.{Sound}
 use Rattle.tds_relay.proofs.promises.Holding.{found_by_lease}
 use Rattle.tds_relay.proofs.spared.Filling.{carried, key_some, waits_queued}
-use Rattle.tds_relay.proofs.spared.Held.{not_equal, sound_at}
+use Rattle.tds_relay.proofs.spared.Held.{not_equal, sits_at, sound_at}
 use Rattle.tds_relay.proofs.steps.Placed.{differs_by}
 
 -- ---- Who else holds one
@@ -174,10 +175,10 @@ module _ (lent : Type 0) (client : Option ClientSession) (old mid : Option (List
       let is : waits ≡ new = (let u : Some waits ≡ Some new = sym m ∙ sym same ∙ e in cc) in
       subst (λ (xs : List ℕ). WaitsBehindEnd lent client old (Some xs)) (append-nil waits ∙ is) (on_left lent client old mid waits [] h m (inl refl))
 
-  left_then : (seen now : Option Reading) (x y w : Option (List ℕ)) → x ≡ if_open seen mid → FillsAt x y → y ≡ if_open now w → lent ⊎ ((w ≡ None) ⊎ (w ≡ mid)) → WaitsBehindEnd lent client old y
-  left_then seen now x None w e f g c = cleaning.IsShutSince
-  left_then seen now None (Some new) w e f g c = absurd f
-  left_then seen now (Some waits) (Some new) w e f g c = left_more waits new w f (open_by seen mid waits (sym e)) (open_by now w new (sym g)) c
+  left_then : (x w : Option (List ℕ)) → x ≡ mid → FillsAt x w → lent ⊎ ((w ≡ None) ⊎ (w ≡ mid)) → WaitsBehindEnd lent client old w
+  left_then x None e f c = cleaning.IsShutSince
+  left_then None (Some new) e f c = absurd f
+  left_then (Some waits) (Some new) e f c = left_more waits new (Some new) f (sym e) refl c
 
 pub lent_or : (number : ℕ) (mid new : code.Relay) → find_number number mid.pool.holds.items ≡ None
     → MayBeLent number mid.pool.line.items mid.pool.holds.items mid.links.items new.pool.holds.items new.links.items
@@ -186,14 +187,21 @@ lent_or number mid new none (filling.OfWaiting h is i) = absurd (let u : None �
 lent_or number mid new none (filling.Keeps e kept) = inr (waits_queued number mid.links.items new.links.items kept)
 lent_or number mid new none (filling.Lends e some) = inl (key_some (find_number number new.pool.holds.items) some)
 
-pub served_since : (key : ℕ) (old mid new : code.Relay) → OfItsHold WaitsAtEnd key old (λ (n : ℕ). waits_on n mid.links.items) → OpensLinks mid.links.items new.links.items
+-- whoever holds one has a number that was given
+pub held_low : (d : pools.Pool) (key : ℕ) (h : Hold) → IsReached (pool_in d) → find_key key d.holds.items ≡ Some h → h.number ≤ d.service.last
+held_low d key h reached its =
+    let sits : Sits (pool_in d).service h = each_key (λ (y : Hold). Sits (pool_in d).service y) key h d.holds.items (sits_at (pool_in d) reached) its in
+    sits.low
+
+pub served_since : (key : ℕ) (old mid new : code.Relay) → IsReached (pool_in old.pool) → old.pool.service.last ≤ mid.pool.service.last → OfItsHold WaitsAtEnd key old (λ (n : ℕ). waits_on n mid.links.items) → KeepsGiven mid new
     → IsLetGo key old.pool.holds.items mid.pool.holds.items → LendsInLine mid new → WaitsSinceEnd key old new
-served_since key old mid new left opens frees lends = λ hold its.
+served_since key old mid new reached rises left given frees lends = λ hold its.
+    let low : hold.number ≤ old.pool.service.last = held_low old.pool key hold reached its in
     left_then (IsSome (holder (pool_in new.pool) hold.number)) (client_of hold.lease old.pool.service) (waits_on hold.number old.links.items) (waits_on hold.number mid.links.items) (left hold its)
-    (open_at hold.number mid.links.items) (open_at hold.number new.links.items) (open_waits hold.number mid.links.items) (open_waits hold.number new.links.items) (waits_on hold.number new.links.items) refl (opens.fills hold.number) refl
+    (waits_on hold.number mid.links.items) (waits_on hold.number new.links.items) refl (given.fills hold.number (omega (arith, low, rises)))
     (lent_or hold.number mid new (frees hold its) (lends hold.number))
 
-pub left_served : {A E : Type 0} (r : Result A E) (key : ℕ) (old mid new : code.Relay) → OfItsHold WaitsAtEnd key old (λ (n : ℕ). waits_on n mid.links.items) → OnOk r (OpensLinks mid.links.items new.links.items)
-    → IsLetGo key old.pool.holds.items mid.pool.holds.items → OnOk r (LendsInLine mid new) → OnOk r (WaitsSinceEnd key old new)
-left_served (Ok x) key old mid new left opens frees lends = served_since key old mid new left opens frees lends
-left_served (Err x) key old mid new left opens frees lends = tt
+pub left_served : {A E : Type 0} (r : Result A E) (key : ℕ) (old mid new : code.Relay) → IsReached (pool_in old.pool) → old.pool.service.last ≤ mid.pool.service.last → OfItsHold WaitsAtEnd key old (λ (n : ℕ). waits_on n mid.links.items)
+    → OnOk r (KeepsGiven mid new) → IsLetGo key old.pool.holds.items mid.pool.holds.items → OnOk r (LendsInLine mid new) → OnOk r (WaitsSinceEnd key old new)
+left_served (Ok x) key old mid new reached rises left given frees lends = served_since key old mid new reached rises left given frees lends
+left_served (Err x) key old mid new reached rises left given frees lends = tt

@@ -16,7 +16,7 @@ use Rattle.tds_relay.specs.Sparing.{AllGo, AllRest, HeldConnection, HoldsOn, IsO
 use Rattle.tds_relay.specs.Ties.{Application as ByApplication, IsNumberOf, IsReached, Turns, pool_in}
 use Rattle.tds_relay.proofs.spared.Held.{holder_is}
 use Rattle.tds_relay.proofs.steps.Reaching.{reached_on, reaches_turn}
-use Rattle.tds_relay.proofs.spared.Resting.{AsksAt, all_others, go_one, going_is, goes_as, off_rests, others_both, others_rest, put_rest, rests_both, rests_by, rests_start}
+use Rattle.tds_relay.proofs.lending.Resting.{AsksAt, all_others, go_one, going_is, goes_as, off_rests, others_both, others_rest, put_rest, rests_both, rests_by, rests_start}
 
 -- ---- A connection that is let go
 

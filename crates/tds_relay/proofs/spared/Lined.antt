@@ -12,8 +12,6 @@ use Rattle.tds_relay.specs.declared.application.Application.{Application}
 use Rattle.tds_relay.specs.declared.application.Asking.{Asking}
 use Rattle.tds_relay.specs.declared.application.Asking.TheVariants as asking
 use Rattle.tds_relay.specs.Bodies.{Body, Closed, Kept, body_in}
-use Rattle.tds_relay.specs.declared.pool.coming.Heard.{Heard}
-use Rattle.tds_relay.specs.declared.pool.coming.What.TheVariants as whats
 use Rattle.tds_relay.specs.declared.relay.Relay as code
 use Rattle.tds_relay.specs.Pool as pool
 use Rattle.tds_relay.specs.Pool.{Pool, turn}
@@ -22,7 +20,7 @@ use Rattle.tds_relay.specs.Core.{End, EndList, IfOpen, IsBegun, Open, Over, chan
 use Rattle.tds_relay.specs.Reasons.{IsUnbegun}
 use Rattle.tds_relay.specs.Taking.{IsDeaf}
 use Rattle.tds_relay.specs.Ties.{pool_in}
-use Rattle.tds_relay.specs.Waiting.{IsNotAcknowledged, KeepsInLine, StandsInLine}
+use Rattle.tds_relay.specs.Waiting.{KeepsInLine, StandsInLine}
 use Rattle.tds_relay.specs.Waiting as waiting
 use Rattle.tds_relay.proofs.steps.Fronts.{changed_at}
 use Rattle.tds_relay.proofs.steps.Going.{waits_is}
@@ -52,10 +50,6 @@ lost_deaf key o es fs is whose =
 
 pub same_key : (a b : ℕ) (o : Option ℕ) → Some a ≡ o → o ≡ Some b → a ≡ b
 same_key a b o e f = let u : Some a ≡ Some b = e ∙ f in cc
-
--- what is heard acknowledges something
-pub acknowledges : (o : Option Heard) (h : Heard) → o ≡ Some h → h.what ≡ whats.Acknowledged → IsNotAcknowledged o → ⊥
-acknowledges o h is what not = subst IsNotAcknowledged is not what
 
 -- ---- What is kept of a request in the line
 

@@ -41,7 +41,7 @@ use Rattle.tds_relay.specs.Taking.{IsDeaf}
 use Rattle.tds_relay.specs.Ties.{pool_in}
 use Rattle.tds_relay.proofs.spared.Closings.{closes_both, closes_more}
 use Rattle.tds_relay.proofs.spared.Starting.{unkept_going}
-use Rattle.tds_relay.proofs.spared.Turned.{as_refl, kept_any, kept_asks, not_as, room_as}
+use Rattle.tds_relay.proofs.spared.Turned.{as_refl, kept_any, kept_asks, not_as}
 use Rattle.tds_relay.proofs.steps.Fed.{end_there}
 use Rattle.tds_relay.proofs.steps.Placed.{IsAt, is_at}
 
@@ -189,7 +189,7 @@ there_as : (number : ℕ) (ls : List Link) (l : Link) → link_at number ls ≡ 
 there_as number ls l is = ap (λ (o : Option Link). is_some o) is
 
 -- whoever holds it behind that, it is his
-whose_as : (number : ℕ) (left : List ℕ) (o : Option Heard) (mid next : code.Relay) (new : Machine) (other : ℕ) → IsSeated mid → IsHeardAs number left o mid new → pool_in next.pool ≡ new.core.pool → IsWho (holder (pool_in next.pool) number) other
+pub whose_as : (number : ℕ) (left : List ℕ) (o : Option Heard) (mid next : code.Relay) (new : Machine) (other : ℕ) → IsSeated mid → IsHeardAs number left o mid new → pool_in next.pool ≡ new.core.pool → IsWho (holder (pool_in next.pool) number) other
     → whose (pool_in mid.pool) number ≡ Some other
 whose_as number left o mid next new other s heard is who =
     holder_whose (pool_in mid.pool) mid.links.items number other s (there_as number mid.links.items heard.link heard.there)

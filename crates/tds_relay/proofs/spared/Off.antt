@@ -19,7 +19,7 @@ use Rattle.tds_relay.specs.Sparing.{AllGo, AllRest, HeldConnection, IsOff, OffGo
 use Rattle.tds_relay.specs.Ties.{Connection, LedTo, LedOn, IsReached, Turns, pool_in}
 use Rattle.tds_relay.proofs.spared.Held.{holder_is}
 use Rattle.tds_relay.proofs.spared.Only.{HeardApart, apart_or, spares_changed, spares_renewed, spares_sent}
-use Rattle.tds_relay.proofs.spared.Resting.{AsksAt, asks_on, off_rests, put_reached, rests_start, starts_both}
+use Rattle.tds_relay.proofs.lending.Resting.{AsksAt, asks_on, off_rests, put_reached, rests_start, starts_both}
 use Rattle.tds_relay.proofs.steps.Reaching.{reached_on, reached_turn}
 
 -- ---- One after the other

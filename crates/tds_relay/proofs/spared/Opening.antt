@@ -126,6 +126,10 @@ module _ (served : Served) (d e : Pool) (before after : List ℕ) (t : Turns poo
       ap (λ (x : Pool). x.service) t.pool_is ∙ serves_at d d.line served.hold.key serving.0 served.hold.lease served.hold.number served.had serving.1 serving.2 in
       subst (λ (s : Service). Rise d.service.last s.last (served.hold.number ∷ [])) (sym same) (lent_last d.service (find_by is_lendable d.service.seats) served.hold.lease served.hold.number reply)
 
+-- a new one's number is above those that were given
+pub served_above : (served : Served) (d e : Pool) (before after : List ℕ) → Turns pool.Serves d e before after → Serving d (Some served) → served.had ≡ false → d.service.last < served.hold.number
+served_above served d e before after t serving is = (served_rise served d e before after t serving false is).0
+
 -- by the order of a call that goes on behind it
 pub lent_opens : (served : Served) (a b : code.Relay) (e : Pool) (before after : List ℕ) → Turns pool.Serves (pool_in a.pool) e before after → Serving (pool_in a.pool) (Some served)
     → opens_in b.orders.items ≡ opens_in a.orders.items ++ opens_if served.had served.hold.number → e.service.last ≤ b.pool.service.last → OpensNew a b

@@ -17,7 +17,7 @@ use Rattle.tds_relay.specs.Sparing.{AllGo, OthersRest, Rests}
 use Rattle.tds_relay.specs.Ties.{IsReached, Leaving, pool_in}
 use Rattle.tds_relay.proofs.spared.Apart.{set_apart}
 use Rattle.tds_relay.proofs.spared.Lines.{waited_left}
-use Rattle.tds_relay.proofs.spared.Resting.{go_one, rests_start}
+use Rattle.tds_relay.proofs.lending.Resting.{go_one, rests_start}
 use Rattle.tds_relay.proofs.steps.Fronts.{changed_at}
 use Rattle.tds_relay.proofs.steps.Parked.{and_first, and_second, rested}
 

@@ -23,7 +23,7 @@ use Rattle.tds_relay.specs.declared.pool.Pool as pools
 use Rattle.tds_relay.specs.declared.pool.Hold.{Hold}
 use Rattle.tds_relay.specs.declared.link.Link.{Link}
 use Rattle.tds_relay.specs.declared.relay.Relay as code
-use Rattle.tds_relay.specs.Bodies.{Body, ClientPuts, ClientStops, Closed, IsHalting, Kept, Nowhere, Spared, body_by, body_in, body_of, going, going_by}
+use Rattle.tds_relay.specs.Bodies.{Body, ClientPuts, ClientStops, Closed, IsHalting, Kept, Nowhere, Spared, body_by, body_in, going, going_by}
 use Rattle.tds_relay.specs.Closings.{ClosesOnly, IsNoRequest, Itself, Register}
 use Rattle.tds_relay.specs.Pool.{find_key}
 use Rattle.tds_relay.specs.Core.{End, IfOpen}

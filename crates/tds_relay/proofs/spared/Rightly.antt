@@ -1,5 +1,5 @@
 -- Where a request isn't kept though the connection that its application holds is ready for it.
-use Rattle.std.proofs.Common.{◌≡◌, ◌⊎◌, ◌∙◌, ℕ, Bool, true, false, List, [], Option, Some, None, inl, inr, refl, sym, ap, subst}
+use Rattle.std.proofs.Common.{◌≡◌, ◌⊎◌, ◌∙◌, ℕ, true, false, List, Option, Some, None, inl, inr, refl, sym, ap, subst}
 use Rattle.std.specs.Prelude.{IsSome, Result, Ok, Err, OnOk}
 use Rattle.tds_packet.specs.Reading.{Reading}
 use Rattle.tds_relay.specs.declared.pool.Hold.{Hold}

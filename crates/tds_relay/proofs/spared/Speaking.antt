@@ -14,7 +14,7 @@ use Rattle.tds_relay.specs.Reads.{waits_on}
 use Rattle.tds_relay.specs.Sparing.{AllGo, HoldsOn, OthersGo, OthersHold, OthersRest, held_with_client}
 use Rattle.tds_relay.specs.Ties.{Application as ByApplication, LedTo, IsReached, Leaving, pool_in}
 use Rattle.tds_relay.proofs.spared.Held.{action_same}
-use Rattle.tds_relay.proofs.spared.Resting.{asks_on, goes_as, others_rest, rests_by, rests_start, starts_both}
+use Rattle.tds_relay.proofs.lending.Resting.{asks_on, goes_as, others_rest, rests_by, rests_start, starts_both}
 use Rattle.tds_relay.proofs.steps.Reaching.{reached_on, reaches_left}
 
 -- ---- What is done at the pool

@@ -23,7 +23,7 @@ use Rattle.tds_relay.specs.Sparing as sparing
 use Rattle.tds_relay.specs.Sparing.{AllGo, AllRest, AreCalls, Drains, HasGone, HeldConnection, IsHeldBack, IsKept, IsLeft, IsUnkept, Opens, Rests, StartsBehind, StartsOn, StartsThere, behind_all, held_at}
 use Rattle.tds_relay.specs.Ties.{IsReached, pool_in}
 use Rattle.tds_relay.proofs.spared.Held.{holder_is, holds}
-use Rattle.tds_relay.proofs.spared.Resting.{starts_both}
+use Rattle.tds_relay.proofs.lending.Resting.{starts_both}
 use Rattle.tds_relay.proofs.steps.Bodied.{written_body}
 use Rattle.tds_relay.proofs.steps.Fed.{end_open, end_there}
 

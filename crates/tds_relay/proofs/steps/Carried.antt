@@ -17,7 +17,7 @@ use Rattle.tds_relay.specs.Machine.{Machine, Step, Admits, Hands, Makes, Removes
 use Rattle.tds_relay.specs.Queues.{Queues, change}
 use Rattle.tds_relay.specs.Taking.{IsDeaf, count_by, bytes_left_by}
 use Rattle.tds_relay.specs.Ties.{Application}
-use Rattle.tds_relay.proofs.spared.Resting.{starts_both}
+use Rattle.tds_relay.proofs.lending.Resting.{starts_both}
 use Rattle.tds_relay.proofs.steps.Asked.{said_is}
 use Rattle.tds_relay.proofs.steps.Fed.{left_fed, waits_fed}
 use Rattle.tds_relay.proofs.steps.Fronts.{no_moves}

@@ -20,7 +20,6 @@ use Rattle.tds_relay.specs.Pool.{Pool, Action, holder_does, find_key}
 use Rattle.tds_relay.specs.Sparing as sparing
 use Rattle.tds_relay.specs.Sparing.{StartsBehind}
 use Rattle.tds_relay.specs.Ties.{Turns}
-use Rattle.tds_relay.proofs.steps.Bodied.{spared_starts}
 
 -- ---- At the pool
 

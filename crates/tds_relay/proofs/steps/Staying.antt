@@ -15,7 +15,7 @@ pub at_refl : {A : Type 0} (o : Option A) → StaysAt o o
 at_refl None = tt
 at_refl (Some r) = refl
 
-at_both : {A : Type 0} (o p q : Option A) → StaysAt o p → StaysAt p q → StaysAt o q
+pub at_both : {A : Type 0} (o p q : Option A) → StaysAt o p → StaysAt p q → StaysAt o q
 at_both o p None h k = tt
 at_both {A} o p (Some r) h k = subst (λ (x : Option A). StaysAt o x) k h
 
@@ -108,7 +108,7 @@ either_fills : (b : Bool) (l m : Link) (o p : Option Link) → FillsAt (Some (by
 either_fills true l m o p fills rest = fills
 either_fills false l m o p fills rest = rest
 
-fills_written : (ls : List Link) (i : ℕ) (d m : Link) → m.number ≡ (slice_index_or ls i d).number → FillsAt (Some (bytes_on (slice_index_or ls i d))) (Some (bytes_on m))
+pub fills_written : (ls : List Link) (i : ℕ) (d m : Link) → m.number ≡ (slice_index_or ls i d).number → FillsAt (Some (bytes_on (slice_index_or ls i d))) (Some (bytes_on m))
     → (n : ℕ) → FillsAt (waits_on n ls) (waits_on n (slice_set ls i m))
 fills_written [] i d m number fills n = tt
 fills_written (x ∷ xs) zero d m number fills n =

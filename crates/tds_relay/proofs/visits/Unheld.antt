@@ -1,5 +1,5 @@
 -- Who stands in the line holds no connection, wherever steps led to a relay from a new one.
-use Rattle.std.proofs.Common.{◌≡◌, ◌∙◌, ◌==◌, ◌||◌, ℕ, Bool, true, false, List, ◌∷◌, None, inl, inr, sym, ap}
+use Rattle.std.proofs.Common.{◌≡◌, ◌∙◌, ◌||◌, ℕ, Bool, true, false, List, ◌∷◌, None, inl, inr, sym, ap}
 use Rattle.std.proofs.lemmas.Bool.{eq-eqb}
 use Rattle.tds_relay.specs.Core.{Core, is_in}
 use Rattle.tds_relay.specs.Fronts.{Moved}

@@ -1,10 +1,11 @@
 //! What comes on connections, and whose it is.
 ghost use Rattle.std.specs.Prelude.{◌≡◌, ◌≢◌, ℕ, List, Some, IfOk, OnOk, true, if◌then◌else◌};
 ghost use Rattle.tds_service.specs.Table.{reading_on, service_in};
-ghost use Rattle.tds_relay.specs.Cleaning.{MayClean};
+ghost use Rattle.tds_relay.specs.Cleaning.{MayClean, PutsByLease};
 ghost use Rattle.tds_relay.specs.Pool.{Comes, Way, cleaned_by, settles, whose, whose_by};
 ghost use Rattle.tds_relay.specs.Fronts.{IsWhat};
 ghost use Rattle.tds_relay.specs.Core.{dones_of_part};
+ghost use Rattle.tds_relay.specs.Lent.{MayForget};
 ghost use Rattle.tds_relay.specs.Sparing.{AsideHeld, AsideStay, OffHold};
 ghost use Rattle.tds_relay.specs.Ties.{IsReached, Makes, Settles, Turns, pool_in, part_on};
 ghost use Rattle.tds_relay.specs.TokenParsers.{AllRead, AllStand, IsLed};
@@ -119,6 +120,10 @@ impl Pool {
         ensures seats { IsReached (pool_in self.old) → IfOk result (λ heard. HearsSeat (Some heard)
             number (pool_in self.old).service (pool_in self.new).service) }
         ensures off { OnOk result (OffHold number self.old self.new) }
+        ensures holds { OnOk result
+            (MayForget number self.old.holds.items self.new.holds.items) }
+        ensures leases { IfOk result (λ heard. heard.what ≢ Closed → PutsByLease out.old.items
+            out.new.items self.old.service.given self.new.service.given) }
     {
         let came = match self.service.heard(number, bytes, ends) {
             Ok(came) => came,
@@ -175,6 +180,8 @@ impl Pool {
         ensures aside { OnOk result (AsideHeld number self.old.holds.items self.old.service
             self.new.service) }
         ensures holds { self.new.holds ≡ self.old.holds }
+        ensures leases { IfOk result (λ heard. heard ≢ Closed → PutsByLease out.old.items
+            out.new.items self.old.service.given self.new.service.given) }
     {
         match lease {
             Some(lease) => match find_lease(&self.holds, lease) {

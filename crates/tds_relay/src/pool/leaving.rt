@@ -1,5 +1,5 @@
 //! Connections that are let go, and cleaned; that come without being asked for; and that are lost.
-ghost use Rattle.std.specs.Prelude.{◌≡◌, [], ℕ, Bool, IfOk, IfSome, None, OnOk, true};
+ghost use Rattle.std.specs.Prelude.{◌≡◌, ◌≤◌, [], ℕ, Bool, IfOk, IfSome, None, OnOk, suc, true};
 ghost use Rattle.tds_service.specs.Table.{KeepsClientsOff, client_of, reading_on, service_in};
 ghost use Rattle.tds_relay.specs.Cleaning.{CleansFirst, GoesOutAtEnd, GoesOutBy, IsBatch, IsCleaning, IsLentBy, IsPutBehind};
 ghost use Rattle.tds_relay.specs.Pool.{Brings, Leaves, Loses, Renews, Way, cleaning, find_key, find_number};
@@ -74,6 +74,8 @@ pub(super) fn clean(
         → IsPutBehind (IsBatch text.now) out.old.items out.new.items) }
     ensures cleans { IsLed (service_in service.old) → IfOk result (λ is_there. is_there ≡ true
         → IsPutBehind (IsCleaning text.now) out.old.items out.new.items) }
+    ensures leases { IfOk result (λ is_there. is_there ≡ true
+        → suc service.old.given ≤ service.new.given) }
 {
     let Ok(lent) = service.clean(number) else {
         forget(service, number)?;

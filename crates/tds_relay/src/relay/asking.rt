@@ -2,6 +2,7 @@
 ghost use Rattle.std.specs.Prelude.{◌≡◌, ◌≤◌, [], Bool, None, IfOk, IsSome, OnOk, Some};
 ghost use Rattle.std.specs.Prelude.{drop, false, length, true};
 ghost use Rattle.slab.specs.Slab.{get};
+ghost use Rattle.tds_relay.specs.Lent.{DialsNewAt, KeepsGiven};
 ghost use Rattle.tds_relay.specs.Asking.{AsksByBytes, AsksOn, IfAsks, IsUnderway, waits_of};
 ghost use Rattle.tds_relay.specs.Bodies.{Body, HeedsAll, HeedsOn, HeedsServed, CancelsSaid, Carries};
 ghost use Rattle.tds_relay.specs.Bodies.{CarriesOn, Grows, GrowsFrom, Obeys, PutsSaid, Starts, GoesFrom, body_of};
@@ -62,6 +63,8 @@ impl Relay {
         ensures many { OnOk result (GrowsByOrders self.old self.new) }
         ensures puts { IsReached (pool_in self.old.pool) → OnOk result (PutsOnly
             (λ number. holder (pool_in self.old.pool) number ≡ Some key) self.old self.new) }
+        ensures given { OnOk result (KeepsGiven self.old self.new) }
+        ensures fresh { OnOk result (DialsNewAt self.old self.new) }
     {
         self.take_all(key, piece)?;
         self.serve_line()

@@ -10,6 +10,7 @@ ghost use Rattle.tds_relay.specs.Fronts.{ends_in, core_in, machine_in};
 ghost use Rattle.tds_relay.specs.Core.{holder};
 ghost use Rattle.tds_relay.specs.Machine.{Steps};
 ghost use Rattle.tds_relay.specs.Queues.{names_in, queues_in};
+ghost use Rattle.tds_relay.specs.Lent.{FirstStays};
 ghost use Rattle.tds_relay.specs.Reads.{IsCalled, OpensFirst};
 ghost use Rattle.tds_relay.specs.Reads.{open_waits, seen_at};
 ghost use Rattle.tds_relay.specs.Ordering.{OpensAbove, OpensNew, StayOrdered};
@@ -26,7 +27,7 @@ use crate::link::Link;
 impl Relay {
     /// A connection that is open and logged in has come before any application asked: the first one of
     /// all. It is cleaned first. Answers its number, or none where it isn't wanted.
-    #[tactic(auto, using(crate::proofs::steps::Reaching::reaches_turn, crate::proofs::steps::Reaching::reaches_turned, crate::proofs::spared::Resting::go_refl, crate::proofs::spared::Ordered::ordered_refl))]
+    #[tactic(auto, using(crate::proofs::steps::Reaching::reaches_turn, crate::proofs::steps::Reaching::reaches_turned, crate::proofs::lending::Resting::go_refl, crate::proofs::spared::Ordered::ordered_refl))]
     pub fn bring(&mut self, tag: usize) -> Result<Option<u64>, NoMemory>
         ensures goes { OnOk result (LedTo Neither (pool_in self.old.pool) (pool_in self.new.pool)) }
         ensures steps { OnOk result (Steps Neither (machine_in self.old) (machine_in self.new)) }
@@ -36,6 +37,8 @@ impl Relay {
             OpensFirst number self.old.links.items self.new.links.items) }
         ensures named { IfOk result (λ brought. IfSome brought (λ number.
             IsCalled true (Some tag) (seen_at number self.new.links.items))) }
+        ensures first { IsReached (pool_in self.old.pool) → IfOk result (λ brought.
+            IfSome brought (λ number. FirstStays tag number self.old self.new)) }
         ensures names { OnOk result (names_in self.new.applications
             ≡ names_in self.old.applications) }
         ensures stand { OnOk result (AllStand self.old.pool.service

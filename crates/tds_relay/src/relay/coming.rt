@@ -2,9 +2,11 @@
 ghost use Rattle.std.specs.Prelude.{◌≡◌, ◌⊎◌, ◌≤◌, ◌+◌, ◌&&◌, [], ℕ, not, None, Some, drop, false};
 ghost use Rattle.std.specs.Prelude.{IfOk, IsSome, OnOk, length, true};
 ghost use Rattle.tds_service.specs.Table.{reading_on};
+ghost use Rattle.tds_relay.specs.Lent.{DialsNewAt, HearsAny, HearsGiven, ShutElse, ShutGivenElse};
 ghost use Rattle.tds_relay.specs.Apart.{LosesOnly, SparesOthers};
 ghost use Rattle.tds_relay.specs.Bodies.{AskAsBefore, Body, body_in};
-ghost use Rattle.tds_relay.specs.Cleaning.{CleansAlone, CleansOn, CountsGone, CountsLost, cleaned_in};
+ghost use Rattle.tds_relay.specs.Cleaning.{CleansAlone, CleansOn, CountsGone, CountsLost, PutsByLease};
+ghost use Rattle.tds_relay.specs.Cleaning.{cleaned_in};
 ghost use Rattle.tds_relay.specs.Closings.{ClosesOnly, but_told, is_shut};
 ghost use Rattle.tds_relay.specs.Closings.{register_in, settings_in};
 ghost use Rattle.tds_relay.specs.Coming.{AllAlong, ComesAnew, ContinuesAnew, StreamsAnew};
@@ -15,8 +17,9 @@ ghost use Rattle.tds_relay.specs.Fronts.{own_end, ends_in, core_in, told_by, mac
 ghost use Rattle.tds_relay.specs.Fronts.{machine_with};
 ghost use Rattle.tds_relay.specs.Core.{holder, end_told};
 ghost use Rattle.tds_relay.specs.Handing.{BringsPacket, HearsBy, IsKnown, KnowsOn, Passes, news_for, filled};
+ghost use Rattle.tds_relay.specs.Lent.{FirstKeeps, MayForget, PutsOnly};
 ghost use Rattle.tds_relay.specs.Machine.{Steps};
-ghost use Rattle.tds_relay.specs.Reasons.{Cleans, IsHeardAs, IsIdle, HearsNothing};
+ghost use Rattle.tds_relay.specs.Reasons.{Cleans, IsHeardAs, IsIdle, IsLeftOpen, HearsNothing};
 ghost use Rattle.tds_relay.specs.Queues.{names_in, queue_of, queues_in};
 ghost use Rattle.tds_packet.specs.Stream.{IsLess};
 ghost use Rattle.tds_relay.specs.Reads.{BytesCome, IsLessAt, OpensOthers, StreamsAll};
@@ -27,7 +30,7 @@ ghost use Rattle.tds_relay.specs.Ordering.{GrowsByOrders, OpensNew, StayOrdered,
 ghost use Rattle.tds_relay.specs.Sending.{sending_at};
 ghost use Rattle.tds_relay.specs.Sparing.{OffGo, OffHold};
 ghost use Rattle.tds_relay.specs.Ties.{Connection, LedTo, IsReached, pool_in};
-ghost use Rattle.tds_relay.specs.Waiting.{IsNotAcknowledged, KeepsQueues, HeardFor};
+ghost use Rattle.tds_relay.specs.Waiting.{IsItsHolders, KeepsQueues, KeepsWaiting, HeardFor};
 ghost use Rattle.tds_relay.specs.Waking.{HandsTo, IsWoken, PutsFor, Wakes};
 ghost use Rattle.tds_relay.specs.TokenParsers.{AllStand, HasRead, ReadsBy};
 
@@ -78,8 +81,14 @@ impl Relay {
         ensures apart { OnOk result (OffGo number None self.old self.new) }
         ensures cleans { IsReached (pool_in self.old.pool)
             → holder (pool_in self.old.pool) number ≡ None → OnOk result (CleansOn
+            self.old.pool.service.given self.new.pool.service.given
             (IsSome (holder (pool_in self.new.pool) number))
             (waits_on number self.old.links.items) (open_waits number self.new.links.items)) }
+        ensures puts { IsReached (pool_in self.old.pool)
+            → OnOk result (PutsOnly (IsItsHolders number self.old) self.old self.new) }
+        ensures given { OnOk result (HearsGiven number self.old self.new) }
+        ensures fresh { OnOk result (DialsNewAt self.old self.new) }
+        ensures still { OnOk result (ShutGivenElse number self.old self.new) }
     {
         self.hear_all(number, piece)?;
         self.serve_line()
@@ -118,7 +127,15 @@ impl Relay {
         ensures apart { OnOk result (OffGo number None self.old self.new) }
         ensures cleans { IsReached (pool_in self.old.pool)
             → holder (pool_in self.old.pool) number ≡ None → OnOk result (CleansAlone
+            self.old.pool.service.given self.new.pool.service.given
             (waits_on number self.old.links.items) (waits_on number self.new.links.items)) }
+        ensures keeps { IsReached (pool_in self.old.pool) → OnOk result
+            (FirstKeeps (IsItsHolders number self.old) self.old self.new) }
+        ensures rests { IsSeated self.old → OnOk result
+            ((key : ℕ) → KeepsWaiting number self.old self.new key) }
+        ensures given { OnOk result (HearsAny number self.old.links.items self.new.links.items) }
+        ensures still { OnOk result (ShutElse number self.old.links.items
+            self.new.links.items) }
     {
         let mut rest = piece;
         'taking: for _ in 0..piece.len() + 1 {
@@ -176,6 +193,13 @@ impl Relay {
             IsSeatedBehind heard.1 number self.new) }
         ensures counts { cleaned_in self.new ≡ cleaned_in self.old }
         ensures off { OnOk result (OffHold number self.old.pool self.new.pool) }
+        ensures keeps { OnOk result
+            (FirstKeeps (λ other. other ≡ number) self.old self.new) }
+        ensures leases { IfOk result (λ heard. IsLeftOpen heard.1 → PutsByLease []
+            self.new.outbox.items self.old.pool.service.given self.new.pool.service.given) }
+        ensures given { OnOk result (HearsAny number self.old.links.items self.new.links.items) }
+        ensures still { OnOk result (ShutElse number self.old.links.items
+            self.new.links.items) }
     {
         let Relay {
             pool,
@@ -241,6 +265,10 @@ fn hear_on(
     ensures seats { IsReached (pool_in pool.old) → IfOk result (λ heard. HearsSeat heard.1 number
         (pool_in pool.old).service (pool_in pool.new).service) }
     ensures off { OnOk result (OffHold number pool.old pool.new) }
+    ensures holds { OnOk result
+        (MayForget number pool.old.holds.items pool.new.holds.items) }
+    ensures leases { IfOk result (λ heard. IsLeftOpen heard.1 → PutsByLease outbox.old.items
+        outbox.new.items pool.old.service.given pool.new.service.given) }
 {
     let count = match link.reader.feed(piece) {
         Ok(count) => count,
@@ -285,6 +313,10 @@ fn hear_packet(
     ensures seats { IsReached (pool_in pool.old) → IfOk result (λ heard. HearsSeat (Some heard)
         number (pool_in pool.old).service (pool_in pool.new).service) }
     ensures off { OnOk result (OffHold number pool.old pool.new) }
+    ensures holds { OnOk result
+        (MayForget number pool.old.holds.items pool.new.holds.items) }
+    ensures leases { IfOk result (λ heard. IsLeftOpen (Some heard) → PutsByLease outbox.old.items
+        outbox.new.items pool.old.service.given pool.new.service.given) }
 {
     let Some(packet) = link.reader.packet() else {
         return Ok(NOTHING);

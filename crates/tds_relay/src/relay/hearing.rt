@@ -1,6 +1,7 @@
 //! What is done behind a packet that was heard.
-ghost use Rattle.std.specs.Prelude.{◌≡◌, ◌≢◌, ℕ, None, Some};
+ghost use Rattle.std.specs.Prelude.{◌≡◌, ℕ, None, Some};
 ghost use Rattle.std.specs.Prelude.{IsNone, OnOk};
+ghost use Rattle.tds_relay.specs.Waiting.{RestsElse};
 ghost use Rattle.tds_relay.specs.Apart.{SparesOthers};
 ghost use Rattle.tds_relay.specs.Cleaning.{CountsHeard};
 ghost use Rattle.tds_relay.specs.Closings.{ClosesOnly};
@@ -15,7 +16,7 @@ ghost use Rattle.tds_relay.specs.Reads.{FillsBy, reader_at, waits_on};
 ghost use Rattle.tds_relay.specs.Ordering.{StayOrdered, opens_in};
 ghost use Rattle.tds_relay.specs.Sparing.{OffGo};
 ghost use Rattle.tds_relay.specs.Ties.{Connection, LedTo, IsReached, pool_in};
-ghost use Rattle.tds_relay.specs.Waiting.{IsNotAcknowledged, LosesAt};
+ghost use Rattle.tds_relay.specs.Waiting.{KeepsHeard, LosesAt};
 ghost use Rattle.tds_relay.specs.Waking.{HandsTo, IsWoken};
 ghost use Rattle.tds_relay.specs.TokenParsers.{AllStand};
 
@@ -42,8 +43,8 @@ impl Relay {
         ensures ordered { OnOk result (StayOrdered self.old.orders.items self.new.orders.items) }
         ensures wakes { OnOk result ((key : ℕ) → HandsTo heard key (ends_in self.old.applications)
             → IsWoken key self.new.applications self.new.orders.items) }
-        ensures others { IsNotAcknowledged heard → OnOk result ((other : ℕ) → other ≢ number
-            → waits_on other self.new.links.items ≡ waits_on other self.old.links.items) }
+        ensures others { OnOk result (RestsElse heard number self.old.links.items
+            self.new.links.items) }
         ensures begins { OnOk result (BeginAnyIf (acknowledged_in heard)
             self.old.links.items self.new.links.items) }
         ensures spares { IsReached (pool_in self.old.pool) → OnOk result (SparesOthers number
@@ -57,6 +58,8 @@ impl Relay {
         ensures sent { heard_key heard ≡ None → OnOk result (FillsBy self.old.outbox.items
             (waits_on number self.old.links.items) (waits_on number self.new.links.items)) }
         ensures apart { OnOk result (OffGo number (heard_key heard) self.old self.new) }
+        ensures keeps { IsReached (pool_in self.old.pool)
+            → OnOk result (KeepsHeard number heard self.old self.new) }
     {
         match heard {
             Some(heard) => self.heard_packet(number, heard),
@@ -82,9 +85,8 @@ impl Relay {
         ensures wakes { OnOk result ((key : ℕ)
             → HandsTo (Some heard) key (ends_in self.old.applications)
             → IsWoken key self.new.applications self.new.orders.items) }
-        ensures others { IsNotAcknowledged (Some heard) → OnOk result ((other : ℕ)
-            → other ≢ number → waits_on other self.new.links.items
-            ≡ waits_on other self.old.links.items) }
+        ensures others { OnOk result (RestsElse (Some heard) number self.old.links.items
+            self.new.links.items) }
         ensures begins { OnOk result (BeginAnyIf (acknowledged_in (Some heard))
             self.old.links.items self.new.links.items) }
         ensures spares { IsReached (pool_in self.old.pool) → OnOk result (SparesOthers number
@@ -98,6 +100,8 @@ impl Relay {
         ensures sent { heard.key ≡ None → OnOk result (FillsBy self.old.outbox.items
             (waits_on number self.old.links.items) (waits_on number self.new.links.items)) }
         ensures apart { OnOk result (OffGo number (heard_key (Some heard)) self.old self.new) }
+        ensures keeps { IsReached (pool_in self.old.pool)
+            → OnOk result (KeepsHeard number (Some heard) self.old self.new) }
     {
         let resumes = self.tell(heard)?;
         self.send_on(number)?;

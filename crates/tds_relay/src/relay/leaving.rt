@@ -1,6 +1,7 @@
 //! Applications that leave, and connections that are lost.
 ghost use Rattle.std.specs.Prelude.{◌≡◌, ◌≢◌, ℕ, None, OnOk, Some, slice_set};
 ghost use Rattle.slab.specs.Slab.{get};
+ghost use Rattle.tds_relay.specs.Lent.{DialsNewAt, KeepsGiven, OffRest};
 ghost use Rattle.tds_relay.specs.Apart.{Alone, LendsInTurn, LosesOnly};
 ghost use Rattle.tds_relay.specs.Bodies.{AskAsBefore, AskOn, Body, Closed, body_in};
 ghost use Rattle.tds_relay.specs.Cleaning.{CountsAtEnd, CountsHold, CountsSinceEnd, OfItsHold, WaitsAtEnd, WaitsSinceEnd, cleaned_in};
@@ -65,6 +66,8 @@ impl Relay {
         ensures puts { IsReached (pool_in self.old.pool) → OnOk result (PutsOnly
             (λ number. holder (pool_in self.old.pool) number ≡ Some key)
             self.old self.new) }
+        ensures given { OnOk result (KeepsGiven self.old self.new) }
+        ensures fresh { OnOk result (DialsNewAt self.old self.new) }
     {
         let _ = self.applications.try_remove(key).is_some();
         self.release(key)?;
@@ -102,6 +105,8 @@ impl Relay {
         ensures many { OnOk result (GrowsByOrders self.old self.new) }
         ensures puts { IsReached (pool_in self.old.pool)
             → OnOk result (PutsOnly (λ other. other ≡ number) self.old self.new) }
+        ensures given { OnOk result (KeepsGiven self.old self.new) }
+        ensures fresh { OnOk result (DialsNewAt self.old self.new) }
     {
         self.lose(number)?;
         self.serve_line()
@@ -252,7 +257,7 @@ impl Relay {
     }
 
     /// The same of a connection that this application holds.
-    #[tactic(auto, using(crate::proofs::steps::Staying::stays_refl, crate::proofs::spared::Resting::all_refl, crate::proofs::spared::Apart::alone_refl, crate::proofs::spared::Ordered::ordered_refl))]
+    #[tactic(auto, using(crate::proofs::steps::Staying::stays_refl, crate::proofs::lending::Resting::all_refl, crate::proofs::spared::Apart::alone_refl, crate::proofs::spared::Ordered::ordered_refl))]
     pub(super) fn lose_own(&mut self, key: usize, number: u64) -> Result<(), NoMemory>
         ensures goes { OnOk result (LedOn (pool_in self.old.pool) (pool_in self.new.pool)) }
         ensures kept { OnOk result (queues_in self.new.applications
@@ -273,6 +278,7 @@ impl Relay {
         ensures counts { cleaned_in self.new ≡ cleaned_in self.old }
         ensures opening { opens_in self.new.orders.items ≡ opens_in self.old.orders.items }
         ensures own { OnOk result (IsOnItsOwn key self.old self.new) }
+        ensures off { OnOk result (OffRest number self.old.links.items self.new.links.items) }
     {
         match self.pool.key_on(number) {
             Some(holder) => {

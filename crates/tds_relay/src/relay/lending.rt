@@ -1,18 +1,17 @@
 //! Connections that are lent to those who wait, opened, and asked.
-ghost use Rattle.std.specs.Prelude.{◌≡◌, ◌≢◌, ◌⊎◌, ◌++◌, [], ℕ, Bool, IfOk, List, None, OnOk, Some, false, length, option_map, true};
+ghost use Rattle.std.specs.Prelude.{◌≡◌, ◌≢◌, ◌⊎◌, ◌++◌, ◌<◌, ◌≤◌, [], ℕ, Bool, IfOk, List, None, OnOk, Some, false, length, option_map, true};
 ghost use Rattle.slab.specs.Slab.{get};
+ghost use Rattle.tds_relay.specs.Lent.{AllLast, Any, BeginsOn, DialsNewAt, FirstKeeps, GivenStay, IsMade, IsMadeOn, IsOnItsOwn, IsWithHolder, KeepsAnswers, KeepsGiven, LastBut, LendsInLine, OffRest, OpensGiven, PutsOnly, ShutGiven, ShutRest, ShutStay, StaysDialledAt, seen_in};
 ghost use Rattle.tds_relay.specs.Apart.{Alone, AloneWho, LendsAfter, LendsInTurn, UnlessServed};
 ghost use Rattle.tds_relay.specs.Asking.{HasBegun, IsUnderway, waits_of};
 ghost use Rattle.tds_relay.specs.Bodies.{AskAsBefore, AskOn, Grows, Starts, GoesFrom, body_of, going_of, held_of, standing_in};
 ghost use Rattle.tds_relay.specs.Closings.{ClosesOnly, IsWaiting, IsWho, Itself, NoKey, WhoOrWaiting, register_in};
 ghost use Rattle.tds_relay.specs.Pool.{find_number, key_of};
-ghost use Rattle.tds_relay.specs.Lent.{FirstKeeps, IsOnItsOwn, IsWithHolder, LendsInLine, PutsOnly};
 ghost use Rattle.tds_relay.specs.Few.{Few, FewBy, IsSeated, IsSeatedIf, NobodyWaits};
 ghost use Rattle.tds_relay.specs.Fronts.{MovedOn, ends_in, core_in, machine_in};
 ghost use Rattle.tds_relay.specs.Core.{IsReset, end_at, holder};
 ghost use Rattle.tds_relay.specs.Machine.{StepsOn};
-ghost use Rattle.tds_relay.specs.Lent.{AllLast, BeginsOn, IsMade, IsMadeOn, KeepsAnswers, LastBut, LastOrDeaf};
-ghost use Rattle.tds_relay.specs.Waiting.{IsUnheldOrTurnedAway, IsLentInVain, OpensOrLends};
+ghost use Rattle.tds_relay.specs.Waiting.{GoesOrWaits, IsUnheldOrTurnedAway, IsLentInVain, OpensOrLends};
 ghost use Rattle.tds_relay.specs.Queues.{names_in, queues_in};
 ghost use Rattle.tds_relay.specs.Cutting.{at_its_beginning};
 ghost use Rattle.tds_relay.specs.Reads.{Opens, OpensOne, LinksStay, answer_at, named_seen, open_at, bytes_on, link_at, opened_at, opened_seen, queue_on, seen_at, waits_on};
@@ -20,11 +19,10 @@ ghost use Rattle.tds_relay.specs.Ordering.{GrowsByOrders, OpensNew, StayOrdered,
 ghost use Rattle.tds_relay.specs.Reasons.{CannotPut, CannotStartAt, HasNoRoom, IsTurnedAwayAt, IsUnheld, ItselfFor};
 ghost use Rattle.tds_relay.specs.Sending.{IsToWrite, called_at};
 ghost use Rattle.tds_relay.specs.Coming.{MayBeginAny};
-ghost use Rattle.tds_relay.specs.Sparing.{AllGo, AllRest, AwayRest, IsHeldBack, IsUnkept, OthersRest, StartsOn, StartsThere};
+ghost use Rattle.tds_relay.specs.Sparing.{AllGo, AllRest, AwayRest, IsHeldBack, IsKept, IsUnkept, OthersRest, StartsOn, StartsThere};
 ghost use Rattle.tds_relay.specs.Taking.{IsDeaf};
 ghost use Rattle.tds_relay.specs.Ties.{LedTo, LedOn, IsReached, pool_in};
 ghost use Rattle.tds_relay.specs.Told.{TellsTheSame};
-ghost use Rattle.tds_relay.specs.Waiting.{GoesOrWaits};
 ghost use Rattle.tds_relay.specs.TokenParsers.{AllStand};
 ghost use Rattle.tds_relay.specs.Cleaning.{cleaned_in};
 
@@ -80,8 +78,7 @@ impl Relay {
         ensures opens { OnOk result (OpensOne number self.old.links.items self.new.links.items) }
         ensures names { OnOk result (names_in self.new.applications
             ≡ names_in self.old.applications) }
-        ensures stand { OnOk result (AllStand self.old.pool.service
-            self.new.pool.service) }
+        ensures stand { OnOk result (AllStand self.old.pool.service self.new.pool.service) }
         ensures goes_on { OnOk result (AllGo self.old self.new) }
         ensures starts { IsReached (pool_in self.old.pool)
             → OnOk result (StartsOn number self.old self.new) }
@@ -101,6 +98,8 @@ impl Relay {
             (PutsOnly (IsWithHolder number self.old) self.old self.new) }
         ensures lends { OnOk result (LendsAfter (holder (pool_in self.old.pool) number)
             (core_in self.old) (core_in self.new)) }
+        ensures given { OnOk result (OpensGiven number self.old self.new) }
+        ensures fresh { OnOk result (DialsNewAt self.old self.new) }
     {
         self.set_open(number);
         self.order_write_on(number)?;
@@ -133,15 +132,14 @@ impl Relay {
     }
 
     /// Asks what the application asks that holds a connection.
-    #[tactic(auto, using(crate::proofs::steps::Staying::stays_refl, crate::proofs::spared::Resting::go_refl, crate::proofs::spared::Ordered::ordered_refl))]
+    #[tactic(auto, using(crate::proofs::steps::Staying::stays_refl, crate::proofs::lending::Resting::go_refl, crate::proofs::spared::Ordered::ordered_refl))]
     fn start_on(&mut self, number: u64) -> Result<(), NoMemory>
         ensures goes { OnOk result (LedOn (pool_in self.old.pool) (pool_in self.new.pool)) }
         ensures kept { OnOk result (queues_in self.new.applications
             ≡ queues_in self.old.applications) }
         ensures moves { OnOk result (MovedOn (core_in self.old) (core_in self.new)) }
         ensures read { OnOk result (LinksStay self.old.links.items self.new.links.items) }
-        ensures stand { OnOk result (AllStand self.old.pool.service
-            self.new.pool.service) }
+        ensures stand { OnOk result (AllStand self.old.pool.service self.new.pool.service) }
         ensures goes_on { OnOk result (AllGo self.old self.new) }
         ensures waits { OnOk result ((key : ℕ)
             → key_of (find_number number (pool_in self.old.pool).holds) ≡ Some key
@@ -170,7 +168,7 @@ impl Relay {
     }
 
     /// Lends connections to those who wait, in order, while there are any.
-    #[tactic(auto, using(crate::proofs::steps::Staying::opens_refl, crate::proofs::steps::Reaching::reaches_turn, crate::proofs::steps::Reaching::reaches_turned, crate::proofs::spared::Resting::go_refl, crate::proofs::spared::Ordered::ordered_refl, crate::proofs::spared::Apart::unserved_refl, crate::proofs::spared::Lasting::last_start))]
+    #[tactic(auto, using(crate::proofs::steps::Staying::opens_refl, crate::proofs::steps::Reaching::reaches_turn, crate::proofs::steps::Reaching::reaches_turned, crate::proofs::lending::Resting::go_refl, crate::proofs::spared::Ordered::ordered_refl, crate::proofs::spared::Apart::unserved_refl, crate::proofs::spared::Lasting::last_start))]
     pub(super) fn serve_line(&mut self) -> Result<(), NoMemory>
         ensures goes { OnOk result (LedOn (pool_in self.old.pool) (pool_in self.new.pool)) }
         ensures kept { OnOk result (queues_in self.new.applications
@@ -180,8 +178,7 @@ impl Relay {
         ensures few { OnOk result (Few self.old.most self.old.links.items
             self.new.links.items) }
         ensures opens { OnOk result (Opens self.old.links.items self.new.links.items) }
-        ensures stand { OnOk result (AllStand self.old.pool.service
-            self.new.pool.service) }
+        ensures stand { OnOk result (AllStand self.old.pool.service self.new.pool.service) }
         ensures goes_on { OnOk result (AllGo self.old self.new) }
         ensures apart { OnOk result (UnlessServed (core_in self.old) (core_in self.new)) }
         ensures lends { OnOk result (LendsInTurn (pool_in self.old.pool).line
@@ -201,6 +198,9 @@ impl Relay {
             → OnOk result (LendsInLine self.old self.new) }
         ensures aside { IsReached (pool_in self.old.pool)
             → OnOk result (AwayRest self.old self.new) }
+        ensures given { OnOk result (KeepsGiven self.old self.new) }
+        ensures fresh { OnOk result (StaysDialledAt self.old self.new) }
+        ensures still { OnOk result (ShutGiven self.old self.new) }
     {
         let waiting = self.pool.waiting();
         'line: for turn in 0..waiting {
@@ -228,8 +228,7 @@ impl Relay {
             → waits_of (get self.old.applications served.hold.key) ≡ Some whole
             → OnOk result (IsUnderway whole self.new.links.items served.hold.key
             (core_in self.new)) }
-        ensures stand { OnOk result (AllStand self.old.pool.service
-            self.new.pool.service) }
+        ensures stand { OnOk result (AllStand self.old.pool.service self.new.pool.service) }
         ensures goes_on { OnOk result (AllGo self.old self.new) }
         ensures alone { OnOk result (Alone served.hold.key (core_in self.old)
             (core_in self.new)) }
@@ -256,6 +255,12 @@ impl Relay {
             → OnOk result (IsOnItsOwn served.hold.key self.old self.new) }
         ensures others { IsReached (pool_in self.old.pool)
             → OnOk result (OthersRest served.hold.key self.old self.new) }
+        ensures given { (last : ℕ) → (served.had ≡ false → last < served.hold.number)
+            → OnOk result (GivenStay last Any (seen_in self.old.links.items) self.old.links.items
+            self.new.links.items) }
+        ensures fresh { OnOk result (StaysDialledAt self.old self.new) }
+        ensures still { (last : ℕ) → (served.had ≡ false → last < served.hold.number)
+            → OnOk result (ShutStay (λ n. n ≤ last) self.old.links.items self.new.links.items) }
     {
         let number = served.hold.number;
         if served.had {
@@ -295,7 +300,7 @@ impl Relay {
 
     /// Asks what an application asks, where its connection is open, and the server has acknowledged there
     /// what it took back.
-    #[tactic(auto, using(crate::proofs::steps::Reaching::reaches_turn, crate::proofs::steps::Reaching::reaches_turned, crate::proofs::steps::Underway::of_none, crate::proofs::steps::Underway::of_over, crate::proofs::steps::Underway::drains, crate::proofs::bytes::Calls::stand_on, crate::proofs::spared::Resting::others_refl, crate::proofs::spared::Ordered::ordered_refl, crate::proofs::spared::Apart::alone_refl))]
+    #[tactic(auto, using(crate::proofs::steps::Reaching::reaches_turn, crate::proofs::steps::Reaching::reaches_turned, crate::proofs::steps::Underway::of_none, crate::proofs::steps::Underway::of_over, crate::proofs::steps::Underway::drains, crate::proofs::bytes::Calls::stand_on, crate::proofs::lending::Resting::others_refl, crate::proofs::spared::Ordered::ordered_refl, crate::proofs::spared::Apart::alone_refl))]
     pub(super) fn start(&mut self, key: usize) -> Result<(), NoMemory>
         ensures goes { OnOk result (LedOn (pool_in self.old.pool) (pool_in self.new.pool)) }
         ensures kept { OnOk result (queues_in self.new.applications
@@ -307,8 +312,7 @@ impl Relay {
         ensures underway { (whole : Bool) → waits_of (get self.old.applications key) ≡ Some whole
             → OnOk result (IsUnderway whole self.new.links.items key (core_in self.new)) }
         ensures read { OnOk result (LinksStay self.old.links.items self.new.links.items) }
-        ensures stand { OnOk result (AllStand self.old.pool.service
-            self.new.pool.service) }
+        ensures stand { OnOk result (AllStand self.old.pool.service self.new.pool.service) }
         ensures body { OnOk result (Starts (body_of key self.old) (body_of key self.new)) }
         ensures others { IsReached (pool_in self.old.pool)
             → OnOk result (OthersRest key self.old self.new) }
@@ -330,6 +334,9 @@ impl Relay {
             (IsOnItsOwn key self.old self.new) }
         ensures puts { OnOk result (GoesFrom (standing_in key self.old)
             (standing_in key self.new)) }
+        ensures stays { OnOk result (IsKept (body_of key self.new)
+            → body_of key self.new ≡ body_of key self.old) }
+        ensures shut { OnOk result (ShutRest self.old.links.items self.new.links.items) }
     {
         let Some(application) = self.applications.get(key) else {
             return Ok(());
@@ -366,8 +373,7 @@ impl Relay {
         ensures moves { OnOk result (MovedOn (core_in self.old) (core_in self.new)) }
         ensures over { OnOk result (IsDeaf (end_at (ends_in self.new.applications) key)) }
         ensures read { OnOk result (LinksStay self.old.links.items self.new.links.items) }
-        ensures stand { OnOk result (AllStand self.old.pool.service
-            self.new.pool.service) }
+        ensures stand { OnOk result (AllStand self.old.pool.service self.new.pool.service) }
         ensures rests { IsReached (pool_in self.old.pool)
             → OnOk result (AllRest self.old self.new) }
         ensures alone { OnOk result (Alone key (core_in self.old) (core_in self.new)) }
@@ -380,6 +386,7 @@ impl Relay {
         ensures opening { opens_in self.new.orders.items ≡ opens_in self.old.orders.items }
         ensures asks { OnOk result (AskOn self.old.applications self.new.applications) }
         ensures own { OnOk result (IsOnItsOwn key self.old self.new) }
+        ensures off { OnOk result (OffRest number self.old.links.items self.new.links.items) }
     {
         self.lose_own(key, number)?;
         self.end(key)

@@ -1,5 +1,6 @@
 //! How many connections there may be.
 ghost use Rattle.std.specs.Prelude.{◌≡◌, OnOk, false, true};
+ghost use Rattle.tds_relay.specs.Lent.{DialsNewAt, KeepsGiven};
 ghost use Rattle.tds_relay.specs.Apart.{LendsInTurn, UnlessServed};
 ghost use Rattle.tds_relay.specs.Cleaning.{cleaned_in};
 ghost use Rattle.tds_relay.specs.Closings.{ClosesOnly, IsWaiting, NoKey};
@@ -47,6 +48,8 @@ impl Relay {
         ensures many { OnOk result (GrowsByOrders self.old self.new) }
         ensures puts { IsReached (pool_in self.old.pool)
             → OnOk result (PutsOnly NoKey self.old self.new) }
+        ensures given { OnOk result (KeepsGiven self.old self.new) }
+        ensures fresh { OnOk result (DialsNewAt self.old self.new) }
     {
         self.most = most;
         self.serve_line()

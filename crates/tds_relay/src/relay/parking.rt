@@ -1,5 +1,6 @@
 //! Applications that are parked: each is parted from its connection at rest, for those who wait.
 ghost use Rattle.std.specs.Prelude.{◌≡◌, OnOk, IfOk, false, true, Some};
+ghost use Rattle.tds_relay.specs.Lent.{DialsNewAt, KeepsGiven};
 ghost use Rattle.tds_relay.specs.Apart.{LendsInTurn, UnlessServed};
 ghost use Rattle.tds_relay.specs.Cleaning.{CountsHold, CountsSinceEnd, WaitsSinceEnd, cleaned_in};
 ghost use Rattle.tds_relay.specs.Closings.{ClosesOnly, IsWaiting, register_in};
@@ -31,7 +32,7 @@ impl Relay {
     ///
     /// It stays, and its next request waits for a connection like that of who has come. What its session has of
     /// its own beside is for the caller to know: a database, a table, a setting is gone with the connection.
-    #[tactic(auto, using(crate::proofs::steps::Staying::opens_refl, crate::proofs::steps::Stepping::no_steps, crate::proofs::spared::Closings::closes_refl, crate::proofs::spared::Few::none_refl, crate::proofs::spared::Resting::go_refl, crate::proofs::spared::Ordered::ordered_refl))]
+    #[tactic(auto, using(crate::proofs::steps::Staying::opens_refl, crate::proofs::steps::Stepping::no_steps, crate::proofs::spared::Closings::closes_refl, crate::proofs::spared::Few::none_refl, crate::proofs::lending::Resting::go_refl, crate::proofs::spared::Ordered::ordered_refl))]
     pub fn park(&mut self, key: usize) -> Result<bool, NoMemory>
         ensures is { IfOk result (λ is. is ≡ may_park_in self.old key) }
         ensures nothing { IfOk result (λ is. is ≡ false → self.new ≡ self.old) }
@@ -76,6 +77,8 @@ impl Relay {
         ensures puts { IsReached (pool_in self.old.pool) → OnOk result (PutsOnly
             (λ number. holder (pool_in self.old.pool) number ≡ Some key)
             self.old self.new) }
+        ensures given { OnOk result (KeepsGiven self.old self.new) }
+        ensures fresh { OnOk result (DialsNewAt self.old self.new) }
     {
         if !self.may_park(key) {
             return Ok(false);

@@ -1,5 +1,6 @@
 //! What goes on of requests, to the connections that their applications hold.
 ghost use Rattle.std.specs.Prelude.{◌≡◌, IfOk, OnOk, Some, false, true};
+ghost use Rattle.tds_relay.specs.Lent.{OffHoldRests};
 ghost use Rattle.tds_relay.specs.Apart.{Alone};
 ghost use Rattle.tds_relay.specs.Asking.{IsUnderway, SendsOn};
 ghost use Rattle.tds_relay.specs.Bodies.{AskAsBefore, ClientPuts, Grows, PutsOn, body_of, going_of, held_of};
@@ -55,6 +56,7 @@ impl Relay {
         ensures opening { opens_in self.new.orders.items ≡ opens_in self.old.orders.items }
         ensures own { IsReached (pool_in self.old.pool) → OnOk result
             (IsOnItsOwn key self.old self.new) }
+        ensures off { OnOk result (OffHoldRests key self.old self.new) }
     {
         let Some(hold) = self.pool.hold_of(key) else {
             return self.end(key);
@@ -77,7 +79,7 @@ impl Relay {
     }
 
     /// Puts what is kept of a request on its connection.
-    #[tactic(auto, using(crate::proofs::steps::Queueing::kept_more, crate::proofs::steps::Queueing::queues_kept, crate::proofs::steps::Fronts::ends_more, crate::proofs::steps::Fronts::ends_kept, crate::proofs::steps::Underway::of_none, crate::proofs::spared::Resting::others_refl, crate::proofs::spared::Ordered::ordered_refl, crate::proofs::spared::Apart::alone_refl))]
+    #[tactic(auto, using(crate::proofs::steps::Queueing::kept_more, crate::proofs::steps::Queueing::queues_kept, crate::proofs::steps::Fronts::ends_more, crate::proofs::steps::Fronts::ends_kept, crate::proofs::steps::Underway::of_none, crate::proofs::lending::Resting::others_refl, crate::proofs::spared::Ordered::ordered_refl, crate::proofs::spared::Apart::alone_refl))]
     pub(super) fn put_held(&mut self, key: usize, whole: bool) -> Result<(), NoMemory>
         ensures goes { OnOk result (LedOn (pool_in self.old.pool) (pool_in self.new.pool)) }
         ensures kept { OnOk result (queues_in self.new.applications
@@ -106,6 +108,7 @@ impl Relay {
         ensures opening { opens_in self.new.orders.items ≡ opens_in self.old.orders.items }
         ensures own { IsReached (pool_in self.old.pool) → OnOk result
             (IsOnItsOwn key self.old self.new) }
+        ensures off { OnOk result (OffHoldRests key self.old self.new) }
     {
         let Some(application) = self.applications.get_mut(key) else {
             return Ok(());

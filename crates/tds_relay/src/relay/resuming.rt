@@ -1,6 +1,7 @@
 //! What an application that took its request back asks next, once the server has acknowledged that.
 ghost use Rattle.std.specs.Prelude.{◌≡◌, ℕ, false, true, None, OnOk, Some};
 ghost use Rattle.tds_packet.specs.declared.status.Reset.TheVariants.{KeepTransaction};
+ghost use Rattle.tds_relay.specs.Lent.{ShutElse};
 ghost use Rattle.tds_relay.specs.Apart.{SparesOthers};
 ghost use Rattle.tds_relay.specs.Bodies.{body_of};
 ghost use Rattle.tds_relay.specs.Cleaning.{cleaned_in};
@@ -8,13 +9,14 @@ ghost use Rattle.tds_relay.specs.Closings.{ClosesOnly, IsWho, register_in};
 ghost use Rattle.tds_relay.specs.Coming.{AllAlong, MayBeginAny};
 ghost use Rattle.tds_relay.specs.Fronts.{Moved, ends_in, core_in};
 ghost use Rattle.tds_relay.specs.Core.{AsksFor, IfOpen, IfWhose, IsBegun, MayPart, end_at, holder};
+ghost use Rattle.tds_relay.specs.Lent.{FirstKeeps};
 ghost use Rattle.tds_relay.specs.Ordering.{StayOrdered, opens_in};
 ghost use Rattle.tds_relay.specs.Queues.{queues_in};
 ghost use Rattle.tds_relay.specs.Reads.{LinksStay};
 ghost use Rattle.tds_relay.specs.Reasons.{CannotMove, ResumesNotAt};
 ghost use Rattle.tds_relay.specs.Sparing.{IsKept, OffGo};
 ghost use Rattle.tds_relay.specs.Ties.{Connection, LedTo, IsReached, pool_in};
-ghost use Rattle.tds_relay.specs.Waiting.{Resumes, StandsInLine};
+ghost use Rattle.tds_relay.specs.Waiting.{IsOnOrHeld, KeepsWaiting, Resumes, StandsInLine};
 ghost use Rattle.tds_relay.specs.TokenParsers.{AllStand};
 ghost use Rattle.tds_relay.specs.Few.{IsSeated};
 
@@ -47,6 +49,12 @@ impl Relay {
         ensures counts { cleaned_in self.new ≡ cleaned_in self.old }
         ensures opening { opens_in self.new.orders.items ≡ opens_in self.old.orders.items }
         ensures apart { OnOk result (OffGo number (Some key) self.old self.new) }
+        ensures keeps { IsReached (pool_in self.old.pool) → OnOk result
+            (FirstKeeps (IsOnOrHeld number (Some key) self.old) self.old self.new) }
+        ensures rests { IsReached (pool_in self.old.pool)
+            → OnOk result (KeepsWaiting number self.old self.new key) }
+        ensures still { OnOk result (ShutElse number self.old.links.items
+            self.new.links.items) }
     {
         if self.asks_to_keep(key) {
             self.keep(number, key)
@@ -94,6 +102,12 @@ impl Relay {
         ensures counts { cleaned_in self.new ≡ cleaned_in self.old }
         ensures opening { opens_in self.new.orders.items ≡ opens_in self.old.orders.items }
         ensures apart { OnOk result (OffGo number (Some key) self.old self.new) }
+        ensures keeps { IsReached (pool_in self.old.pool) → OnOk result
+            (FirstKeeps (IsOnOrHeld number (Some key) self.old) self.old self.new) }
+        ensures rests { IsReached (pool_in self.old.pool)
+            → OnOk result (KeepsWaiting number self.old self.new key) }
+        ensures still { OnOk result (ShutElse number self.old.links.items
+            self.new.links.items) }
     {
         match self.pool.renew(key)? {
             Renewed::Kept(hold) => {
@@ -133,6 +147,11 @@ impl Relay {
         ensures counts { cleaned_in self.new ≡ cleaned_in self.old }
         ensures opening { opens_in self.new.orders.items ≡ opens_in self.old.orders.items }
         ensures apart { OnOk result (OffGo number None self.old self.new) }
+        ensures keeps { OnOk result
+            (FirstKeeps (λ other. other ≡ number) self.old self.new) }
+        ensures frees { OnOk result (holder (pool_in self.new.pool) number ≡ None) }
+        ensures still { OnOk result (ShutElse number self.old.links.items
+            self.new.links.items) }
     {
         if !self.may_replace(number) {
             return self.lose(number);

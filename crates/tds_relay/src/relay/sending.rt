@@ -10,7 +10,7 @@ ghost use Rattle.tds_relay.specs.Pool.{find_number};
 ghost use Rattle.tds_relay.specs.Fronts.{MovedOn, ends_in, core_in, machine_in};
 ghost use Rattle.tds_relay.specs.Core.{holder};
 ghost use Rattle.tds_relay.specs.Machine.{Steps};
-ghost use Rattle.tds_relay.specs.Lent.{AllLast, KeepsAnswers, MayForget, OthersKeepAt};
+ghost use Rattle.tds_relay.specs.Lent.{AllLast, FirstKeeps, KeepsAnswers, MayForget, OthersKeepAt};
 ghost use Rattle.tds_relay.specs.Ordering.{StayOrdered, opens_in};
 ghost use Rattle.tds_relay.specs.Queues.{change, queue_at, queues_in, unsent_of, without_first};
 ghost use Rattle.tds_relay.specs.Reasons.{HasNoRoom, IsOverfull, ItselfFor};
@@ -197,6 +197,10 @@ impl Relay {
             → OnOk result (IsSeatedBut number false self.new) }
         ensures counts { cleaned_in self.new ≡ cleaned_in self.old }
         ensures opening { opens_in self.new.orders.items ≡ opens_in self.old.orders.items }
+        ensures keeps { OnOk result
+            (FirstKeeps (λ other. other ≡ number) self.old self.new) }
+        ensures holds { OnOk result (MayForget number self.old.pool.holds.items
+            self.new.pool.holds.items) }
     {
         let fits = self.fits_on(number)?;
         if fits { Ok(()) } else { self.lose(number) }

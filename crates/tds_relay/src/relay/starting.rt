@@ -1,6 +1,7 @@
 //! Requests that have waited: a reset that one asks for is done with it.
 ghost use Rattle.std.specs.Prelude.{◌≡◌, ◌⊎◌, ℕ, Bool, IsSome, None, OnOk, Some, false, true};
 ghost use Rattle.slab.specs.Slab.{get};
+ghost use Rattle.tds_relay.specs.Lent.{ShutRest};
 ghost use Rattle.tds_relay.specs.Apart.{Alone};
 ghost use Rattle.tds_relay.specs.Asking.{IsUnderway, waits_of};
 ghost use Rattle.tds_relay.specs.Bodies.{Starts, GoesFrom, body_of, standing_in};
@@ -61,6 +62,9 @@ impl Relay {
             (IsOnItsOwn key self.old self.new) }
         ensures puts { OnOk result (GoesFrom (standing_in key self.old)
             (standing_in key self.new)) }
+        ensures stays { OnOk result (IsKept (body_of key self.new)
+            → body_of key self.new ≡ body_of key self.old) }
+        ensures shut { OnOk result (ShutRest self.old.links.items self.new.links.items) }
     {
         let Some(hold) = self.pool.hold_of(key) else {
             return self.start(key);

@@ -1,5 +1,5 @@
-use Rattle.std.proofs.Common.{◌≡◌, ◌∙◌, refl, sym, ap, subst, rules, false}
-use Rattle.std.specs.Prelude.{Option, Some, None, ◌≢◌}
+use Rattle.std.proofs.Common.{◌≡◌, ◌∙◌, refl, sym, ap, subst, rules, false, inl, inr}
+use Rattle.std.specs.Prelude.{Option, Some, None, ◌≢◌, ℕ}
 use Rattle.tds_wire.specs.Reading.{Parser}
 use Rattle.tds_service.specs.Line as line
 use Rattle.tds_service.specs.Packets.{packet_part}
@@ -26,6 +26,8 @@ use Rattle.tds_relay.proofs.seats.Rests.{came_on, heard_stays, kept_stays}
 use Rattle.tds_relay.proofs.spared.Aside.{came_off, held_same, kept_off, led_at, lost_held}
 use Rattle.tds_relay.proofs.spared.Cleaned.{nobodys}
 use Rattle.tds_relay.specs.Holding.{Held as Holds}
+use Rattle.tds_relay.specs.Cleaning.{PutsByLease}
+use Rattle.tds_relay.proofs.lending.Leases.{came_given, if_all}
 use Rattle.tds_relay.proofs.pool.Pool.came.Goals as goal
 
 pub returns-in_ok-what-in-Finished-clause-ok : goal.returns-in_ok-what-in-Finished-clause-ok
@@ -231,3 +233,39 @@ returns-in_ok-lose-in-Fault-clause-off c =
     came_off c.args.number c.args.self.now _ c.heard.new.self (packet_part came.0 c.args.bytes.now c.args.ends) came.2.1.steps.service_is c.in-Ok.ensures.clients
     (lost_held c.args.number c.args.self.now.holds.items c.heard.new.self c.lose.new.self.service c.in_ok-lose-in-Fault.ensures.clients)
     (λ key h its differs. ap (find_key key) c.in_ok-lose-in-Fault.ensures.holds ∙ kept_off c.args.number key h c.args.self.now.holds.items its differs)
+
+pub returns-in-Err-clause-holds : goal.returns-in-Err-clause-holds
+returns-in-Err-clause-holds c = ok_if c.unheard.result _ (inl refl)
+
+pub returns-in-More-clause-holds : goal.returns-in-More-clause-holds
+returns-in-More-clause-holds c = inl refl
+
+pub returns-in_ok-what-in-Finished-clause-holds : goal.returns-in_ok-what-in-Finished-clause-holds
+returns-in_ok-what-in-Finished-clause-holds c = inl (ap (λ (hs : Holds). hs.items) c.settle.ensures.holds)
+
+pub returns-in_ok-what-in-Acknowledged-clause-holds : goal.returns-in_ok-what-in-Acknowledged-clause-holds
+returns-in_ok-what-in-Acknowledged-clause-holds c = inl (ap (λ (hs : Holds). hs.items) c.settle-in-Acknowledged.ensures.holds)
+
+pub returns-in_ok-lose-in-Fault-clause-holds : goal.returns-in_ok-lose-in-Fault-clause-holds
+returns-in_ok-lose-in-Fault-clause-holds c = inr c.in_ok-lose-in-Fault.ensures.holds
+
+pub returns-in-Err-clause-leases : goal.returns-in-Err-clause-leases
+returns-in-Err-clause-leases c = if_all c.unheard.result (λ heard left. inl refl)
+
+pub returns-in-More-clause-leases : goal.returns-in-More-clause-leases
+returns-in-More-clause-leases c = λ left. inl refl
+
+pub returns-in_ok-what-in-Finished-clause-leases : goal.returns-in_ok-what-in-Finished-clause-leases
+returns-in_ok-what-in-Finished-clause-leases c =
+    let came = c.in-Ok.ensures.ok in
+    subst (λ (n : ℕ). c.in_ok-what-in-Finished.what ≢ whats.Closed → PutsByLease c.args.out.now.items c.settle.new.out.items n c.settle.new.self.service.given)
+    (came_given (service_in c.args.self.now.service) (service_in c.heard.new.self) c.args.number (packet_part came.0 c.args.bytes.now c.args.ends) came.2.1.steps.service_is) c.in_ok-what-in-Finished.ensures.leases
+
+pub returns-in_ok-what-in-Acknowledged-clause-leases : goal.returns-in_ok-what-in-Acknowledged-clause-leases
+returns-in_ok-what-in-Acknowledged-clause-leases c =
+    let came = c.in-Ok.ensures.ok in
+    subst (λ (n : ℕ). c.in_ok-what-in-Acknowledged.what ≢ whats.Closed → PutsByLease c.args.out.now.items c.settle-in-Acknowledged.new.out.items n c.settle-in-Acknowledged.new.self.service.given)
+    (came_given (service_in c.args.self.now.service) (service_in c.heard.new.self) c.args.number (packet_part came.0 c.args.bytes.now c.args.ends) came.2.1.steps.service_is) c.in_ok-what-in-Acknowledged.ensures.leases
+
+pub returns-in_ok-lose-in-Fault-clause-leases : goal.returns-in_ok-lose-in-Fault-clause-leases
+returns-in_ok-lose-in-Fault-clause-leases c = λ left. absurd (left refl)

@@ -1,15 +1,15 @@
-use Rattle.std.proofs.Common.{is_some, ◌≡◌, ◌∷◌, ◌++◌, [], true, rules, ◌∙◌, ap, refl}
+use Rattle.std.proofs.Common.{is_some, ◌≡◌, ◌∷◌, ◌++◌, [], rules, ap, refl}
 use Rattle.std.specs.Prelude.{Some}
 use Rattle.tds_service.specs.Table.{service_in}
 use Rattle.tds_relay.specs.Pool.{find_key, holding, ticket_in, without_lease}
-use Rattle.tds_relay.specs.Ties.{pool_in, lost_by}
+use Rattle.tds_relay.specs.Ties.{pool_in}
 use Rattle.tds_relay.proofs.steps.Made.{renewed}
 use Rattle.tds_service.specs.Service as calls
-use Rattle.tds_relay.proofs.bytes.Walking.{keeps_stand, same_stand, led_on}
+use Rattle.tds_relay.proofs.bytes.Walking.{keeps_stand, same_stand}
 use Rattle.tds_service.specs.Service.{Service}
 use Rattle.tds_relay.proofs.seats.Pools.{both_keep}
-use Rattle.tds_relay.proofs.seats.Rests.{call_keeps, kept_stays, same_keeps, then_forgot}
-use Rattle.tds_relay.proofs.spared.Aside.{led_at, led_kept, renewed_others, unkept_others}
+use Rattle.tds_relay.proofs.seats.Rests.{call_keeps, same_keeps}
+use Rattle.tds_relay.proofs.spared.Aside.{renewed_others}
 use Rattle.tds_relay.proofs.spared.Held.{action_others, action_refl}
 use Rattle.std.proofs.lemmas.Bool.{eqb-true}
 use Rattle.tds_relay.proofs.held.Lists.{found_key}

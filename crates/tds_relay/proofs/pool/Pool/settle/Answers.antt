@@ -1,4 +1,4 @@
-use Rattle.std.proofs.Common.{◌≡◌, ◌∙◌, ap, rules, ℕ, subst, sym, Bool}
+use Rattle.std.proofs.Common.{◌≡◌, ◌∙◌, ap, rules, ℕ, subst, sym, Bool, inl, inr, refl}
 use Rattle.std.specs.Prelude.{Option, None}
 use Rattle.tds_service.specs.Table.{service_in}
 use Rattle.tds_relay.specs.declared.pool.Hold.{Hold}
@@ -9,6 +9,7 @@ use Rattle.tds_relay.specs.Few.{SeatStays}
 use Rattle.tds_relay.proofs.seats.Counting.{stays_refl}
 use Rattle.tds_relay.proofs.seats.Rests.{if_left, made_stays}
 use Rattle.tds_relay.proofs.spared.Aside.{drained_held}
+use Rattle.tds_relay.proofs.lending.Leases.{is_left_there}
 use Rattle.tds_relay.proofs.pool.Pool.settle.Goals as goal
 
 pub returns-in_ok-is_there-in-None-find_lease-clause-settles : goal.returns-in_ok-is_there-in-None-find_lease-clause-settles
@@ -39,3 +40,13 @@ returns-in_ok-is_there-in-None-clause-seats c = λ led on left.
 
 pub returns-in_ok-is_there-in-None-clause-aside : goal.returns-in_ok-is_there-in-None-clause-aside
 returns-in_ok-is_there-in-None-clause-aside c = drained_held c.args.number c.args.self.now.holds.items c.args.self.now.service c.clean.new.service c.in_ok-is_there-in-None.ensures.aside
+
+pub returns-in-Some-find_lease-clause-leases : goal.returns-in-Some-find_lease-clause-leases
+returns-in-Some-find_lease-clause-leases c = λ left. inl refl
+
+pub returns-in_ok-is_there-in-None-find_lease-clause-leases : goal.returns-in_ok-is_there-in-None-find_lease-clause-leases
+returns-in_ok-is_there-in-None-find_lease-clause-leases c = λ left. inl refl
+
+pub returns-in_ok-is_there-in-None-clause-leases : goal.returns-in_ok-is_there-in-None-clause-leases
+returns-in_ok-is_there-in-None-clause-leases c = λ left.
+    inr (c.in_ok-is_there-in-None.ensures.leases (is_left_there c.in_ok-is_there-in-None.is_there c.what_of-in-None.result c.what_of-in-None.ensures left))

@@ -9,6 +9,7 @@ use Rattle.tds_relay.proofs.bytes.Walking.{keeps_stand, same_stand}
 use Rattle.tds_relay.proofs.spared.Aside.{above_given, called_for, forgot_for, lent_given, refl_for, refused_for, same_for}
 use Rattle.tds_relay.proofs.spared.Cleaned.{cleans, cleans_all}
 use Rattle.tds_relay.proofs.spared.Marking.{cleans_full}
+use Rattle.tds_relay.proofs.lending.Leases.{cleaned_given}
 use Rattle.tds_relay.proofs.pool.leaving.clean.Goals as goal
 
 pub returns-in_default-finish-clause-makes : goal.returns-in_default-finish-clause-makes
@@ -94,3 +95,10 @@ returns-clause-cleans c = λ led there.
     cleans_all c.args.text.now c.in-Ok.lent.lease c.clean.new.self c.ask.new.self c.put.new.self c.finish.new.self c.args.out.now.items c.put.new.out.items c.finish.new.out.items opens
     (cleans_full c.args.number c.in-Ok.lent.lease c.in-Ok.lent.number c.in-Ok.lent.had c.args.service.now c.clean.new.self opens.0 led c.in-Ok.ensures.ok.service_is c.in-Ok.ensures.ok.reply_is opens.1.was)
     c.in-Ok-put.ensures.puts c.in-Ok-finish.ensures.ends
+
+pub returns-clause-leases : goal.returns-clause-leases
+returns-clause-leases c = λ there.
+    let lease = c.in-Ok.lent.lease in
+    cleaned_given (service_in c.args.service.now) (service_in c.clean.new.self) (service_in c.ask.new.self) (service_in c.put.new.self) (service_in c.finish.new.self) c.args.number lease c.in-Ok.lent.number
+    (puts_on lease c.ask.new.self c.args.text.now) (puts_on lease c.put.new.self []) c.in-Ok.lent.had c.in-Ok.ensures.ok.service_is c.in-Ok.ensures.ok.reply_is c.in-Ok-ask.ensures.ok.service_is c.in-Ok-put.ensures.ok.service_is
+    c.in-Ok-finish.ensures.ok.service_is

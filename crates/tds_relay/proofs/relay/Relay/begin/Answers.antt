@@ -22,11 +22,11 @@ use Rattle.tds_relay.proofs.spared.Closings.{closes_both, closes_nobody, closes_
 use Rattle.tds_relay.proofs.spared.Sending.{kept_refl}
 use Rattle.tds_relay.proofs.spared.Shutting.{closes_kept, unclosed}
 use Rattle.tds_relay.proofs.spared.Speaking.{written_waited}
-use Rattle.tds_relay.proofs.spared.Resting.{others_on, others_refl, written_rest}
+use Rattle.tds_relay.proofs.lending.Resting.{others_on, others_refl, written_rest}
 use Rattle.tds_relay.specs.Asking.{IsTakenBack}
 use Rattle.tds_relay.specs.Places.{HasNoTransaction}
 use Rattle.tds_relay.proofs.spared.Turned.{as_refl, begun_kept, held_asks, renewed_as}
-use Rattle.tds_relay.proofs.spared.Elsewhere.{aside_own, aside_refl, aside_waits, keeps_own, keeps_waited}
+use Rattle.tds_relay.proofs.spared.Elsewhere.{aside_refl, keeps_own, keeps_waited}
 use Rattle.tds_relay.specs.Reads.{waits_on}
 use Rattle.tds_relay.proofs.steps.Still.{begins_put, begins_shut, none_shut, put_refl, put_same, spared_place}
 use Rattle.tds_relay.proofs.spared.Rightly.{deaf_right_on, held_right_on, unkept_right, waits_right_on}

@@ -5,8 +5,9 @@ use Rattle.tds_relay.proofs.steps.Fronts.{moves_does}
 use Rattle.tds_relay.proofs.steps.Reaching.{reaches_turn, reached_on}
 use Rattle.tds_relay.proofs.steps.Stepping.{no_steps, steps_moved}
 use Rattle.tds_relay.proofs.steps.Placed.{first_opens, none_there}
-use Rattle.tds_relay.proofs.spared.Resting.{go_both, none_go, go_refl}
+use Rattle.tds_relay.proofs.lending.Resting.{go_both, none_go, go_refl}
 use Rattle.tds_relay.proofs.steps.Renaming.{first_called}
+use Rattle.tds_relay.proofs.lending.Fresh.{features_kept, first_stays, size_kept}
 use Rattle.tds_relay.specs.Queues.{names_of}
 use Rattle.tds_relay.proofs.spared.Ordered.{ordered_both}
 use Rattle.tds_relay.proofs.spared.Lines.{brought_line, waited}
@@ -91,6 +92,19 @@ returns-clause-named c =
     first_called _ c.args.tag _ c.args.self.now.links.items _ _ _ (sym c.is_empty.ensures ∙ none) c.in_ok-push.ensures.items refl refl
     c.in_ok-send_unheld.ensures.read c.in_ok-serve_line.ensures.opens
 
+pub returns-clause-first : goal.returns-clause-first
+returns-clause-first c = λ reached.
+    let old = c.args.self.now in
+    let mid = c.send_unheld.new.self in
+    let left = c.in-Some.left in
+    let lent : IsLentBy left.number (pool_in old.pool).service =
+    subst (λ (o : Option Left). IfSome o (λ (it : Left). IsLentBy it.number (pool_in old.pool).service)) c.in-Some.is c.in_ok-left.ensures.lent in
+    let one : left.number ≤ (pool_in c.bring.new.self).service.last = brought_low (pool_in old.pool) (pool_in c.bring.new.self) c.in_ok-left.ensures.turns.0 c.in_ok-left.ensures.turns.1 left.number _ _ reached lent c.in_ok-left.ensures.turns.2 in
+    let two : (pool_in c.bring.new.self).service.last ≤ (pool_in mid.pool).service.last = on_last (pool_in c.bring.new.self) (pool_in mid.pool) c.in_ok-send_unheld.ensures.goes in
+    let empty : c.is_empty.result ≡ true = search rules in
+    first_stays c.args.tag left.number old mid c.serve_line.new.self _ c.push.new.self.items (none_there old.links.items (sym c.is_empty.ensures ∙ empty)) c.in_ok-push.ensures.items c.in_ok-link.ensures.number refl refl c.in_ok-link.ensures.made
+    c.in_ok-send_unheld.ensures.read (omega (arith, one, two)) c.in_ok-serve_line.ensures.given (size_kept _ _ c.in_ok-send_unheld.ensures.closes.told) (features_kept _ _ c.in_ok-send_unheld.ensures.closes.told) c.in_ok-serve_line.ensures.fresh
+
 pub returns-clause-ordered : goal.returns-clause-ordered
 returns-clause-ordered c = ordered_both _ _ _ c.in_ok-send_unheld.ensures.ordered c.in_ok-serve_line.ensures.ordered
 
@@ -102,7 +116,7 @@ returns-clause-closes c =
     let old = pool_in c.args.self.now.pool in
     let mid = pool_in c.send_unheld.new.self.pool in (
       c.push.new.self.items,
-      inr (_, c.in_ok-push.ensures.items, refl, refl, c.in_ok-link.ensures.nothing, c.in_ok-link.ensures.made),
+      inr (_, c.in_ok-push.ensures.items, refl, refl, c.in_ok-link.ensures.made),
       closes_both (IsWaiting old.line) _ _ _ (closes_nobody (IsWaiting old.line) _ _ c.in_ok-send_unheld.ensures.closes)
           (closes_more (IsWaiting mid.line) (IsWaiting old.line) _ _
           (λ key. waited Neither old mid key (λ none. none) (λ from h. c.in_ok-send_unheld.ensures.goes Neither from (reaches_turn Neither from _ _ _ _ _ c.in_ok-left.ensures.turns.2 refl h)))
@@ -216,10 +230,12 @@ returns-clause-cleaned c = λ reached.
     ap (find_number left.number) (brought_holds (pool_in old.pool) (pool_in c.bring.new.self) c.in_ok-left.ensures.turns.0 c.in_ok-left.ensures.turns.1 c.in_ok-left.ensures.turns.2.pool_is)
     ∙ lent_unheld (pool_in old.pool) lent.0 left.number lent.1 reached lent.2 in
     let waits = first_waits left.number old.links.items c.push.new.self.items _ (none_there old.links.items (sym c.is_empty.ensures ∙ empty)) c.in_ok-push.ensures.items c.in_ok-link.ensures.number c.in_ok-link.ensures.nothing in
+    let one : left.number ≤ (pool_in c.bring.new.self).service.last = brought_low (pool_in old.pool) (pool_in c.bring.new.self) c.in_ok-left.ensures.turns.0 c.in_ok-left.ensures.turns.1 left.number _ _ reached lent c.in_ok-left.ensures.turns.2 in
+    let two : (pool_in c.bring.new.self).service.last ≤ (pool_in mid.pool).service.last = on_last (pool_in c.bring.new.self) (pool_in mid.pool) c.in_ok-send_unheld.ensures.goes in
     since_brought (IsTooLong old.size) (HasNoRoom left.number c.bring.new.out.items c.push.new.self.items) left.number old mid c.serve_line.new.self
     (too_long old.size left.number old.features _ old.links.items c.push.new.self.items _ _ (none_there old.links.items (sym c.is_empty.ensures ∙ empty)) c.in_ok-push.ensures.items c.in_ok-link.ensures.number c.in_ok-link.ensures.made
     c.in_ok-link.ensures.nothing (search rules) puts)
-    (c.in_ok-send_unheld.ensures.cleaned unheld (subst IsSome (sym waits) refl)) c.in_ok-serve_line.ensures.opens c.serve_line.ensures.counts
+    (c.in_ok-send_unheld.ensures.cleaned unheld (subst IsSome (sym waits) refl)) (c.in_ok-serve_line.ensures.given.fills left.number (omega (arith, one, two))) c.serve_line.ensures.counts
     c.in_ok-send_unheld.ensures.closes.were_open
     (last_more (IsWaiting (pool_in mid.pool).line) (IsWaiting (pool_in old.pool).line) _ _
     (λ key. waited Neither (pool_in old.pool) (pool_in mid.pool) key (λ none. none) (λ from h. c.in_ok-send_unheld.ensures.goes Neither from (reaches_turn Neither from _ _ _ _ _ c.in_ok-left.ensures.turns.2 refl h)))

@@ -21,8 +21,12 @@ use Rattle.tds_relay.proofs.spared.Opening.{goes_last, opens_new_on, opens_same,
 use Rattle.tds_relay.proofs.spared.Off.{served_off}
 use Rattle.tds_relay.proofs.spared.Counted.{lost_served}
 use Rattle.std.proofs.Common.{◌≡◌, ◌∙◌, None, Some, sym}
-use Rattle.tds_relay.proofs.spared.Drained.{served_alone}
+use Rattle.tds_relay.proofs.lending.Drained.{served_alone}
 use Rattle.tds_relay.specs.Reads.{waits_on}
+use Rattle.tds_relay.proofs.lending.Firsts.{came_puts}
+use Rattle.tds_relay.proofs.lending.Dialled.{hears_served}
+use Rattle.tds_relay.proofs.lending.Fresh.{features_kept, new_behind, size_kept}
+use Rattle.tds_relay.proofs.lending.Stilled.{still_served}
 use Rattle.tds_relay.proofs.relay.Relay.came.Goals as goal
 
 pub returns-clause-steps : goal.returns-clause-steps
@@ -57,7 +61,15 @@ returns-clause-wakes c =
 pub returns-clause-closes : goal.returns-clause-closes
 returns-clause-closes c =
     closes_done_on c.serve_line.result (IsLentInVain c.hear_all.new.self) (HeardFor c.args.number c.args.piece.now c.args.self.now) (register_in c.args.self.now) (register_in c.hear_all.new.self) (register_in c.serve_line.new.self)
-    (λ key lent seated. InLine c.hear_all.new.self c.in_ok-hear_all.ensures.streams c.in_ok-hear_all.ensures.others lent) c.serve_line.ensures.vain c.serve_line.ensures.kept c.in_ok-hear_all.ensures.closes
+    (λ key lent seated. InLine c.hear_all.new.self c.in_ok-hear_all.ensures.streams
+    (record {
+      opens = c.in_ok-hear_all.ensures.others;
+      goes = c.in_ok-hear_all.ensures.apart;
+      keeps = c.in_ok-hear_all.ensures.keeps seated.reached;
+      cleans = c.in_ok-hear_all.ensures.cleans seated.reached;
+      rests = c.in_ok-hear_all.ensures.rests seated;
+    })
+    lent) c.serve_line.ensures.vain c.serve_line.ensures.kept c.in_ok-hear_all.ensures.closes
 
 pub returns-clause-few : goal.returns-clause-few
 returns-clause-few c = few_behind c.serve_line.result _ _ _ _ _ (most_kept _ _ (c.in_ok-hear_all.ensures.closes.told)) (c.in_ok-hear_all.ensures.none) c.serve_line.ensures.few
@@ -96,6 +108,25 @@ returns-clause-goes c = ok_more c.serve_line.result _ _ (λ g from h. g (Connect
 
 pub returns-clause-cleans : goal.returns-clause-cleans
 returns-clause-cleans c = λ reached free.
-    served_alone c.serve_line.result c.args.number (waits_on c.args.number c.args.self.now.links.items) c.hear_all.new.self c.serve_line.new.self (c.in_ok-hear_all.ensures.cleans reached free)
+    served_alone c.serve_line.result c.args.number c.args.self.now.pool.service.given (waits_on c.args.number c.args.self.now.links.items) c.hear_all.new.self c.serve_line.new.self
+    (reached_on (Connection c.args.number) _ _ c.in_ok-hear_all.ensures.goes reached) c.serve_line.ensures.goes (c.in_ok-hear_all.ensures.cleans reached free)
     (λ key. (c.in_ok-hear_all.ensures.spares reached key (λ e. let u : None ≡ Some key = e in let v : ⊥ = cc in v) (λ e. let u : None ≡ Some key = sym free ∙ e in let v : ⊥ = cc in v)).0)
     c.serve_line.ensures.opens (c.serve_line.ensures.fills (reached_on (Connection c.args.number) _ _ c.in_ok-hear_all.ensures.goes reached))
+
+pub returns-clause-puts : goal.returns-clause-puts
+returns-clause-puts c = λ reached.
+    came_puts c.serve_line.result c.args.number c.args.self.now c.hear_all.new.self c.serve_line.new.self reached (c.in_ok-hear_all.ensures.spares reached) (c.in_ok-hear_all.ensures.keeps reached)
+    (c.serve_line.ensures.fills (reached_on (Connection c.args.number) _ _ c.in_ok-hear_all.ensures.goes reached))
+
+pub returns-clause-given : goal.returns-clause-given
+returns-clause-given c = hears_served c.serve_line.result c.args.number c.args.self.now c.hear_all.new.self c.serve_line.new.self c.in_ok-hear_all.ensures.given (goes_last (Connection c.args.number) (pool_in c.args.self.now.pool) (pool_in c.hear_all.new.self.pool) c.in_ok-hear_all.ensures.goes) c.serve_line.ensures.given
+
+pub returns-clause-fresh : goal.returns-clause-fresh
+returns-clause-fresh c =
+    new_behind c.serve_line.result c.args.self.now.size c.hear_all.new.self.size c.args.self.now.features c.hear_all.new.self.features c.args.self.now.links.items c.hear_all.new.self.links.items c.serve_line.new.self.links.items (size_kept _ _ c.in_ok-hear_all.ensures.closes.told) (features_kept _ _ c.in_ok-hear_all.ensures.closes.told)
+    c.in_ok-hear_all.ensures.none c.serve_line.ensures.fresh
+
+pub returns-clause-still : goal.returns-clause-still
+returns-clause-still c =
+    still_served c.serve_line.result c.args.number c.args.self.now c.hear_all.new.self c.serve_line.new.self c.in_ok-hear_all.ensures.given c.in_ok-hear_all.ensures.still
+    (goes_last (Connection c.args.number) (pool_in c.args.self.now.pool) (pool_in c.hear_all.new.self.pool) c.in_ok-hear_all.ensures.goes) c.serve_line.ensures.still

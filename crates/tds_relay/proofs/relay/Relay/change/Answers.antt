@@ -14,7 +14,7 @@ use Rattle.tds_relay.specs.Reasons.{Held, Out}
 use Rattle.tds_relay.proofs.spared.Reasons.{for_reason}
 use Rattle.tds_relay.proofs.spared.Closings.{closes_both, closes_first, closes_nobody}
 use Rattle.tds_relay.proofs.spared.Speaking.{reached_left, waited_rest}
-use Rattle.tds_relay.proofs.spared.Resting.{others_both, others_on}
+use Rattle.tds_relay.proofs.lending.Resting.{others_both, others_on}
 use Rattle.tds_relay.specs.Core.{EndList, IfOpen, IsBegun, end_at}
 use Rattle.tds_relay.specs.Fronts.{ends_in}
 use Rattle.tds_relay.proofs.steps.Quieting.{open_lets_go}

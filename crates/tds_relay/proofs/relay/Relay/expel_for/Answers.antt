@@ -9,7 +9,7 @@ use Rattle.tds_relay.proofs.steps.Staying.{stays_from}
 use Rattle.tds_relay.specs.Taking.{IsDeaf}
 use Rattle.tds_relay.proofs.steps.Told.{deaf_for, lets_go_deaf}
 use Rattle.tds_relay.proofs.bytes.Calls.{stand_from}
-use Rattle.tds_relay.proofs.spared.Resting.{all_others, all_rest, others_on}
+use Rattle.tds_relay.proofs.lending.Resting.{all_others, all_rest, others_on}
 use Rattle.tds_relay.specs.Closings.{Itself}
 use Rattle.tds_relay.proofs.spared.Closings.{closes_behind}
 use Rattle.tds_relay.proofs.seats.Relays.{kept_seated}

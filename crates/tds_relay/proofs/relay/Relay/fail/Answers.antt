@@ -8,7 +8,7 @@ use Rattle.tds_relay.proofs.steps.Reaching.{ok_if, ok_more}
 use Rattle.tds_relay.proofs.steps.Staying.{stays_same}
 use Rattle.tds_relay.proofs.steps.Told.{deaf_closed}
 use Rattle.tds_relay.proofs.bytes.Calls.{stand_at}
-use Rattle.tds_relay.proofs.spared.Resting.{all_on, same_on}
+use Rattle.tds_relay.proofs.lending.Resting.{all_on, same_on}
 use Rattle.tds_relay.specs.Fronts.{core_in}
 use Rattle.tds_relay.proofs.spared.Apart.{alone_both, alone_changed}
 use Rattle.tds_relay.proofs.spared.Ordered.{ordered_closing}
@@ -17,6 +17,7 @@ use Rattle.tds_relay.proofs.spared.Closings.{closes_on}
 use Rattle.tds_relay.proofs.spared.Begun.{answers_then}
 use Rattle.tds_relay.proofs.seats.Relays.{kept_end}
 use Rattle.tds_relay.proofs.spared.Filling.{own_behind, own_end}
+use Rattle.tds_relay.proofs.lending.Fresh.{off_from}
 use Rattle.tds_relay.proofs.relay.Relay.fail.Goals as goal
 
 pub returns-clause-goes : goal.returns-clause-goes
@@ -61,3 +62,6 @@ returns-clause-seated c = λ s. kept_end c.end.result c.lose_own.new.self c.end.
 
 pub returns-clause-own : goal.returns-clause-own
 returns-clause-own c = own_behind c.end.result c.args.key c.args.self.now c.lose_own.new.self c.end.new.self c.in_ok-lose_own.ensures.own (own_end c.end.result c.args.key c.lose_own.new.self c.end.new.self c.end.ensures.pool c.end.ensures.links)
+
+pub returns-clause-off : goal.returns-clause-off
+returns-clause-off c = off_from c.end.result c.args.number c.args.self.now.links.items c.lose_own.new.self.links.items c.end.new.self.links.items c.in_ok-lose_own.ensures.off c.end.ensures.links

@@ -14,7 +14,7 @@ use Rattle.tds_relay.proofs.spared.Closings.{closes_first, closes_nobody}
 use Rattle.tds_relay.proofs.seats.Relays.{unwaited}
 use Rattle.std.proofs.Common.{ap, inl, List, refl, rules, subst, sym, ◌⊎◌}
 use Rattle.tds_relay.proofs.spared.Speaking.{reached_by}
-use Rattle.tds_relay.proofs.spared.Resting.{others_on}
+use Rattle.tds_relay.proofs.lending.Resting.{others_on}
 use Rattle.slab.specs.Slab.{get}
 use Rattle.tds_relay.proofs.spared.Elsewhere.{aside_on, aside_same}
 use Rattle.tds_relay.specs.Pool.{Pool, find_key}

@@ -21,7 +21,7 @@ use Rattle.tds_relay.proofs.spared.Shutting.{closes_kept, unclosed}
 use Rattle.tds_relay.specs.declared.application.Application.{Application as AnApplication}
 use Rattle.tds_relay.specs.Waiting.{KeepsInLine}
 use Rattle.tds_relay.proofs.spared.Lined.{fits_not, goes_waits, kept_more, no_application, nothing_waits, begun_not}
-use Rattle.tds_relay.proofs.spared.Resting.{others_on, others_refl, written_rest}
+use Rattle.tds_relay.proofs.lending.Resting.{others_on, others_refl, written_rest}
 use Rattle.tds_relay.proofs.steps.Fed.{end_there}
 use Rattle.tds_relay.proofs.spared.Elsewhere.{aside_refl, keeps_own}
 use Rattle.tds_relay.specs.Reads.{waits_on}

@@ -18,7 +18,7 @@ use Rattle.tds_relay.proofs.spared.Closings.{closes_first}
 use Rattle.tds_relay.specs.Reasons.{HasNoRoom}
 use Rattle.tds_relay.proofs.spared.Reasons.{for_reason, for_that, halts_unfit, none_of, some_of}
 use Rattle.tds_relay.proofs.spared.Speaking.{halting_held, reached_by}
-use Rattle.tds_relay.proofs.spared.Resting.{others_on}
+use Rattle.tds_relay.proofs.lending.Resting.{others_on}
 use Rattle.tds_relay.proofs.spared.Elsewhere.{aside_on, aside_same}
 use Rattle.tds_relay.proofs.spared.Rightly.{deaf_right_on, right_by}
 use Rattle.tds_relay.specs.Asking.{IsTakenBack}

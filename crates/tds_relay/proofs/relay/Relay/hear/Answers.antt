@@ -1,5 +1,5 @@
 use Rattle.tds_relay.specs.Pool.{whose}
-use Rattle.std.proofs.Common.{Option, ap, length, refl, sym, ◌∙◌, rules, inl, ◌≡◌, List, slice_index_or, subst, ℕ, length-set, None, Some}
+use Rattle.std.proofs.Common.{Option, ap, length, refl, sym, ◌∙◌, rules, inl, inr, ◌≡◌, List, slice_index_or, subst, ℕ, length-set, None, Some}
 use Rattle.tds_relay.specs.declared.link.Link.{Link}
 use Rattle.tds_relay.specs.Linking.{Linked}
 use Rattle.tds_relay.specs.declared.pool.coming.Heard.{Heard}
@@ -7,24 +7,28 @@ use Rattle.tds_relay.specs.Fronts.{ends_in, machine_in, machine_with, told_by}
 use Rattle.tds_relay.specs.declared.outgoing.Outgoing.{Outgoing}
 use Rattle.tds_relay.specs.Queues.{queue_in, queues_in}
 use Rattle.tds_relay.specs.Ties.{Connection, pool_in}
-use Rattle.tds_relay.specs.Reads.{place_of}
+use Rattle.tds_relay.specs.Reads.{bytes_on, fullness_of, place_of, seen_of}
 use Rattle.tds_relay.proofs.bytes.SetAnew.{hear_at, unheard, unopened}
 use Rattle.tds_relay.proofs.bytes.Turns.{less_at, less_nowhere, less_shut, takes_at}
 use Rattle.tds_service.specs.Table.{reading_on}
 use Rattle.tds_relay.proofs.steps.Faults.{refused_heard}
 use Rattle.tds_relay.proofs.steps.Placed.{others_written}
-use Rattle.tds_relay.proofs.steps.Staying.{others_open, opens_refl}
+use Rattle.tds_relay.proofs.steps.Staying.{fills_same, others_open, opens_refl, stays_refl, stays_written}
 use Rattle.tds_relay.proofs.steps.Reaching.{ok_if, ok_more, reached_on}
 use Rattle.tds_relay.specs.Sending.{sending_of}
 use Rattle.tds_relay.proofs.spared.Sending.{same_written, sending_same}
 use Rattle.tds_relay.proofs.indexed.Placing.{placed_written}
 use Rattle.std.specs.Prelude.{IfOk}
-use Rattle.tds_relay.specs.Reasons.{Cleans}
+use Rattle.tds_relay.specs.Reasons.{Cleans, IsLeftOpen}
 use Rattle.tds_relay.proofs.spared.Losing.{heard_as}
 use Rattle.tds_relay.proofs.seats.Relays.{behind_on}
 use Rattle.tds_relay.proofs.seats.Linked.{heard_there, seated_as}
 use Rattle.tds_relay.proofs.spared.Turned.{as_refl, keeps_written}
 use Rattle.tds_relay.specs.declared.pool.coming.What.TheVariants as whats
+use Rattle.tds_relay.proofs.lending.Firsts.{carried_written, first_may, first_may_on}
+use Rattle.tds_relay.specs.Cleaning.{PutsByLease}
+use Rattle.tds_relay.proofs.lending.Dialled.{hears_stays, hears_written}
+use Rattle.tds_relay.proofs.lending.Stilled.{still_heard, still_refl}
 use Rattle.tds_relay.proofs.relay.Relay.hear.Goals as goal
 
 -- what comes where nothing is
@@ -198,3 +202,65 @@ returns-clause-many c = rw (← c.links.view_is) (ok_if c.hear_on.result _ (leng
 
 pub returns-then-not-link-clause-many : goal.returns-then-not-link-clause-many
 returns-then-not-link-clause-many c = rw (← c.links.view_is) (length-set c.links.inside.list.items c.in-Some.place _)
+
+pub returns-in_default-clause-keeps : goal.returns-in_default-clause-keeps
+returns-in_default-clause-keeps c = λ n. inr (refl, refl)
+
+pub returns-then-not-link-clause-keeps : goal.returns-then-not-link-clause-keeps
+returns-then-not-link-clause-keeps c = rw (← c.links.view_is) (
+    first_may c.args.number c.args.self.now.pool.holds.items c.args.self.now.pool.holds.items c.links.inside.list.items _ (inl refl)
+    (carried_written c.args.number c.links.inside.list.items c.in-Some.place c.index_mut-link.result.now _
+    (ap (λ (v : Linked). place_of c.args.number v.items) c.links.view_is ∙ sym c.place_in.ensures.is ∙ c.in-Some.is)
+    (ap (λ (l : Link). l.number) c.index_mut-link.ensures.value)))
+
+pub returns-clause-keeps : goal.returns-clause-keeps
+returns-clause-keeps c = rw (← c.links.view_is) (
+    first_may_on c.hear_on.result c.args.number c.args.self.now.pool.holds.items c.hear_on.new.pool.holds.items c.links.inside.list.items _
+    (carried_written c.args.number c.links.inside.list.items c.in-Some.place c.index_mut-link.result.now _
+    (ap (λ (v : Linked). place_of c.args.number v.items) c.links.view_is ∙ sym c.place_in.ensures.is ∙ c.in-Some.is)
+    (c.hear_on.ensures.number ∙ ap (λ (l : Link). l.number) c.index_mut-link.ensures.value))
+    c.hear_on.ensures.holds)
+
+pub returns-in_default-clause-leases : goal.returns-in_default-clause-leases
+returns-in_default-clause-leases c = λ left. inl (search rules)
+
+pub returns-then-not-link-clause-leases : goal.returns-then-not-link-clause-leases
+returns-then-not-link-clause-leases c = λ left. inl (search rules)
+
+pub returns-clause-leases : goal.returns-clause-leases
+returns-clause-leases c =
+    subst (λ (xs : List ℕ). IfOk c.hear_on.result (λ heard. IsLeftOpen heard.1 → PutsByLease xs c.hear_on.new.outbox.items c.args.self.now.pool.service.given c.hear_on.new.pool.service.given)) (search rules) c.hear_on.ensures.leases
+
+pub returns-in_default-clause-given : goal.returns-in_default-clause-given
+returns-in_default-clause-given c = hears_stays c.args.number c.args.self.now.links.items c.args.self.now.links.items (stays_refl c.args.self.now.links.items)
+
+pub returns-then-not-link-clause-given : goal.returns-then-not-link-clause-given
+returns-then-not-link-clause-given c = rw (← c.links.view_is) (
+    hears_stays c.args.number c.links.inside.list.items _
+    (stays_written c.links.inside.list.items c.in-Some.place c.index_mut-link.result.now _ (ap (λ (l : Link). l.number) c.index_mut-link.ensures.value) (ap (λ (l : Link). seen_of l) c.index_mut-link.ensures.value)
+    (fills_same _ _ (ap (λ (l : Link). bytes_on l) c.index_mut-link.ensures.value)) (ap (λ (l : Link). l.answer) c.index_mut-link.ensures.value) (ap (λ (l : Link). fullness_of l) c.index_mut-link.ensures.value)))
+
+pub returns-clause-given : goal.returns-clause-given
+returns-clause-given c = rw (← c.links.view_is) (
+    ok_if c.hear_on.result _ (hears_written c.args.number c.links.inside.list.items c.in-Some.place c.index_mut-link.result.now _
+    (ap (λ (v : Linked). place_of c.args.number v.items) c.links.view_is ∙ sym c.place_in.ensures.is ∙ c.in-Some.is)
+    (sym (ap (λ (l : Link). l.is_open) c.index_mut-link.ensures.value) ∙ search rules)
+    (c.hear_on.ensures.number ∙ ap (λ (l : Link). l.number) c.index_mut-link.ensures.value)
+    (c.hear_on.ensures.is_open ∙ ap (λ (l : Link). l.is_open) c.index_mut-link.ensures.value)
+    (c.hear_on.ensures.tag ∙ ap (λ (l : Link). l.tag) c.index_mut-link.ensures.value)
+    (ap queue_in c.hear_on.ensures.out ∙ ap (λ (l : Link). queue_in l.out) c.index_mut-link.ensures.value)))
+
+pub returns-in_default-clause-still : goal.returns-in_default-clause-still
+returns-in_default-clause-still c = still_refl _ c.args.self.now.links.items
+
+pub returns-then-not-link-clause-still : goal.returns-then-not-link-clause-still
+returns-then-not-link-clause-still c = rw (← c.links.view_is) (
+    still_heard _ c.links.inside.list.items _ (λ n. (same_written c.links.inside.list.items c.in-Some.place c.index_mut-link.result.now _
+    (ap (λ (l : Link). l.number) c.index_mut-link.ensures.value) (ap sending_of c.index_mut-link.ensures.value) (ap (λ (l : Link). l.is_open) c.index_mut-link.ensures.value) n).0))
+
+pub returns-clause-still : goal.returns-clause-still
+returns-clause-still c = rw (← c.links.view_is) (
+    ok_if c.hear_on.result _ (still_heard _ c.links.inside.list.items _ (λ n. (same_written c.links.inside.list.items c.in-Some.place c.index_mut-link.result.now _
+    (c.hear_on.ensures.number ∙ ap (λ (l : Link). l.number) c.index_mut-link.ensures.value)
+    (sending_same c.index_mut-link.result.now c.hear_on.new.link c.hear_on.ensures.tag c.hear_on.ensures.out ∙ ap sending_of c.index_mut-link.ensures.value)
+    (c.hear_on.ensures.is_open ∙ ap (λ (l : Link). l.is_open) c.index_mut-link.ensures.value) n).0)))

@@ -1,5 +1,5 @@
 use Rattle.std.proofs.Common.{◌≡◌, ◌∙◌, [], ap, inl, length, refl, suc, sym, rules, None, Some}
-use Rattle.tds_relay.specs.Waiting.{LosesAt, ByPacket, HeardFor}
+use Rattle.tds_relay.specs.Waiting.{LosesAt, ByPacket, HeardFor, IsItsHolders}
 use Rattle.tds_relay.specs.Fronts.{core_in, machine_in, told_by}
 use Rattle.tds_relay.specs.Ordering.{opens_in}
 use Rattle.tds_relay.specs.Queues.{names_of, queues_in}
@@ -22,9 +22,15 @@ use Rattle.tds_relay.proofs.spared.Closings.{closes_refl, one_closes}
 use Rattle.tds_relay.proofs.spared.Few.{none_both, none_heard, none_refl, none_stays}
 use Rattle.tds_relay.proofs.spared.Only.{one_spares, spares_refl}
 use Rattle.tds_relay.proofs.spared.Off.{off_none, one_off}
+use Rattle.tds_relay.proofs.spared.Filling.{first_refl}
+use Rattle.tds_relay.proofs.lending.Firsts.{one_first}
+use Rattle.tds_relay.proofs.lending.Leases.{goes_given}
+use Rattle.tds_relay.proofs.lending.Rests.{one_rests, rests_refl}
 use Rattle.tds_relay.proofs.spared.Opening.{many_on}
 use Rattle.tds_relay.proofs.spared.Counted.{one_lost}
-use Rattle.tds_relay.proofs.spared.Drained.{cleans_nothing, one_cleans}
+use Rattle.tds_relay.proofs.lending.Drained.{cleans_nothing, one_cleans}
+use Rattle.tds_relay.proofs.lending.Stilled.{still_next, still_refl}
+use Rattle.tds_relay.proofs.lending.Dialled.{hears_next, hears_stays}
 use Rattle.tds_relay.proofs.relay.Relay.hear_all.Goals as goal
 
 pub taking-init : goal.taking-init
@@ -46,7 +52,11 @@ taking-init c = record {
   apart = off_none c.args.number None c.args.self.now;
   many = (stays_refl c.args.self.now.links.items).few;
   counts = inl refl;
-  cleans = λ reached free. cleans_nothing (waits_on c.args.number c.args.self.now.links.items);
+  cleans = λ reached free. cleans_nothing c.args.self.now.pool.service.given (waits_on c.args.number c.args.self.now.links.items);
+  keeps = λ reached. first_refl (IsItsHolders c.args.number c.args.self.now) c.args.self.now;
+  rests = λ seated key. rests_refl c.args.number key c.args.self.now;
+  still = still_refl _ c.args.self.now.links.items;
+  given = hears_stays c.args.number c.args.self.now.links.items c.args.self.now.links.items (stays_refl c.args.self.now.links.items);
 }
 
 pub taking-preserved : goal.taking-preserved
@@ -67,7 +77,14 @@ taking-preserved c = record {
       one_along c.args.number c.args.self.now c.taking.self c.hear.new.self c.heard.new.self reached (c.taking.invariant.bodies reached) c.taking.invariant.goes c.in_ok-count.ensures.goes c.in_ok-count.ensures.asks c.in_ok-heard.ensures.bodies;
   closes =
       one_closes (LosesAt c.args.number c.in_ok-count.heard c.hear.new.self) (HeardFor c.args.number c.args.piece.now c.args.self.now) (register_in c.args.self.now) (register_in c.taking.self) (register_in c.hear.new.self) (register_in c.heard.new.self)
-      (λ key why seated. ByPacket c.taking.self c.taking.rest.now c.taking.invariant.anew c.taking.invariant.others
+      (λ key why seated. ByPacket c.taking.self c.taking.rest.now c.taking.invariant.anew
+      (record {
+        opens = c.taking.invariant.others;
+        goes = c.taking.invariant.apart;
+        keeps = c.taking.invariant.keeps seated.reached;
+        cleans = c.taking.invariant.cleans seated.reached;
+        rests = c.taking.invariant.rests seated;
+      })
       (loses_by c.args.number c.taking.rest.now _ c.taking.self c.hear.new.self _ key c.in_ok-count.ensures.hears refl c.in_ok-count.ensures.ends (c.in_ok-count.ensures.cleans (c.taking.invariant.seated seated).reached) c.in_ok-count.ensures.queues c.in_ok-count.ensures.asks (c.taking.invariant.seated seated) why))
       c.taking.invariant.closes c.in_ok-count.ensures.ends c.in_ok-count.ensures.names c.in_ok-count.ensures.same c.hear.ensures.orders c.hear.ensures.settings c.in_ok-heard.ensures.closes c.in_ok-heard.ensures.kept;
   spares = λ reached.
@@ -91,9 +108,25 @@ taking-preserved c = record {
       one_lost c.args.number c.taking.rest.now _ c.args.self.now c.taking.self c.hear.new.self c.heard.new.self _ c.in_ok-count.ensures.hears c.hear.ensures.counts (λ other. (c.in_ok-count.ensures.same other).0) c.in_ok-heard.ensures.read
       c.in_ok-heard.ensures.counts c.taking.invariant.counts;
   cleans = λ reached free.
-      one_cleans c.args.number c.taking.rest.now _ (waits_on c.args.number c.args.self.now.links.items) c.taking.self c.hear.new.self c.heard.new.self _ (reached_on (Connection c.args.number) _ _ c.taking.invariant.goes reached)
+      let there = reached_on (Connection c.args.number) _ _ c.taking.invariant.goes reached in
+      let behind = reached_on (Connection c.args.number) _ _ c.in_ok-count.ensures.goes there in
+      one_cleans c.args.number c.args.self.now.pool.service.given c.taking.rest.now _ (waits_on c.args.number c.args.self.now.links.items) c.taking.self c.hear.new.self c.heard.new.self _ there
+      (goes_given (Connection c.args.number) _ _ there c.in_ok-count.ensures.goes) (goes_given (Connection c.args.number) _ _ behind c.in_ok-heard.ensures.goes) c.in_ok-count.ensures.leases
       (λ key. (c.taking.invariant.spares reached key (λ e. let u : None ≡ Some key = e in let v : ⊥ = cc in v) (λ e. let u : None ≡ Some key = sym free ∙ e in let v : ⊥ = cc in v)).0)
       c.in_ok-count.ensures.hears refl c.in_ok-count.ensures.cleans (λ other. (c.in_ok-count.ensures.same other).0) c.in_ok-heard.ensures.gone c.in_ok-heard.ensures.counts c.in_ok-heard.ensures.sent (c.taking.invariant.cleans reached free);
+  keeps = λ reached.
+      one_first c.args.number c.taking.rest.now _ c.args.self.now c.taking.self c.hear.new.self c.heard.new.self _ (reached_on (Connection c.args.number) _ _ c.taking.invariant.goes reached) (c.taking.invariant.keeps reached)
+      (c.taking.invariant.spares reached) c.in_ok-count.ensures.hears refl c.in_ok-count.ensures.keeps
+      (c.in_ok-heard.ensures.keeps (reached_on (Connection c.args.number) _ _ (λ from h. c.in_ok-count.ensures.goes from (c.taking.invariant.goes from h)) reached)).others;
+  rests = λ seated key holds.
+      let at = c.taking.invariant.seated seated in
+      let behind = reached_on (Connection c.args.number) _ _ c.in_ok-count.ensures.goes at.reached in
+      one_rests c.args.number c.taking.rest.now _ key c.taking.self c.hear.new.self c.heard.new.self _ at c.in_ok-count.ensures.hears refl (c.in_ok-heard.ensures.spares behind) holds c.args.self.now (c.taking.invariant.rests seated key)
+      (c.in_ok-count.ensures.cleans at.reached) (λ other. (c.in_ok-count.ensures.same other).0) c.in_ok-count.ensures.asks (c.in_ok-heard.ensures.keeps behind) holds;
+  still =
+      still_next c.args.number c.args.self.now.links.items c.taking.self.links.items c.hear.new.self.links.items c.heard.new.self.links.items c.taking.invariant.given c.in_ok-count.ensures.given c.taking.invariant.still c.in_ok-count.ensures.still
+      c.in_ok-heard.ensures.others.still;
+  given = hears_next c.args.number c.args.self.now.links.items c.taking.self.links.items c.hear.new.self.links.items c.heard.new.self.links.items c.taking.invariant.given c.in_ok-count.ensures.given c.in_ok-heard.ensures.read;
   opening = c.heard.ensures.opening ∙ ap opens_in c.hear.ensures.orders ∙ c.taking.invariant.opening;
   many = many_on (length c.args.self.now.links.items) (length c.taking.self.links.items) (length c.hear.new.self.links.items) (length c.heard.new.self.links.items) c.taking.invariant.many c.in_ok-count.ensures.many c.in_ok-heard.ensures.read.few;
 }

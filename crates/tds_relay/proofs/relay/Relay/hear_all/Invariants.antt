@@ -1,13 +1,14 @@
-use Rattle.std.proofs.Common.{◌≡◌, ◌≤◌, length}
+use Rattle.std.proofs.Common.{◌≡◌, ◌≤◌, length, ℕ}
 use Rattle.tds_relay.specs.Cleaning.{CleansAlone, CountsLost}
 use Rattle.tds_relay.specs.Closings.{ClosesOnly, but_told, register_in}
-use Rattle.tds_relay.specs.Waiting.{HeardFor}
+use Rattle.tds_relay.specs.Waiting.{HeardFor, IsItsHolders, KeepsWaiting}
 use Rattle.tds_relay.specs.Coming.{AllAlong, StreamsAnew}
 use Rattle.tds_relay.specs.Faults.{IsRefusedOn}
 use Rattle.tds_relay.specs.Few.{NoneNew, IsSeated}
 use Rattle.std.specs.Prelude.{None}
 use Rattle.tds_relay.specs.Apart.{SparesOthers}
 use Rattle.tds_relay.specs.Fronts.{core_in, machine_in}
+use Rattle.tds_relay.specs.Lent.{FirstKeeps, HearsAny, ShutElse}
 use Rattle.tds_relay.specs.Ordering.{StayOrdered, opens_in}
 use Rattle.tds_relay.specs.Queues.{names_in, queues_in}
 use Rattle.tds_relay.specs.Reads.{OpensOthers, answer_at, open_at, waits_on}
@@ -37,6 +38,10 @@ invariant-taking l = record {
   apart : OffGo l.fn.number None l.fn.self l.self;
   many : length l.self.links.items ≤ length l.fn.self.links.items;
   counts : CountsLost l.fn.number l.fn.self l.self;
-  cleans : IsReached (pool_in l.fn.self.pool) → holder (pool_in l.fn.self.pool) l.fn.number ≡ None → CleansAlone (waits_on l.fn.number l.fn.self.links.items) (waits_on l.fn.number l.self.links.items);
+  cleans : IsReached (pool_in l.fn.self.pool) → holder (pool_in l.fn.self.pool) l.fn.number ≡ None → CleansAlone l.fn.self.pool.service.given l.self.pool.service.given (waits_on l.fn.number l.fn.self.links.items) (waits_on l.fn.number l.self.links.items);
+  keeps : IsReached (pool_in l.fn.self.pool) → FirstKeeps (IsItsHolders l.fn.number l.fn.self) l.fn.self l.self;
+  rests : IsSeated l.fn.self → (key : ℕ) → KeepsWaiting l.fn.number l.fn.self l.self key;
   opening : opens_in l.self.orders.items ≡ opens_in l.fn.self.orders.items;
+  given : HearsAny l.fn.number l.fn.self.links.items l.self.links.items;
+  still : ShutElse l.fn.number l.fn.self.links.items l.self.links.items;
 }

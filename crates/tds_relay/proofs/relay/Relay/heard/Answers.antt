@@ -10,7 +10,7 @@ use Rattle.tds_relay.specs.Fronts.{Moved, ends_in, core_in, core_of_ends, told_b
 use Rattle.tds_relay.specs.Handing.{heard_key}
 use Rattle.tds_relay.specs.Sparing.{OffGo}
 use Rattle.tds_relay.specs.Ties.{Connection, pool_in}
-use Rattle.tds_relay.specs.Waiting.{IsNotAcknowledged, LosesAt}
+use Rattle.tds_relay.specs.Waiting.{KeepsHeard, LosesAt, RestsElse}
 use Rattle.tds_relay.specs.Waking.{HandsTo, IsWoken}
 use Rattle.tds_relay.proofs.bytes.SetAnew.{any_if}
 use Rattle.tds_relay.proofs.seats.Pools.{off_of}
@@ -25,6 +25,9 @@ use Rattle.tds_relay.proofs.spared.Waking.{hands_nobody}
 use Rattle.tds_relay.proofs.steps.Fronts.{moves_same, told_none}
 use Rattle.tds_relay.proofs.steps.Reaching.{ok_if, ok_more}
 use Rattle.tds_relay.proofs.steps.Staying.{gone_filled}
+use Rattle.tds_relay.proofs.lending.Firsts.{first_as, first_lost_on}
+use Rattle.tds_relay.proofs.lending.Rests.{free_lost, heard_lost}
+use Rattle.tds_relay.proofs.lending.Stilled.{rests_all}
 use Rattle.tds_relay.proofs.relay.Relay.heard.Goals as goal
 
 pub returns-in-None-clause-moves : goal.returns-in-None-clause-moves
@@ -64,7 +67,10 @@ pub returns-in-Some-clause-wakes : goal.returns-in-Some-clause-wakes
 returns-in-Some-clause-wakes c = subst (λ (o : Option Heard). OnOk c.heard_packet.result ((key : ℕ) → HandsTo o key (ends_in c.args.self.now.applications) → IsWoken key c.heard_packet.new.self.applications c.heard_packet.new.self.orders.items)) (sym c.in-Some.is) c.heard_packet.ensures.wakes
 
 pub returns-in-Some-clause-others : goal.returns-in-Some-clause-others
-returns-in-Some-clause-others c = λ not. c.heard_packet.ensures.others (subst IsNotAcknowledged c.in-Some.is not)
+returns-in-Some-clause-others c = subst (λ (o : Option Heard). OnOk c.heard_packet.result (RestsElse o c.args.number c.args.self.now.links.items c.heard_packet.new.self.links.items)) (sym c.in-Some.is) c.heard_packet.ensures.others
+
+pub returns-in-None-clause-others : goal.returns-in-None-clause-others
+returns-in-None-clause-others c = ok_more c.lose.result _ _ (λ o. rests_all _ _ _ _ o) c.lose.ensures.others
 
 pub returns-in-Some-clause-begins : goal.returns-in-Some-clause-begins
 returns-in-Some-clause-begins c = subst (λ (o : Option Heard). OnOk c.heard_packet.result (BeginAnyIf (acknowledged_in o) c.args.self.now.links.items c.heard_packet.new.self.links.items)) (sym c.in-Some.is) c.heard_packet.ensures.begins
@@ -89,3 +95,13 @@ returns-in-None-clause-sent c = λ nobody. ok_more c.lose.result _ _ (λ g. gone
 
 pub returns-in-Some-clause-sent : goal.returns-in-Some-clause-sent
 returns-in-Some-clause-sent c = λ nobody. c.heard_packet.ensures.sent (sym (ap heard_key c.in-Some.is) ∙ nobody)
+
+pub returns-in-None-clause-keeps : goal.returns-in-None-clause-keeps
+returns-in-None-clause-keeps c = λ reached.
+    heard_lost c.lose.result c.args.number c.args.heard c.args.self.now c.lose.new.self
+    (first_as c.lose.result c.args.number (heard_key c.args.heard) c.args.self.now c.lose.new.self
+    (first_lost_on c.lose.result c.args.number c.args.self.now c.lose.new.self c.lose.ensures.holds c.lose.ensures.queues c.lose.ensures.answers))
+    (free_lost c.lose.result c.args.number c.args.self.now c.lose.new.self c.lose.ensures.holds)
+
+pub returns-in-Some-clause-keeps : goal.returns-in-Some-clause-keeps
+returns-in-Some-clause-keeps c = λ reached. subst (λ (o : Option Heard). OnOk c.heard_packet.result (KeepsHeard c.args.number o c.args.self.now c.heard_packet.new.self)) (sym c.in-Some.is) (c.heard_packet.ensures.keeps reached)

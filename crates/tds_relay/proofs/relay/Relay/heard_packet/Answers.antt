@@ -9,14 +9,13 @@ use Rattle.tds_relay.proofs.bytes.Calls.{stand_at, stand_back, stand_on}
 use Rattle.tds_relay.proofs.spared.Coming.{along_both, along_on, asks_along, asks_along_on, done_along, same_along_on}
 use Rattle.tds_relay.proofs.spared.Ordered.{ordered_both, ordered_on}
 use Rattle.tds_relay.specs.declared.pool.Pool as pools
-use Rattle.tds_relay.proofs.spared.Resting.{put_reached}
+use Rattle.tds_relay.proofs.lending.Resting.{put_reached}
 use Rattle.tds_relay.proofs.spared.Waking.{hands_as, not_closed, not_nobody, woken_mine}
 use Rattle.tds_relay.specs.Reasons.{ResumesNotAt}
 use Rattle.tds_relay.specs.Queues.{queues_in}
 use Rattle.tds_relay.proofs.spared.Closings.{closes_behind, closes_with}
 use Rattle.tds_relay.proofs.spared.Losing.{resumes_loses, sent_closes, write_loses}
 use Rattle.tds_relay.specs.Reads.{waits_on}
-use Rattle.tds_relay.proofs.spared.Lined.{acknowledges}
 use Rattle.tds_relay.proofs.spared.Only.{spares_for, spares_sent, spares_shut, spares_wrote}
 use Rattle.tds_relay.proofs.bytes.SetAnew.{acknowledges_one, any_if, any_on, any_sent, begins_any, sent_if}
 use Rattle.tds_relay.proofs.spared.Begun.{answers_behind, answers_on, answers_then}
@@ -26,7 +25,10 @@ use Rattle.tds_relay.specs.Few.{is_left}
 use Rattle.tds_relay.specs.declared.pool.coming.What.TheVariants as whats
 use Rattle.tds_relay.proofs.spared.Off.{asks_more, behind_sent, link_off, same_off, sent_off, whose_off}
 use Rattle.tds_relay.proofs.spared.Counted.{counts_free, counts_held, counts_left}
-use Rattle.tds_relay.proofs.spared.Drained.{not_left, sent_there}
+use Rattle.tds_relay.proofs.lending.Drained.{not_left, sent_there}
+use Rattle.tds_relay.proofs.lending.Firsts.{first_closed, first_whose_on, first_wrote, told_sent}
+use Rattle.tds_relay.proofs.lending.Rests.{goes_wrote, heard_closed, heard_none, heard_resumes, heard_wrote}
+use Rattle.tds_relay.proofs.lending.Stilled.{rests_all, rests_still, sent_still, still_on}
 use Rattle.tds_relay.proofs.relay.Relay.heard_packet.Goals as goal
 
 pub returns-in-Goes-Some-clause-moves : goal.returns-in-Goes-Some-clause-moves
@@ -219,31 +221,37 @@ pub returns-in-Acknowledged-None-clause-closes : goal.returns-in-Acknowledged-No
 returns-in-Acknowledged-None-clause-closes c = sent_closes c.args.number (Some c.args.heard) c.args.heard c.args.self.now c.tell.new.self c.send_on.new.self refl c.tell.ensures.outbox c.tell.ensures.pool c.in_ok-resumes.ensures.links c.in_ok-resumes.ensures.closes c.in_ok-send_on.ensures.closes
 
 pub returns-in-Goes-Some-clause-others : goal.returns-in-Goes-Some-clause-others
-returns-in-Goes-Some-clause-others c = λ not. ok_more c.order_write.result _ _ (λ same other differs. ap (waits_on other) same ∙ c.in_ok-send_on.ensures.others other differs ∙ ap (waits_on other) c.in_ok-resumes.ensures.links) c.order_write.ensures.links
+returns-in-Goes-Some-clause-others c = ok_more c.order_write.result _ _ (λ same. rests_all _ _ _ _ (λ other differs. ap (waits_on other) same ∙ c.in_ok-send_on.ensures.others other differs ∙ ap (waits_on other) c.in_ok-resumes.ensures.links)) c.order_write.ensures.links
 
 pub returns-in-Finished-Some-clause-others : goal.returns-in-Finished-Some-clause-others
-returns-in-Finished-Some-clause-others c = λ not. ok_more c.order_write-in-Finished-Some.result _ _ (λ same other differs. ap (waits_on other) same ∙ c.in_ok-send_on.ensures.others other differs ∙ ap (waits_on other) c.in_ok-resumes.ensures.links) c.order_write-in-Finished-Some.ensures.links
+returns-in-Finished-Some-clause-others c = ok_more c.order_write-in-Finished-Some.result _ _ (λ same. rests_all _ _ _ _ (λ other differs. ap (waits_on other) same ∙ c.in_ok-send_on.ensures.others other differs ∙ ap (waits_on other) c.in_ok-resumes.ensures.links)) c.order_write-in-Finished-Some.ensures.links
 
 pub returns-in-Goes-None-clause-others : goal.returns-in-Goes-None-clause-others
-returns-in-Goes-None-clause-others c = λ not other differs. c.in_ok-send_on.ensures.others other differs ∙ ap (waits_on other) c.in_ok-resumes.ensures.links
+returns-in-Goes-None-clause-others c = rests_all _ _ _ _ (λ other differs. c.in_ok-send_on.ensures.others other differs ∙ ap (waits_on other) c.in_ok-resumes.ensures.links)
 
 pub returns-in-Finished-None-clause-others : goal.returns-in-Finished-None-clause-others
-returns-in-Finished-None-clause-others c = λ not other differs. c.in_ok-send_on.ensures.others other differs ∙ ap (waits_on other) c.in_ok-resumes.ensures.links
+returns-in-Finished-None-clause-others c = rests_all _ _ _ _ (λ other differs. c.in_ok-send_on.ensures.others other differs ∙ ap (waits_on other) c.in_ok-resumes.ensures.links)
 
 pub returns-then-resumes-clause-others : goal.returns-then-resumes-clause-others
-returns-then-resumes-clause-others c = λ not. absurd (acknowledges (Some c.args.heard) c.args.heard refl (search rules) not)
+returns-then-resumes-clause-others c = rests_still c.resume.result c.args.heard c.args.number c.args.self.now.links.items c.resume.new.self.links.items (search rules) (still_on c.resume.result _ _ c.send_on.new.self.links.items _ (stays_both _ _ _ c.in_ok-resumes.ensures.read c.in_ok-send_on.ensures.read) (sent_still c.args.number _ _ _ c.in_ok-resumes.ensures.links c.in_ok-send_on.ensures.others) c.resume.ensures.still)
 
 pub returns-else-resumes-clause-others : goal.returns-else-resumes-clause-others
-returns-else-resumes-clause-others c = λ not. absurd (acknowledges (Some c.args.heard) c.args.heard refl (search rules) not)
+returns-else-resumes-clause-others c = ok_more c.order_write-else-resumes.result _ _ (λ same. rests_all _ _ _ _ (λ other differs. ap (waits_on other) same ∙ c.in_ok-send_on.ensures.others other differs ∙ ap (waits_on other) c.in_ok-resumes.ensures.links)) c.order_write-else-resumes.ensures.links
 
 pub returns-in-Acknowledged-None-clause-others : goal.returns-in-Acknowledged-None-clause-others
-returns-in-Acknowledged-None-clause-others c = λ not. absurd (acknowledges (Some c.args.heard) c.args.heard refl (search rules) not)
+returns-in-Acknowledged-None-clause-others c = rests_all _ _ _ _ (λ other differs. c.in_ok-send_on.ensures.others other differs ∙ ap (waits_on other) c.in_ok-resumes.ensures.links)
 
 pub returns-in-Closed-Some-clause-others : goal.returns-in-Closed-Some-clause-others
-returns-in-Closed-Some-clause-others c = λ not. ok_more c.close_link.result _ _ (λ o other differs. o other differs ∙ c.in_ok-send_on.ensures.others other differs ∙ ap (waits_on other) c.in_ok-resumes.ensures.links) c.close_link.ensures.others
+returns-in-Closed-Some-clause-others c = ok_more c.close_link.result _ _ (λ o. rests_all _ _ _ _ (λ other differs. o other differs ∙ c.in_ok-send_on.ensures.others other differs ∙ ap (waits_on other) c.in_ok-resumes.ensures.links)) c.close_link.ensures.others
 
 pub returns-in-Closed-None-clause-others : goal.returns-in-Closed-None-clause-others
-returns-in-Closed-None-clause-others c = λ not. ok_more c.close_link-in-Closed-None.result _ _ (λ o other differs. o other differs ∙ c.in_ok-send_on.ensures.others other differs ∙ ap (waits_on other) c.in_ok-resumes.ensures.links) c.close_link-in-Closed-None.ensures.others
+returns-in-Closed-None-clause-others c = ok_more c.close_link-in-Closed-None.result _ _ (λ o. rests_all _ _ _ _ (λ other differs. o other differs ∙ c.in_ok-send_on.ensures.others other differs ∙ ap (waits_on other) c.in_ok-resumes.ensures.links)) c.close_link-in-Closed-None.ensures.others
+
+pub returns-in-Goes-Some-clause-goes : goal.returns-in-Goes-Some-clause-goes
+returns-in-Goes-Some-clause-goes c = goes_wrote c.order_write.result (Connection c.args.number) c.args.self.now.pool c.tell.new.self.pool c.send_on.new.self.pool c.order_write.new.self.pool c.in_ok-resumes.ensures.pool (c.in_ok-send_on.ensures.goes (Connection c.args.number)) c.order_write.ensures.pool
+
+pub returns-in-Finished-Some-clause-goes : goal.returns-in-Finished-Some-clause-goes
+returns-in-Finished-Some-clause-goes c = goes_wrote c.order_write-in-Finished-Some.result (Connection c.args.number) c.args.self.now.pool c.tell.new.self.pool c.send_on.new.self.pool c.order_write-in-Finished-Some.new.self.pool c.in_ok-resumes.ensures.pool (c.in_ok-send_on.ensures.goes (Connection c.args.number)) c.order_write-in-Finished-Some.ensures.pool
 
 pub returns-then-resumes-clause-goes : goal.returns-then-resumes-clause-goes
 returns-then-resumes-clause-goes c = ok_more c.resume.result _ _ (λ g from h. g from (c.in_ok-send_on.ensures.goes (Connection c.args.number) from (subst (λ (d : pools.Pool). Reaches (Connection c.args.number) from (pool_in d)) (sym c.in_ok-resumes.ensures.pool) h))) c.resume.ensures.goes
@@ -397,3 +405,30 @@ returns-in-Acknowledged-None-clause-sent c = λ nobody. sent_there c.args.number
 
 pub returns-in-Closed-None-clause-sent : goal.returns-in-Closed-None-clause-sent
 returns-in-Closed-None-clause-sent c = λ nobody. ok_more c.close_link-in-Closed-None.result _ _ (λ g. gone_filled c.args.self.now.outbox.items c.args.number _ c.close_link-in-Closed-None.new.self.links.items g) c.close_link-in-Closed-None.ensures.gone
+
+pub returns-in-Goes-Some-clause-keeps : goal.returns-in-Goes-Some-clause-keeps
+returns-in-Goes-Some-clause-keeps c = λ reached. heard_wrote c.args.number c.args.heard c.args.self.now c.tell.new.self c.send_on.new.self c.in_ok-resumes.ensures.pool c.in_ok-resumes.ensures.links c.in_ok-resumes.ensures.asks c.tell.ensures.outbox c.in_ok-send_on.ensures.idle c.order_write.result c.order_write.new.self (not_left c.args.heard.what whats.Goes (search rules) (λ e. let u : ⊥ = cc in u)) (first_wrote c.order_write.result c.args.number c.args.heard.key c.args.self.now c.send_on.new.self c.order_write.new.self (told_sent c.args.number c.args.self.now c.tell.new.self c.send_on.new.self c.in_ok-resumes.ensures.pool c.in_ok-resumes.ensures.links c.in_ok-send_on.ensures.keeps) c.order_write.ensures.pool c.order_write.ensures.links) c.order_write.ensures.pool c.order_write.ensures.links c.order_write.ensures.asks
+
+pub returns-in-Finished-Some-clause-keeps : goal.returns-in-Finished-Some-clause-keeps
+returns-in-Finished-Some-clause-keeps c = λ reached. heard_wrote c.args.number c.args.heard c.args.self.now c.tell.new.self c.send_on.new.self c.in_ok-resumes.ensures.pool c.in_ok-resumes.ensures.links c.in_ok-resumes.ensures.asks c.tell.ensures.outbox c.in_ok-send_on.ensures.idle c.order_write-in-Finished-Some.result c.order_write-in-Finished-Some.new.self (not_left c.args.heard.what whats.Finished (search rules) (λ e. let u : ⊥ = cc in u)) (first_wrote c.order_write-in-Finished-Some.result c.args.number c.args.heard.key c.args.self.now c.send_on.new.self c.order_write-in-Finished-Some.new.self (told_sent c.args.number c.args.self.now c.tell.new.self c.send_on.new.self c.in_ok-resumes.ensures.pool c.in_ok-resumes.ensures.links c.in_ok-send_on.ensures.keeps) c.order_write-in-Finished-Some.ensures.pool c.order_write-in-Finished-Some.ensures.links) c.order_write-in-Finished-Some.ensures.pool c.order_write-in-Finished-Some.ensures.links c.order_write-in-Finished-Some.ensures.asks
+
+pub returns-else-resumes-clause-keeps : goal.returns-else-resumes-clause-keeps
+returns-else-resumes-clause-keeps c = λ reached. heard_wrote c.args.number c.args.heard c.args.self.now c.tell.new.self c.send_on.new.self c.in_ok-resumes.ensures.pool c.in_ok-resumes.ensures.links c.in_ok-resumes.ensures.asks c.tell.ensures.outbox c.in_ok-send_on.ensures.idle c.order_write-else-resumes.result c.order_write-else-resumes.new.self (not_left c.args.heard.what whats.Acknowledged (search rules) (λ e. let u : ⊥ = cc in u)) (first_wrote c.order_write-else-resumes.result c.args.number c.args.heard.key c.args.self.now c.send_on.new.self c.order_write-else-resumes.new.self (told_sent c.args.number c.args.self.now c.tell.new.self c.send_on.new.self c.in_ok-resumes.ensures.pool c.in_ok-resumes.ensures.links c.in_ok-send_on.ensures.keeps) c.order_write-else-resumes.ensures.pool c.order_write-else-resumes.ensures.links) c.order_write-else-resumes.ensures.pool c.order_write-else-resumes.ensures.links c.order_write-else-resumes.ensures.asks
+
+pub returns-in-Goes-None-clause-keeps : goal.returns-in-Goes-None-clause-keeps
+returns-in-Goes-None-clause-keeps c = λ reached. heard_none c.args.number c.args.heard c.args.self.now c.tell.new.self c.send_on.new.self c.in_ok-resumes.ensures.pool c.in_ok-resumes.ensures.links c.in_ok-resumes.ensures.asks c.tell.ensures.outbox c.in_ok-send_on.ensures.idle (not_left c.args.heard.what whats.Goes (search rules) (λ e. let u : ⊥ = cc in u)) (told_sent c.args.number c.args.self.now c.tell.new.self c.send_on.new.self c.in_ok-resumes.ensures.pool c.in_ok-resumes.ensures.links c.in_ok-send_on.ensures.keeps)
+
+pub returns-in-Finished-None-clause-keeps : goal.returns-in-Finished-None-clause-keeps
+returns-in-Finished-None-clause-keeps c = λ reached. heard_none c.args.number c.args.heard c.args.self.now c.tell.new.self c.send_on.new.self c.in_ok-resumes.ensures.pool c.in_ok-resumes.ensures.links c.in_ok-resumes.ensures.asks c.tell.ensures.outbox c.in_ok-send_on.ensures.idle (not_left c.args.heard.what whats.Finished (search rules) (λ e. let u : ⊥ = cc in u)) (told_sent c.args.number c.args.self.now c.tell.new.self c.send_on.new.self c.in_ok-resumes.ensures.pool c.in_ok-resumes.ensures.links c.in_ok-send_on.ensures.keeps)
+
+pub returns-in-Acknowledged-None-clause-keeps : goal.returns-in-Acknowledged-None-clause-keeps
+returns-in-Acknowledged-None-clause-keeps c = λ reached. heard_none c.args.number c.args.heard c.args.self.now c.tell.new.self c.send_on.new.self c.in_ok-resumes.ensures.pool c.in_ok-resumes.ensures.links c.in_ok-resumes.ensures.asks c.tell.ensures.outbox c.in_ok-send_on.ensures.idle (not_left c.args.heard.what whats.Acknowledged (search rules) (λ e. let u : ⊥ = cc in u)) (told_sent c.args.number c.args.self.now c.tell.new.self c.send_on.new.self c.in_ok-resumes.ensures.pool c.in_ok-resumes.ensures.links c.in_ok-send_on.ensures.keeps)
+
+pub returns-in-Closed-Some-clause-keeps : goal.returns-in-Closed-Some-clause-keeps
+returns-in-Closed-Some-clause-keeps c = λ reached. heard_closed c.close_link.result c.args.number c.args.heard c.args.self.now c.tell.new.self c.send_on.new.self c.close_link.new.self c.in_ok-resumes.ensures.pool c.in_ok-resumes.ensures.asks c.in_ok-send_on.ensures.holds c.in_ok-send_on.ensures.asks c.close_link.ensures.pool c.close_link.ensures.asks c.close_link.ensures.gone (first_closed c.close_link.result c.args.number c.args.heard.key c.args.self.now c.send_on.new.self c.close_link.new.self (told_sent c.args.number c.args.self.now c.tell.new.self c.send_on.new.self c.in_ok-resumes.ensures.pool c.in_ok-resumes.ensures.links c.in_ok-send_on.ensures.keeps) c.close_link.ensures.pool c.close_link.ensures.queues c.close_link.ensures.answers)
+
+pub returns-in-Closed-None-clause-keeps : goal.returns-in-Closed-None-clause-keeps
+returns-in-Closed-None-clause-keeps c = λ reached. heard_closed c.close_link-in-Closed-None.result c.args.number c.args.heard c.args.self.now c.tell.new.self c.send_on.new.self c.close_link-in-Closed-None.new.self c.in_ok-resumes.ensures.pool c.in_ok-resumes.ensures.asks c.in_ok-send_on.ensures.holds c.in_ok-send_on.ensures.asks c.close_link-in-Closed-None.ensures.pool c.close_link-in-Closed-None.ensures.asks c.close_link-in-Closed-None.ensures.gone (first_closed c.close_link-in-Closed-None.result c.args.number c.args.heard.key c.args.self.now c.send_on.new.self c.close_link-in-Closed-None.new.self (told_sent c.args.number c.args.self.now c.tell.new.self c.send_on.new.self c.in_ok-resumes.ensures.pool c.in_ok-resumes.ensures.links c.in_ok-send_on.ensures.keeps) c.close_link-in-Closed-None.ensures.pool c.close_link-in-Closed-None.ensures.queues c.close_link-in-Closed-None.ensures.answers)
+
+pub returns-then-resumes-clause-keeps : goal.returns-then-resumes-clause-keeps
+returns-then-resumes-clause-keeps c = λ reached. let there : IsReached (pool_in c.send_on.new.self.pool) = put_reached c.tell.new.self.pool c.send_on.new.self.pool c.send_on.new.self.pool c.in_ok-send_on.ensures.goes refl (subst (λ (d : pools.Pool). IsReached (pool_in d)) (sym c.in_ok-resumes.ensures.pool) reached) in heard_resumes c.args.number c.args.heard c.args.self.now c.tell.new.self c.send_on.new.self c.in_ok-resumes.ensures.pool c.in_ok-resumes.ensures.links c.in_ok-resumes.ensures.asks c.tell.ensures.outbox c.in_ok-send_on.ensures.idle c.resume.result c.in-Acknowledged-Some.key c.resume.new.self (not_left c.args.heard.what whats.Acknowledged (search rules) (λ e. let u : ⊥ = cc in u)) (search rules) (first_whose_on c.resume.result c.args.number c.in-Acknowledged-Some.key c.args.heard.key c.args.self.now c.send_on.new.self c.resume.new.self (search rules) (told_sent c.args.number c.args.self.now c.tell.new.self c.send_on.new.self c.in_ok-resumes.ensures.pool c.in_ok-resumes.ensures.links c.in_ok-send_on.ensures.keeps) (c.resume.ensures.keeps there)) (c.resume.ensures.rests there)

@@ -2,32 +2,39 @@ use Rattle.std.proofs.Common.{ap, refl, subst, sym, true, ◌≡◌, ◌∙◌, 
 use Rattle.tds_relay.specs.Waiting.{IsUnheldOrTurnedAway}
 use Rattle.tds_relay.specs.declared.pool.Pool as code
 use Rattle.tds_relay.specs.Ties.{Connection, Reaches, pool_in, IsReached}
-use Rattle.tds_relay.proofs.steps.Fronts.{moves_closes, moves_does, moves_same}
-use Rattle.tds_relay.proofs.steps.Reaching.{ok_if, ok_more, reaches_turn, reached_on, reached_turn}
+use Rattle.tds_relay.proofs.steps.Fronts.{moves_does, moves_same}
+use Rattle.tds_relay.proofs.steps.Reaching.{ok_more, reaches_turn, reached_on, reached_turn}
 use Rattle.tds_relay.proofs.steps.Staying.{stays_on}
 use Rattle.tds_relay.proofs.bytes.Calls.{stand_at, stand_on}
-use Rattle.tds_relay.proofs.spared.Coming.{alike_along, along_on, asks_along_on, start_along}
+use Rattle.tds_relay.proofs.spared.Coming.{alike_along, along_on, start_along}
 use Rattle.tds_relay.proofs.spared.Ordered.{ordered_on, ordered_same}
-use Rattle.tds_relay.specs.Closings.{IsWho}
 use Rattle.tds_relay.proofs.spared.Closings.{closes_first, closes_more_on}
 use Rattle.std.proofs.lemmas.Bool.{cases_eq}
 use Rattle.slab.specs.Slab.{Slab, get}
 use Rattle.tds_relay.specs.declared.application.Application as an
 use Rattle.tds_relay.specs.Bodies.{body_in}
-use Rattle.tds_relay.specs.Pool.{Pool}
+use Rattle.tds_relay.specs.Pool.{Pool, find_number, key_of}
 use Rattle.tds_relay.specs.Reasons.{ItselfFor, ResumesNotAt, Unserved}
 use Rattle.tds_relay.proofs.spared.Turned.{as_seen, renewed_held, resumes_for, stays_for, turned_with}
-use Rattle.tds_relay.proofs.spared.Only.{spares_alone_on, spares_both, spares_changed, spares_none, spares_on, spares_renewed}
+use Rattle.tds_relay.proofs.spared.Only.{spares_alone_on, spares_none, spares_on, spares_renewed}
 use Rattle.tds_relay.specs.Fronts.{ends_in, core_in, core_of_ends}
-use Rattle.tds_relay.specs.Core.{closes}
-use Rattle.tds_relay.proofs.bytes.SetAnew.{any_kept, any_refl}
-use Rattle.tds_relay.proofs.seats.Relays.{closed_end, pool_lasting, renewed_on, renewed_out, renews_keep}
+use Rattle.tds_relay.proofs.bytes.SetAnew.{any_kept}
+use Rattle.tds_relay.proofs.seats.Relays.{pool_lasting, renewed_on, renews_keep}
 use Rattle.tds_relay.specs.declared.pool.leaving.Renewed.TheVariants as renewals
 use Rattle.tds_relay.proofs.spared.Off.{off_more, others_off_on, renewed_off}
-use Rattle.tds_relay.proofs.spared.Resting.{all_others, others_both, others_on}
-use Rattle.tds_relay.proofs.spared.Speaking.{closed_rest, done_as}
+use Rattle.tds_relay.proofs.lending.Resting.{all_others, others_both, others_on}
+use Rattle.tds_relay.proofs.spared.Speaking.{done_as}
 use Rattle.tds_relay.specs.declared.pool.leaving.Renewed.{Renewed}
 use Rattle.tds_relay.specs.Sparing.{IsKeptBy, IsRenewed}
+use Rattle.std.specs.Prelude.{List, ℕ}
+use Rattle.tds_relay.specs.declared.pool.Hold.{Hold}
+use Rattle.tds_relay.specs.Lent.{OthersKeep}
+use Rattle.tds_relay.proofs.held.Numbers.{Apart, apart_at}
+use Rattle.tds_relay.proofs.spared.Elsewhere.{aside_own, begun_aside, begun_own, keeps_both, keeps_on, renew_keeps}
+use Rattle.tds_relay.proofs.spared.Filling.{last_found}
+use Rattle.tds_relay.proofs.lending.Firsts.{Here, first_as, first_its, first_same, first_then_on}
+use Rattle.tds_relay.proofs.lending.Rests.{waiting_free_on, waiting_on, waiting_renewed, waiting_starts}
+use Rattle.tds_relay.proofs.lending.Stilled.{still_asked}
 use Rattle.tds_relay.proofs.relay.Relay.keep.Goals as goal
 
 pub returns-in-Kept-clause-goes : goal.returns-in-Kept-clause-goes
@@ -136,3 +143,48 @@ pub returns-in-NotKept-clause-apart : goal.returns-in-NotKept-clause-apart
 returns-in-NotKept-clause-apart c =
     renewed_off c.replace.result c.args.number c.args.key true c.args.self.now _ c.replace.new.self (λ reached. done_as c.args.key c.args.self.now _ reached c.in_ok-hold.ensures.others refl (λ k goes. refl))
     c.in_ok-hold.ensures.turns refl (off_more c.replace.result c.args.number (Some c.args.key) _ c.replace.new.self c.replace.ensures.apart)
+
+pub returns-in-Kept-clause-keeps : goal.returns-in-Kept-clause-keeps
+returns-in-Kept-clause-keeps c = λ reached.
+    let old = c.args.self.now in
+    let at = c.restart.new.self in
+    let key = c.args.key in
+    let led = reached_turn _ _ _ _ _ c.in_ok-hold.ensures.turns reached in
+    let is = subst (λ (r : Renewed). IsRenewed r key old.pool c.renew.new.self) c.in-Kept.is c.in_ok-hold.ensures.is in
+    let number = c.in-Kept.hold.number in
+    let its : key_of (find_number number c.renew.new.self.holds.items) ≡ Some key =
+    ap (λ (hs : List Hold). key_of (find_number number hs)) is.3 ∙ ap key_of (last_found c.in-Kept.hold _ (subst Apart is.3 (apart_at (pool_in c.renew.new.self) led))) ∙ ap (λ (k : ℕ). Some k) is.2 in
+    first_its c.start_kept.result c.args.number key old c.start_kept.new.self
+    (keeps_on c.start_kept.result key old.pool.holds.items at.pool.holds.items c.start_kept.new.self.pool.holds.items old.links.items at.links.items c.start_kept.new.self.links.items
+    (subst (λ (d : code.Pool). OthersKeep key old.pool.holds.items old.links.items d.holds.items at.links.items) (sym c.restart.ensures.pool)
+    (keeps_both key old.pool.holds.items c.renew.new.self.holds.items c.renew.new.self.holds.items old.links.items old.links.items at.links.items
+    (λ n differs. (renew_keeps (pool_in old.pool) key n reached differs (pool_in c.renew.new.self) true c.in_ok-hold.ensures.turns.pool_is, refl))
+    (begun_aside key number c.renew.new.self.holds.items old.links.items at.links.items its (begun_own number old.links.items at.links.items c.restart.ensures.queues c.restart.ensures.others))))
+    (aside_own c.start_kept.result key at c.start_kept.new.self (c.start_kept.ensures.own (subst (λ (d : code.Pool). IsReached (pool_in d)) (sym c.restart.ensures.pool) led))))
+
+pub returns-in-NotKept-clause-keeps : goal.returns-in-NotKept-clause-keeps
+returns-in-NotKept-clause-keeps c = λ reached.
+    let old = c.args.self.now in
+    let is = subst (λ (r : Renewed). IsRenewed r c.args.key old.pool c.renew.new.self) c.in-NotKept.is c.in_ok-hold.ensures.is in
+    let mid = record old { pool = c.renew.new.self } in
+    first_as c.replace.result c.args.number (Some c.args.key) old c.replace.new.self
+    (first_then_on c.replace.result c.args.number old mid c.replace.new.self (first_same (Here c.args.number) old mid (ap (λ (x : Pool). x.holds) is) refl) c.replace.ensures.keeps)
+
+pub returns-in-Kept-clause-rests : goal.returns-in-Kept-clause-rests
+returns-in-Kept-clause-rests c = λ reached.
+    let old = c.args.self.now in
+    let at = c.restart.new.self in
+    let key = c.args.key in
+    let led = reached_turn _ _ _ _ _ c.in_ok-hold.ensures.turns reached in
+    waiting_on c.start_kept.result c.args.number key old at c.start_kept.new.self
+    (waiting_renewed c.args.number key true old c.renew.new.self at reached c.in_ok-hold.ensures.turns.pool_is c.restart.ensures.pool (c.restart.ensures.waits c.args.number) c.restart.ensures.same)
+    (waiting_starts c.start_kept.result c.args.number key at c.start_kept.new.self (c.start_kept.ensures.own (subst (λ (d : code.Pool). IsReached (pool_in d)) (sym c.restart.ensures.pool) led)) c.start_kept.ensures.puts c.start_kept.ensures.stays)
+
+pub returns-in-NotKept-clause-rests : goal.returns-in-NotKept-clause-rests
+returns-in-NotKept-clause-rests c = λ reached. waiting_free_on c.replace.result c.args.number c.args.key c.args.self.now c.replace.new.self c.replace.ensures.frees
+
+pub returns-in-Kept-clause-still : goal.returns-in-Kept-clause-still
+returns-in-Kept-clause-still c = still_asked c.start_kept.result _ c.args.self.now.links.items c.restart.new.self.links.items c.start_kept.new.self.links.items c.restart.ensures.read c.restart.ensures.waits c.start_kept.ensures.shut
+
+pub returns-in-NotKept-clause-still : goal.returns-in-NotKept-clause-still
+returns-in-NotKept-clause-still c = c.replace.ensures.still

@@ -11,7 +11,7 @@ use Rattle.tds_relay.proofs.steps.Stepping.{no_steps, steps_on_ok, steps_quits}
 use Rattle.tds_relay.proofs.steps.Staying.{opens_served}
 use Rattle.tds_relay.proofs.bytes.Calls.{stand_on}
 use Rattle.tds_relay.proofs.spared.Letting.{gone_go, removed_rest}
-use Rattle.tds_relay.proofs.spared.Resting.{go_on}
+use Rattle.tds_relay.proofs.lending.Resting.{go_on}
 use Rattle.tds_relay.specs.Bodies.{body_in}
 use Rattle.tds_relay.specs.declared.application.Application.{Application as AnApplication}
 use Rattle.tds_relay.proofs.steps.Renaming.{names_left, names_on}
@@ -31,6 +31,8 @@ use Rattle.tds_relay.specs.Pool.{find_key}
 use Rattle.tds_relay.proofs.spared.Opening.{left_last, opens_new_on, opens_same, grows_on, grows_stays}
 use Rattle.tds_relay.proofs.spared.Filling.{first_own, puts_on}
 use Rattle.tds_relay.specs.Waiting.{IsLentByParting, IsLentInVain}
+use Rattle.tds_relay.proofs.lending.Dialled.{given_served}
+use Rattle.tds_relay.proofs.lending.Fresh.{features_kept, new_served, size_kept}
 use Rattle.tds_relay.proofs.relay.Relay.left.Goals as goal
 
 pub returns-clause-left : goal.returns-clause-left
@@ -102,7 +104,8 @@ pub returns-clause-ends : goal.returns-clause-ends
 returns-clause-ends c = λ reached.
     let old = c.args.self.now in
     let mid = c.release.new.self in
-    left_served c.serve_line.result c.args.key old mid c.serve_line.new.self (c.in_ok-release.ensures.ends reached) c.serve_line.ensures.opens (c.in_ok-release.ensures.frees reached)
+    left_served c.serve_line.result c.args.key old mid c.serve_line.new.self reached (left_last c.args.key (pool_in old.pool) (pool_in mid.pool) c.in_ok-release.ensures.leaving) (c.in_ok-release.ensures.ends reached) c.serve_line.ensures.given
+    (c.in_ok-release.ensures.frees reached)
     (c.serve_line.ensures.fills (reached_on (Application c.args.key) (pool_in old.pool) (pool_in mid.pool) (λ from h. reaches_left c.args.key from (pool_in old.pool) (pool_in mid.pool) c.in_ok-release.ensures.leaving h) reached))
 
 pub returns-clause-few : goal.returns-clause-few
@@ -151,7 +154,16 @@ returns-clause-cleaned c = λ reached.
     let mid = c.release.new.self in
     let quit = ends_quit old.applications c.try_remove.new.self c.args.key c.try_remove.result c.try_remove.ensures.value c.try_remove.ensures.slots c.try_remove.ensures.absent in
     let gone = quits_is old.applications c.try_remove.new.self c.args.key c.try_remove.result c.try_remove.ensures.value c.try_remove.ensures.slots c.try_remove.ensures.absent in
-    since_served_on c.serve_line.result c.args.key (without_key c.args.key (register_in old)) old mid c.serve_line.new.self (c.in_ok-release.ensures.cleaned reached) c.serve_line.ensures.goes c.serve_line.ensures.opens c.serve_line.ensures.counts
+    since_served_on c.serve_line.result c.args.key (without_key c.args.key (register_in old)) old mid c.serve_line.new.self reached (left_last c.args.key (pool_in old.pool) (pool_in mid.pool) c.in_ok-release.ensures.leaving) (c.in_ok-release.ensures.cleaned reached) c.serve_line.ensures.goes c.serve_line.ensures.given
+    c.serve_line.ensures.counts
     (closes_both NoKey _ _ _ (closes_kept NoKey (without_key c.args.key (register_in old)) _ quit gone refl (kept_refl old.links.items) (unclosed _ _ refl)) c.in_ok-release.ensures.closes)
     (last_more_on c.serve_line.result (IsWaiting (pool_in mid.pool).line) (IsWaiting (pool_in old.pool).line) (register_in mid) (register_in c.serve_line.new.self)
     (waited_left c.args.key (pool_in old.pool) (pool_in mid.pool) c.in_ok-release.ensures.leaving) c.serve_line.ensures.lasts)
+
+pub returns-clause-given : goal.returns-clause-given
+returns-clause-given c = given_served c.serve_line.result c.args.self.now c.release.new.self c.serve_line.new.self c.in_ok-release.ensures.read (left_last c.args.key (pool_in c.args.self.now.pool) (pool_in c.release.new.self.pool) c.in_ok-release.ensures.leaving) c.serve_line.ensures.given
+
+pub returns-clause-fresh : goal.returns-clause-fresh
+returns-clause-fresh c =
+    new_served c.serve_line.result c.args.self.now.size c.release.new.self.size c.args.self.now.features c.release.new.self.features c.args.self.now.links.items c.release.new.self.links.items c.serve_line.new.self.links.items (size_kept _ _ c.in_ok-release.ensures.closes.told) (features_kept _ _ c.in_ok-release.ensures.closes.told)
+    c.in_ok-release.ensures.read c.serve_line.ensures.fresh

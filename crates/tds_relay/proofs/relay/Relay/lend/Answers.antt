@@ -8,7 +8,7 @@ use Rattle.tds_relay.proofs.steps.Reaching.{ok_more, ok_if}
 use Rattle.tds_relay.proofs.steps.Staying.{opens_by_push, opens_on}
 use Rattle.tds_relay.proofs.bytes.Calls.{stand_from}
 use Rattle.tds_relay.specs.declared.pool.Pool as code
-use Rattle.tds_relay.proofs.spared.Resting.{go_on, go_on_one, pushed_rest, rest_go, all_others, others_on}
+use Rattle.tds_relay.proofs.lending.Resting.{go_on, go_on_one, pushed_rest, rest_go, all_others, others_on}
 use Rattle.tds_relay.specs.Fronts.{core_in}
 use Rattle.tds_relay.proofs.spared.Apart.{alone_on, alone_refl, alone_same}
 use Rattle.tds_relay.proofs.spared.Ordered.{ordered_on, ordered_same}
@@ -24,9 +24,12 @@ use Rattle.tds_relay.proofs.seats.Relays.{if_had, lasting_seated}
 use Rattle.tds_relay.proofs.seats.Linked.{seated_pushed}
 use Rattle.tds_relay.proofs.spared.Opening.{opens_one, grows_behind, grows_stays}
 use Rattle.tds_relay.specs.Ordering.{opens_if, opens_in}
-use Rattle.tds_relay.proofs.spared.Filling.{own_put, own_behind, own_first, own_pushed}
+use Rattle.tds_relay.proofs.spared.Filling.{own_put, own_behind, own_pushed}
 use Rattle.tds_relay.proofs.spared.Growing.{pushed_more}
 use Rattle.tds_relay.proofs.spared.Elsewhere.{begun_own}
+use Rattle.tds_relay.proofs.lending.Dialled.{given_by_push, given_stays_on}
+use Rattle.tds_relay.proofs.lending.Fresh.{dials_again, dials_by_push}
+use Rattle.tds_relay.proofs.lending.Stilled.{still_asked, still_pushed}
 use Rattle.tds_relay.proofs.relay.Relay.lend.Goals as goal
 
 pub returns-then-served-clause-opens : goal.returns-then-served-clause-opens
@@ -141,3 +144,26 @@ returns-then-served-clause-others c = λ reached.
 
 pub returns-clause-others : goal.returns-clause-others
 returns-clause-others c = λ reached. all_others c.args.served.hold.key c.args.self.now _ (pushed_rest c.in_ok-link.link c.args.self.now _ refl refl c.in_ok-push.ensures.items)
+
+pub returns-then-served-clause-given : goal.returns-then-served-clause-given
+returns-then-served-clause-given c = λ last new. given_stays_on c.start_kept.result last c.args.self.now.links.items c.restart.new.self.links.items c.start_kept.new.self.links.items c.restart.ensures.read c.start_kept.ensures.read
+
+pub returns-clause-given : goal.returns-clause-given
+returns-clause-given c = λ last new.
+    given_by_push last c.args.served.hold.number c.args.self.now.links.items c.push.new.self.items c.in_ok-link.link c.in_ok-push.ensures.items c.in_ok-link.ensures.number (new (search rules))
+
+pub returns-then-served-clause-fresh : goal.returns-then-served-clause-fresh
+returns-then-served-clause-fresh c =
+    dials_again c.start_kept.result c.args.self.now.size c.args.self.now.features c.args.self.now.links.items c.restart.new.self.links.items c.start_kept.new.self.links.items c.restart.ensures.read c.restart.ensures.queues c.start_kept.ensures.read
+    c.start_kept.ensures.shut
+
+pub returns-clause-fresh : goal.returns-clause-fresh
+returns-clause-fresh c =
+    dials_by_push c.args.self.now.size c.args.self.now.features c.args.self.now.links.items c.push.new.self.items c.in_ok-link.link c.in_ok-push.ensures.items c.in_ok-link.ensures.closed c.in_ok-link.ensures.unnamed c.in_ok-link.ensures.unread
+    c.in_ok-link.ensures.made
+
+pub returns-then-served-clause-still : goal.returns-then-served-clause-still
+returns-then-served-clause-still c = λ last new. still_asked c.start_kept.result _ c.args.self.now.links.items c.restart.new.self.links.items c.start_kept.new.self.links.items c.restart.ensures.read c.restart.ensures.waits c.start_kept.ensures.shut
+
+pub returns-clause-still : goal.returns-clause-still
+returns-clause-still c = λ last new. still_pushed last c.args.served.hold.number c.args.self.now.links.items c.push.new.self.items c.in_ok-link.link c.in_ok-push.ensures.items c.in_ok-link.ensures.number (new (search rules))

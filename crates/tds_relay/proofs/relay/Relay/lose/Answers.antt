@@ -4,7 +4,7 @@ use Rattle.tds_relay.specs.Ties.{Reaches, pool_in}
 use Rattle.tds_relay.proofs.steps.Fronts.{moves_loses, moves_same}
 use Rattle.tds_relay.proofs.steps.Reaching.{ok_if, ok_more, reaches_turn, reaches_turned}
 use Rattle.tds_relay.proofs.bytes.Calls.{stand_at}
-use Rattle.tds_relay.proofs.spared.Resting.{lost_on}
+use Rattle.tds_relay.proofs.lending.Resting.{lost_on}
 use Rattle.tds_relay.specs.Fronts.{ends_in}
 use Rattle.tds_relay.specs.Core.{change_whose, closes, holder}
 use Rattle.tds_relay.proofs.spared.Apart.{line_loses}

@@ -9,6 +9,7 @@ use Rattle.tds_relay.proofs.spared.Closings.{closes_more_on}
 use Rattle.tds_relay.proofs.spared.Begun.{answers_refl}
 use Rattle.tds_relay.proofs.seats.Pools.{off_of}
 use Rattle.tds_relay.proofs.spared.Filling.{own_lost_on, own_refl}
+use Rattle.tds_relay.proofs.lending.Fresh.{off_by, off_refl}
 use Rattle.tds_relay.proofs.relay.Relay.lose_own.Goals as goal
 
 pub returns-then-holder-key-clause-alone : goal.returns-then-holder-key-clause-alone
@@ -45,3 +46,12 @@ returns-else-holder-key-clause-own c = own_refl c.args.key c.args.self.now.pool.
 
 pub returns-in-None-clause-own : goal.returns-in-None-clause-own
 returns-in-None-clause-own c = own_refl c.args.key c.args.self.now.pool.holds.items c.args.self.now.links.items
+
+pub returns-then-holder-key-clause-off : goal.returns-then-holder-key-clause-off
+returns-then-holder-key-clause-off c = off_by c.lose.result c.args.number c.args.self.now.links.items c.lose.new.self.links.items c.lose.ensures.queues c.lose.ensures.answers
+
+pub returns-else-holder-key-clause-off : goal.returns-else-holder-key-clause-off
+returns-else-holder-key-clause-off c = off_refl c.args.number c.args.self.now.links.items
+
+pub returns-in-None-clause-off : goal.returns-in-None-clause-off
+returns-in-None-clause-off c = off_refl c.args.number c.args.self.now.links.items

@@ -4,13 +4,13 @@ use Rattle.tds_relay.specs.Ties.{pool_in, Neither}
 use Rattle.tds_relay.proofs.steps.Stepping.{no_steps, steps_moved, steps_whoever}
 use Rattle.tds_relay.proofs.steps.Staying.{opens_served}
 use Rattle.tds_relay.proofs.bytes.Calls.{stand_on}
-use Rattle.tds_relay.proofs.spared.Resting.{go_on, reached_on_does, rest_go}
+use Rattle.tds_relay.proofs.lending.Resting.{go_on, reached_on_does, rest_go}
 use Rattle.tds_relay.proofs.steps.Reaching.{ok_more}
 use Rattle.tds_relay.proofs.steps.Renaming.{names_on}
 use Rattle.tds_relay.specs.Queues.{names_in, names_of}
 use Rattle.std.proofs.Common.{ap, ◌∙◌, inl, inr, sym, ◌≡◌, ℕ}
 use Rattle.tds_relay.proofs.spared.Ordered.{ordered_on}
-use Rattle.tds_relay.specs.Closings.{IsWaiting, IsWho, WhoOrWaiting, register_in}
+use Rattle.tds_relay.specs.Closings.{IsWaiting, IsWho, register_in}
 use Rattle.tds_relay.specs.Core.{holder, is_in}
 use Rattle.tds_relay.proofs.spared.Closings.{closes_more, closes_with}
 use Rattle.tds_relay.proofs.spared.Few.{few_behind, most_kept, none_stays}
@@ -19,6 +19,8 @@ use Rattle.tds_relay.proofs.spared.Lasting.{besides_on, but_others}
 use Rattle.tds_relay.proofs.spared.Opening.{on_last, opens_new_on, opens_same, grows_on, grows_stays}
 use Rattle.tds_relay.proofs.spared.Filling.{carried, first_lost, puts_on}
 use Rattle.tds_relay.specs.Waiting.{IsLentInVain, LosesOrLends}
+use Rattle.tds_relay.proofs.lending.Dialled.{given_served}
+use Rattle.tds_relay.proofs.lending.Fresh.{features_kept, new_served, size_kept}
 use Rattle.tds_relay.proofs.relay.Relay.lost.Goals as goal
 
 pub returns-clause-steps : goal.returns-clause-steps
@@ -96,3 +98,11 @@ returns-clause-puts c = λ reached.
 
 pub returns-clause-many : goal.returns-clause-many
 returns-clause-many c = grows_on c.serve_line.result c.args.self.now c.lose.new.self c.serve_line.new.self (grows_stays c.args.self.now c.lose.new.self c.lose.ensures.opening c.in_ok-lose.ensures.read) c.serve_line.ensures.many
+
+pub returns-clause-given : goal.returns-clause-given
+returns-clause-given c = given_served c.serve_line.result c.args.self.now c.lose.new.self c.serve_line.new.self c.in_ok-lose.ensures.read (on_last (pool_in c.args.self.now.pool) (pool_in c.lose.new.self.pool) c.in_ok-lose.ensures.goes) c.serve_line.ensures.given
+
+pub returns-clause-fresh : goal.returns-clause-fresh
+returns-clause-fresh c =
+    new_served c.serve_line.result c.args.self.now.size c.lose.new.self.size c.args.self.now.features c.lose.new.self.features c.args.self.now.links.items c.lose.new.self.links.items c.serve_line.new.self.links.items (size_kept _ _ c.in_ok-lose.ensures.closes.told) (features_kept _ _ c.in_ok-lose.ensures.closes.told)
+    c.in_ok-lose.ensures.read c.serve_line.ensures.fresh

@@ -21,7 +21,7 @@ use Rattle.slab.specs.Slab.{get}
 use Rattle.tds_relay.specs.Waiting.{KeepsInLine, KeepsSaid}
 use Rattle.tds_relay.proofs.seats.Relays.{kept_end}
 use Rattle.tds_relay.proofs.steps.Quieting.{Drops, Opens, begun_fed, quiet_fed}
-use Rattle.tds_relay.proofs.spared.Resting.{others_all, others_refl, same_on}
+use Rattle.tds_relay.proofs.lending.Resting.{others_all, others_refl, same_on}
 use Rattle.tds_relay.proofs.spared.Elsewhere.{aside_linked, aside_refl}
 use Rattle.tds_relay.proofs.steps.Halting.{cancelled_told}
 use Rattle.tds_relay.specs.Reads.{waits_on}

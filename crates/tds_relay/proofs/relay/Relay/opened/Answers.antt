@@ -6,7 +6,7 @@ use Rattle.tds_relay.proofs.steps.Fullness.{full_queued}
 use Rattle.tds_relay.proofs.steps.Staying.{opens_one_served, stays_behind, opens_alone}
 use Rattle.tds_relay.proofs.bytes.Calls.{stand_back, stand_on}
 use Rattle.tds_relay.specs.declared.pool.Pool as code
-use Rattle.tds_relay.proofs.spared.Resting.{all_both, all_rest, asks_on, go_both, go_on, reached_on_does, rest_go}
+use Rattle.tds_relay.proofs.lending.Resting.{all_both, all_rest, asks_on, go_both, go_on, reached_on_does, rest_go}
 use Rattle.tds_relay.specs.Reads.{queue_on, open_at, carried_there, waits_on}
 use Rattle.tds_relay.proofs.spared.Starting.{started_on}
 use Rattle.tds_relay.proofs.steps.Renaming.{names_on}
@@ -30,6 +30,8 @@ use Rattle.tds_relay.specs.declared.link.Link.{Link}
 use Rattle.tds_relay.specs.Reasons.{IsTurnedAwayAt}
 use Rattle.tds_relay.proofs.spared.Turned.{opens_for}
 use Rattle.tds_relay.specs.Waiting.{IsLentInVain, OpensOrLends}
+use Rattle.tds_relay.proofs.lending.Dialled.{given_opened}
+use Rattle.tds_relay.proofs.lending.Fresh.{features_kept, new_behind, size_kept}
 use Rattle.tds_relay.proofs.relay.Relay.opened.Goals as goal
 
 pub returns-clause-steps : goal.returns-clause-steps
@@ -191,3 +193,18 @@ returns-clause-many c =
     (grows_both c.args.self.now c.order_write_on.new.self c.start_on.new.self
     (grows_few c.args.self.now c.order_write_on.new.self (c.order_write_on.ensures.opening ∙ ap opens_in c.set_open.ensures.orders) (let le : length c.order_write_on.new.self.links.items ≤ length c.args.self.now.links.items = omega (arith, many) in le))
     (grows_stays c.order_write_on.new.self c.start_on.new.self c.start_on.ensures.opening c.in_ok-start_on.ensures.read)) c.serve_line.ensures.many
+
+pub returns-clause-given : goal.returns-clause-given
+returns-clause-given c =
+    let same = c.order_write_on.ensures.pool ∙ c.set_open.ensures.pool in
+    given_opened c.serve_line.result c.args.number c.args.self.now c.set_open.new.self c.start_on.new.self c.serve_line.new.self c.set_open.ensures.seen c.set_open.ensures.waits c.set_open.ensures.answers
+    (λ other. full_queued other c.args.self.now.links.items c.set_open.new.self.links.items (c.set_open.ensures.queues other))
+    (stays_behind _ _ _ c.in_ok-order_write_on.ensures.links c.in_ok-start_on.ensures.read)
+    (subst (λ (d : code.Pool). (pool_in d).service.last ≤ (pool_in c.start_on.new.self.pool).service.last) same (on_last (pool_in c.order_write_on.new.self.pool) (pool_in c.start_on.new.self.pool) c.in_ok-start_on.ensures.goes))
+    c.serve_line.ensures.given
+
+pub returns-clause-fresh : goal.returns-clause-fresh
+returns-clause-fresh c =
+    let told = c.in_ok-start_on.ensures.closes.told ∙ c.in_ok-order_write_on.ensures.closes.told ∙ c.set_open.ensures.closes.told in
+    new_behind c.serve_line.result c.args.self.now.size c.start_on.new.self.size c.args.self.now.features c.start_on.new.self.features c.args.self.now.links.items c.start_on.new.self.links.items c.serve_line.new.self.links.items (size_kept _ _ told) (features_kept _ _ told)
+    (none_both _ _ _ (none_same _ _ c.set_open.ensures.waits) (none_stays _ _ (stays_behind _ _ _ c.in_ok-order_write_on.ensures.links c.in_ok-start_on.ensures.read))) c.serve_line.ensures.fresh

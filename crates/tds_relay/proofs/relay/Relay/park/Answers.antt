@@ -8,10 +8,10 @@ use Rattle.tds_relay.proofs.spared.Few.{most_kept, none_stays}
 use Rattle.tds_relay.proofs.spared.Lines.{waited_left}
 use Rattle.tds_relay.proofs.spared.Ordered.{ordered_both}
 use Rattle.tds_relay.proofs.spared.Parks.{asks_none, parked_apart, parked_few, parked_go, parks}
-use Rattle.tds_relay.proofs.spared.Resting.{go_both}
+use Rattle.tds_relay.proofs.lending.Resting.{go_both}
 use Rattle.tds_relay.proofs.steps.Fronts.{moves_parks, no_moves}
 use Rattle.tds_relay.proofs.steps.Reaching.{reached_on, reaches_left}
-use Rattle.tds_relay.proofs.steps.Staying.{opens_both, stays_opens}
+use Rattle.tds_relay.proofs.steps.Staying.{opens_both, stays_opens, stays_refl}
 use Rattle.tds_relay.proofs.steps.Stepping.{no_steps, steps_moved, steps_moves}
 use Rattle.tds_relay.proofs.visits.Parking.{parked_away}
 use Rattle.tds_relay.proofs.spared.Lasting.{besides, but_refl, last_more}
@@ -25,6 +25,8 @@ use Rattle.tds_relay.specs.Core.{holder}
 use Rattle.tds_relay.proofs.spared.Freeing.{served_since}
 use Rattle.tds_relay.proofs.spared.Cleaned.{since_served}
 use Rattle.tds_relay.specs.Waiting.{IsLentByParting, IsLentInVain}
+use Rattle.tds_relay.proofs.lending.Dialled.{given_refl, given_then}
+use Rattle.tds_relay.proofs.lending.Fresh.{features_kept, new_refl, new_then, size_kept}
 use Rattle.tds_relay.proofs.relay.Relay.park.Goals as goal
 
 pub returns-clause-left : goal.returns-clause-left
@@ -109,7 +111,8 @@ pub returns-clause-ends : goal.returns-clause-ends
 returns-clause-ends c = λ reached yes.
     let old = c.args.self.now in
     let mid = c.release.new.self in
-    served_since c.args.key old mid c.serve_line.new.self (c.in_ok-release.ensures.ends reached) c.in_ok-serve_line.ensures.opens (c.in_ok-release.ensures.frees reached)
+    served_since c.args.key old mid c.serve_line.new.self reached (left_last c.args.key (pool_in old.pool) (pool_in mid.pool) c.in_ok-release.ensures.leaving) (c.in_ok-release.ensures.ends reached) c.in_ok-serve_line.ensures.given
+    (c.in_ok-release.ensures.frees reached)
     (c.in_ok-serve_line.ensures.fills (reached_on (Application c.args.key) (pool_in old.pool) (pool_in mid.pool) (λ from h. reaches_left c.args.key from (pool_in old.pool) (pool_in mid.pool) c.in_ok-release.ensures.leaving h) reached))
 
 pub returns-clause-seated : goal.returns-clause-seated
@@ -159,5 +162,21 @@ pub returns-clause-cleaned : goal.returns-clause-cleaned
 returns-clause-cleaned c = λ reached yes.
     let old = c.args.self.now in
     let mid = c.release.new.self in
-    since_served c.args.key (register_in old) old mid c.serve_line.new.self (c.in_ok-release.ensures.cleaned reached) c.in_ok-serve_line.ensures.goes c.in_ok-serve_line.ensures.opens c.serve_line.ensures.counts c.in_ok-release.ensures.closes
+    since_served c.args.key (register_in old) old mid c.serve_line.new.self reached (left_last c.args.key (pool_in old.pool) (pool_in mid.pool) c.in_ok-release.ensures.leaving) (c.in_ok-release.ensures.cleaned reached) c.in_ok-serve_line.ensures.goes c.in_ok-serve_line.ensures.given
+    c.serve_line.ensures.counts c.in_ok-release.ensures.closes
     (last_more (IsWaiting (pool_in mid.pool).line) (IsWaiting (pool_in old.pool).line) _ _ (waited_left c.args.key (pool_in old.pool) (pool_in mid.pool) c.in_ok-release.ensures.leaving) c.in_ok-serve_line.ensures.lasts)
+
+pub returns-then-not-may_park-clause-given : goal.returns-then-not-may_park-clause-given
+returns-then-not-may_park-clause-given c = given_refl c.args.self.now (stays_refl c.args.self.now.links.items)
+
+pub returns-clause-given : goal.returns-clause-given
+returns-clause-given c =
+    given_then c.args.self.now c.release.new.self c.serve_line.new.self c.in_ok-release.ensures.read (left_last c.args.key (pool_in c.args.self.now.pool) (pool_in c.release.new.self.pool) c.in_ok-release.ensures.leaving) c.in_ok-serve_line.ensures.given
+
+pub returns-then-not-may_park-clause-fresh : goal.returns-then-not-may_park-clause-fresh
+returns-then-not-may_park-clause-fresh c = new_refl c.args.self.now.size c.args.self.now.features c.args.self.now.links.items
+
+pub returns-clause-fresh : goal.returns-clause-fresh
+returns-clause-fresh c =
+    new_then c.args.self.now.size c.release.new.self.size c.args.self.now.features c.release.new.self.features c.args.self.now.links.items c.release.new.self.links.items c.serve_line.new.self.links.items (size_kept _ _ c.in_ok-release.ensures.closes.told) (features_kept _ _ c.in_ok-release.ensures.closes.told)
+    c.in_ok-release.ensures.read c.in_ok-serve_line.ensures.fresh

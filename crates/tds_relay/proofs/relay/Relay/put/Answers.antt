@@ -10,7 +10,7 @@ use Rattle.tds_relay.proofs.steps.Reaching.{ok_more}
 use Rattle.tds_relay.proofs.steps.Staying.{stays_behind, stays_on}
 use Rattle.tds_relay.proofs.steps.Underway.{of_closed}
 use Rattle.tds_relay.proofs.bytes.Calls.{stand_at, stand_on}
-use Rattle.tds_relay.proofs.spared.Resting.{others_all, others_refl, put_reached, put_rest, same_on, sent_rest}
+use Rattle.tds_relay.proofs.lending.Resting.{others_all, others_refl, put_reached, put_rest, same_on, sent_rest}
 use Rattle.tds_relay.proofs.steps.Bodied.{closed_body, shut}
 use Rattle.tds_relay.proofs.steps.Going.{grows_on, waits_behind}
 use Rattle.tds_relay.specs.Bodies.{ClientPuts, going_of, Grows, going}
@@ -29,6 +29,7 @@ use Rattle.tds_relay.proofs.seats.Relays.{pool_kept, kept_end, lasting_seated}
 use Rattle.tds_relay.proofs.seats.Pools.{gone_on, seated_on}
 use Rattle.tds_relay.proofs.spared.Filling.{carried, own_behind, own_end, own_first, own_put}
 use Rattle.tds_relay.proofs.held.Numbers.{apart_at, its_holder}
+use Rattle.tds_relay.proofs.lending.Fresh.{hold_is, hold_one, hold_unchanged, off_same, off_then}
 use Rattle.tds_relay.proofs.relay.Relay.put.Goals as goal
 
 pub returns-in_default-clause-moves : goal.returns-in_default-clause-moves
@@ -277,3 +278,27 @@ returns-else-fits-clause-own c = λ reached.
     (its_holder c.args.key c.in-Some.hold c.args.self.now.pool.holds.items (apart_at (pool_in c.args.self.now.pool) reached) (sym c.hold_of.ensures ∙ c.in-Some.is))
     (λ n differs. carried n c.note_went_on.new.self.links.items c.fits_on.new.self.links.items (c.in_ok-fits.ensures.queues n differs) (c.in_ok-fits.ensures.answers.keeps n) ∙ ap (carried_there n) c.note_went_on.ensures.links))
     c.fail-else-fits.ensures.own
+
+pub returns-in_default-clause-off : goal.returns-in_default-clause-off
+returns-in_default-clause-off c = hold_unchanged c.end.result c.args.key c.args.self.now c.end.new.self c.end.ensures.links
+
+pub returns-then-not-may_put-clause-off : goal.returns-then-not-may_put-clause-off
+returns-then-not-may_put-clause-off c = hold_is c.fail.result c.args.key c.in-Some.hold c.args.self.now c.fail.new.self (sym c.hold_of.ensures ∙ c.in-Some.is) c.fail.ensures.off
+
+pub returns-then-not-is_put-clause-off : goal.returns-then-not-is_put-clause-off
+returns-then-not-is_put-clause-off c =
+    hold_is c.fail-then-not-is_put.result c.args.key c.in-Some.hold c.args.self.now c.fail-then-not-is_put.new.self (sym c.hold_of.ensures ∙ c.in-Some.is)
+    (off_then c.fail-then-not-is_put.result c.in-Some.hold.number c.args.self.now.links.items c.note_went_on.new.self.links.items c.fail-then-not-is_put.new.self.links.items
+    (off_same c.in-Some.hold.number c.args.self.now.links.items c.note_went_on.new.self.links.items c.note_went_on.ensures.links) c.fail-then-not-is_put.ensures.off)
+
+pub returns-then-fits-clause-off : goal.returns-then-fits-clause-off
+returns-then-fits-clause-off c =
+    hold_one c.args.key c.in-Some.hold c.args.self.now c.fits_on.new.self (sym c.hold_of.ensures ∙ c.in-Some.is)
+    (record { rest = λ n differs. carried n c.note_went_on.new.self.links.items c.fits_on.new.self.links.items (c.in_ok-fits.ensures.queues n differs) (c.in_ok-fits.ensures.answers.keeps n) ∙ ap (carried_there n) c.note_went_on.ensures.links })
+
+pub returns-else-fits-clause-off : goal.returns-else-fits-clause-off
+returns-else-fits-clause-off c =
+    hold_is c.fail-else-fits.result c.args.key c.in-Some.hold c.args.self.now c.fail-else-fits.new.self (sym c.hold_of.ensures ∙ c.in-Some.is)
+    (off_then c.fail-else-fits.result c.in-Some.hold.number c.args.self.now.links.items c.fits_on.new.self.links.items c.fail-else-fits.new.self.links.items
+    (record { rest = λ n differs. carried n c.note_went_on.new.self.links.items c.fits_on.new.self.links.items (c.in_ok-fits.ensures.queues n differs) (c.in_ok-fits.ensures.answers.keeps n) ∙ ap (carried_there n) c.note_went_on.ensures.links })
+    c.fail-else-fits.ensures.off)

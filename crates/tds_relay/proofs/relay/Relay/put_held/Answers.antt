@@ -5,7 +5,7 @@ use Rattle.tds_relay.proofs.steps.Bodied.{none_grows}
 use Rattle.tds_relay.proofs.steps.Going.{grows_asked}
 use Rattle.tds_relay.proofs.steps.Reaching.{ok_more}
 use Rattle.tds_relay.proofs.steps.Underway.{written_there}
-use Rattle.tds_relay.proofs.spared.Resting.{others_on, written_rest}
+use Rattle.tds_relay.proofs.lending.Resting.{others_on, written_rest}
 use Rattle.tds_relay.proofs.spared.Starting.{put_unkept_on, unkept_none}
 use Rattle.tds_relay.specs.Fronts.{ends_in, core_in, core_of_ends}
 use Rattle.tds_relay.specs.Ties.{pool_in}
@@ -21,6 +21,7 @@ use Rattle.tds_relay.proofs.spared.Reasons.{for_that}
 use Rattle.tds_relay.specs.Reasons.{CannotPut, ItselfFor}
 use Rattle.tds_relay.specs.Core.{EndList, end_at}
 use Rattle.tds_relay.proofs.spared.Filling.{own_refl}
+use Rattle.tds_relay.proofs.lending.Fresh.{off_refl}
 use Rattle.tds_relay.proofs.relay.Relay.put_held.Goals as goal
 
 pub returns-in_default-clause-body : goal.returns-in_default-clause-body
@@ -79,3 +80,9 @@ returns-in_default-clause-own c = λ reached. own_refl c.args.key c.args.self.no
 
 pub returns-clause-own : goal.returns-clause-own
 returns-clause-own c = λ reached. c.put.ensures.own reached
+
+pub returns-in_default-clause-off : goal.returns-in_default-clause-off
+returns-in_default-clause-off c = λ hold its. off_refl hold.number c.args.self.now.links.items
+
+pub returns-clause-off : goal.returns-clause-off
+returns-clause-off c = c.put.ensures.off

@@ -2,34 +2,33 @@ use Rattle.std.proofs.Common.{ap, inl, inr, refl, rules, subst, sym, true, â—Œâ‰
 use Rattle.tds_relay.specs.Waiting.{IsUnheldOrTurnedAway}
 use Rattle.tds_relay.specs.declared.pool.Pool as code
 use Rattle.tds_relay.proofs.steps.Fronts.{moves_closes, moves_does, moves_same}
-use Rattle.tds_relay.proofs.steps.Reaching.{ok_if, ok_more, reaches_turn, reached_turn}
+use Rattle.tds_relay.proofs.steps.Reaching.{ok_more, reaches_turn, reached_turn}
 use Rattle.tds_relay.proofs.steps.Staying.{stays_on}
 use Rattle.tds_relay.proofs.bytes.Calls.{stand_at, stand_on}
 use Rattle.tds_relay.specs.Asking.{Closes}
 use Rattle.tds_relay.specs.Bodies.{body_in, body_of, going_of}
 use Rattle.slab.specs.Slab.{Slab, get}
 use Rattle.tds_relay.specs.declared.application.Application as an
-use Rattle.tds_relay.proofs.steps.Bodied.{closed_body, closed_starts, shut, shut_starts, spared_starts}
+use Rattle.tds_relay.proofs.steps.Bodied.{shut, shut_starts, spared_starts}
 use Rattle.tds_relay.proofs.steps.Going.{waits_from}
 use Rattle.tds_relay.proofs.steps.Still.{spared_place, waits_place}
 use Rattle.tds_relay.specs.Reads.{waits_on}
-use Rattle.tds_relay.specs.Closings.{IsWho}
 use Rattle.tds_relay.specs.Pool.{Pool, find_number, key_of}
 use Rattle.tds_relay.specs.Fronts.{ends_in}
 use Rattle.tds_relay.specs.Reasons.{HasTransaction, Unkept, Unserved}
 use Rattle.tds_relay.proofs.spared.Turned.{as_seen, part_at, renewed_held, turned_with}
-use Rattle.tds_relay.proofs.spared.Closings.{closes_first, closes_more_on}
+use Rattle.tds_relay.proofs.spared.Closings.{closes_first}
 use Rattle.tds_relay.proofs.spared.Reasons.{for_reason, for_that}
-use Rattle.tds_relay.proofs.seats.Relays.{closed_end, pool_lasting, renewed_on, renewed_out, renews_keep}
+use Rattle.tds_relay.proofs.seats.Relays.{pool_lasting, renewed_on, renews_keep}
 use Rattle.tds_relay.specs.declared.pool.leaving.Renewed.TheVariants as renewals
 use Rattle.tds_relay.specs.Ties.{Application, IsReached, Reaches, pool_in}
-use Rattle.tds_relay.proofs.spared.Speaking.{done_as, closed_rest}
-use Rattle.tds_relay.proofs.spared.Resting.{all_others, others_both, others_on}
+use Rattle.tds_relay.proofs.spared.Speaking.{done_as}
+use Rattle.tds_relay.proofs.lending.Resting.{all_others, others_both, others_on}
 use Rattle.tds_relay.specs.declared.pool.leaving.Renewed.{Renewed}
 use Rattle.tds_relay.specs.Sparing.{IsKeptBy, IsRenewed}
-use Rattle.tds_relay.proofs.spared.Elsewhere.{begun_aside, begun_own, aside_own, keeps_both, keeps_on, renew_keeps, closed_aside}
-use Rattle.tds_relay.proofs.spared.Filling.{carried, last_found}
-use Rattle.tds_relay.proofs.held.Numbers.{Apart, apart_at, its_holder}
+use Rattle.tds_relay.proofs.spared.Elsewhere.{begun_aside, begun_own, aside_own, keeps_both, keeps_on, renew_keeps}
+use Rattle.tds_relay.proofs.spared.Filling.{last_found}
+use Rattle.tds_relay.proofs.held.Numbers.{Apart, apart_at}
 use Rattle.tds_relay.specs.Lent.{OthersKeep}
 use Rattle.tds_relay.specs.declared.pool.Hold.{Hold}
 use Rattle.tds_relay.proofs.spared.Rightly.{deaf_right_on, held_right_on}

@@ -1,7 +1,7 @@
 use Rattle.std.proofs.Common.{◌∙◌, ℕ, List, ap, refl, rules, subst, sym, None, Some}
 use Rattle.tds_relay.specs.declared.pool.Pool as code
 use Rattle.tds_relay.specs.declared.link.Link.{Link}
-use Rattle.tds_relay.specs.Reads.{LinksStay}
+use Rattle.tds_relay.specs.Reads.{LinksStay, queue_on}
 use Rattle.tds_relay.specs.Ties.{Connection, Reaches, pool_in}
 use Rattle.tds_relay.proofs.steps.Fronts.{moves_loses, moves_replaces, moves_same}
 use Rattle.tds_relay.proofs.steps.Reaching.{ok_if, ok_more, reaches_turn}
@@ -26,6 +26,9 @@ use Rattle.tds_relay.proofs.seats.Relays.{closed_end, closed_seated, pool_but}
 use Rattle.tds_relay.proofs.seats.Pools.{lost_seated, off_of}
 use Rattle.tds_relay.proofs.steps.Quieting.{open_lets_go, whose_is}
 use Rattle.tds_relay.proofs.spared.Off.{all_off, asks_more, lost_off, parted_off, waits_off}
+use Rattle.tds_relay.proofs.lending.Firsts.{first_lost_on}
+use Rattle.tds_relay.proofs.lending.Rests.{free_lost}
+use Rattle.tds_relay.proofs.lending.Stilled.{sent_still, still_off, still_then}
 use Rattle.tds_relay.proofs.relay.Relay.replace.Goals as goal
 
 pub returns-in_default-clause-goes : goal.returns-in_default-clause-goes
@@ -163,3 +166,44 @@ returns-clause-apart c =
     (parted_off c.args.number None c.args.self.now c.let_go.new.self c.close_link-2.new.self c.lose-2.new.self c.in_ok-holder.ensures.off (c.in_ok-close_link.ensures.pool ∙ c.let_go.ensures.pool) c.in_ok-close_link.ensures.others c.let_go.ensures.links
     c.let_go.ensures.asks c.in_ok-close_link.ensures.asks)
     c.wait.ensures.body)
+
+pub returns-then-not-may_replace-clause-keeps : goal.returns-then-not-may_replace-clause-keeps
+returns-then-not-may_replace-clause-keeps c = first_lost_on c.lose.result c.args.number c.args.self.now c.lose.new.self c.lose.ensures.holds c.lose.ensures.queues c.lose.ensures.answers
+
+pub returns-in_default-clause-keeps : goal.returns-in_default-clause-keeps
+returns-in_default-clause-keeps c =
+    first_lost_on c.close_link.result c.args.number c.args.self.now c.close_link.new.self
+    (ok_if c.close_link.result _ (ap (λ (d : code.Pool). d.holds.items) c.close_link.ensures.pool ∙ c.in_ok-holder.ensures.holds)) c.close_link.ensures.queues c.close_link.ensures.answers
+
+pub returns-clause-keeps : goal.returns-clause-keeps
+returns-clause-keeps c =
+    let gone : KeepsAnswers c.args.self.now.links.items c.close_link-2.new.self.links.items =
+    subst (λ (ls : List Link). KeepsAnswers ls c.close_link-2.new.self.links.items) c.let_go.ensures.links c.in_ok-close_link.ensures.answers in
+    first_lost_on c.wait.result c.args.number c.args.self.now c.wait.new.self
+    (ok_more c.wait.result _ _ (λ h. h ∙ ap (λ (d : code.Pool). d.holds.items) (c.in_ok-close_link.ensures.pool ∙ c.let_go.ensures.pool) ∙ c.in_ok-holder.ensures.holds) c.wait.ensures.holds)
+    (ok_if c.wait.result _ (λ other differs. ap (queue_on other) c.wait.ensures.links ∙ c.in_ok-close_link.ensures.queues other differs ∙ ap (queue_on other) c.let_go.ensures.links))
+    (ok_if c.wait.result _ (subst (λ (ls : List Link). KeepsAnswers c.args.self.now.links.items ls) (sym c.wait.ensures.links) gone))
+
+pub returns-then-not-may_replace-clause-frees : goal.returns-then-not-may_replace-clause-frees
+returns-then-not-may_replace-clause-frees c = free_lost c.lose.result c.args.number c.args.self.now c.lose.new.self c.lose.ensures.holds
+
+pub returns-in_default-clause-frees : goal.returns-in_default-clause-frees
+returns-in_default-clause-frees c =
+    free_lost c.close_link.result c.args.number c.args.self.now c.close_link.new.self (ok_if c.close_link.result _ (ap (λ (d : code.Pool). d.holds.items) c.close_link.ensures.pool ∙ c.in_ok-holder.ensures.holds))
+
+pub returns-clause-frees : goal.returns-clause-frees
+returns-clause-frees c =
+    free_lost c.wait.result c.args.number c.args.self.now c.wait.new.self
+    (ok_more c.wait.result _ _ (λ h. h ∙ ap (λ (d : code.Pool). d.holds.items) (c.in_ok-close_link.ensures.pool ∙ c.let_go.ensures.pool) ∙ c.in_ok-holder.ensures.holds) c.wait.ensures.holds)
+
+pub returns-then-not-may_replace-clause-still : goal.returns-then-not-may_replace-clause-still
+returns-then-not-may_replace-clause-still c = still_off c.lose.result c.args.number c.args.self.now.links.items c.lose.new.self.links.items c.lose.ensures.others
+
+pub returns-in_default-clause-still : goal.returns-in_default-clause-still
+returns-in_default-clause-still c = still_off c.close_link.result c.args.number c.args.self.now.links.items c.close_link.new.self.links.items c.close_link.ensures.others
+
+pub returns-clause-still : goal.returns-clause-still
+returns-clause-still c =
+    still_then c.wait.result _ c.args.self.now.links.items c.close_link-2.new.self.links.items c.wait.new.self.links.items
+    (sent_still c.args.number c.args.self.now.links.items c.let_go.new.self.links.items c.close_link-2.new.self.links.items c.let_go.ensures.links c.in_ok-close_link.ensures.others)
+    (ok_if c.wait.result _ c.wait.ensures.links)

@@ -1,4 +1,4 @@
-use Rattle.std.proofs.Common.{◌⊎◌, ℕ, Some, ap, inl, inr, rules, subst, sym}
+use Rattle.std.proofs.Common.{◌⊎◌, ℕ, Some, ap, inl, inr, refl, rules, subst, sym}
 use Rattle.tds_relay.specs.Waiting.{IsUnheldOrTurnedAway}
 use Rattle.tds_relay.proofs.steps.Reaching.{ok_if, ok_more}
 use Rattle.tds_relay.proofs.spared.Coming.{start_along}
@@ -9,6 +9,11 @@ use Rattle.tds_relay.proofs.spared.Only.{spares_alone_on}
 use Rattle.tds_relay.specs.Fronts.{core_in}
 use Rattle.tds_relay.proofs.bytes.SetAnew.{any_kept, any_refl}
 use Rattle.tds_relay.proofs.spared.Off.{others_off_on}
+use Rattle.tds_relay.proofs.spared.Elsewhere.{aside_own}
+use Rattle.tds_relay.proofs.lending.Firsts.{first_its}
+use Rattle.tds_relay.proofs.lending.Rests.{waiting_starts}
+use Rattle.tds_relay.proofs.lending.Stilled.{still_asked}
+use Rattle.tds_relay.proofs.steps.Staying.{stays_refl}
 use Rattle.tds_relay.proofs.relay.Relay.resume.Goals as goal
 
 pub returns-then-asks_to_keep-clause-moves : goal.returns-then-asks_to_keep-clause-moves
@@ -47,3 +52,23 @@ returns-else-asks_to_keep-clause-begins c = any_kept c.start_kept.result _ _ _ (
 
 pub returns-else-asks_to_keep-clause-apart : goal.returns-else-asks_to_keep-clause-apart
 returns-else-asks_to_keep-clause-apart c = others_off_on c.start_kept.result c.args.number c.args.key c.args.self.now c.start_kept.new.self c.start_kept.ensures.others
+
+pub returns-then-asks_to_keep-clause-keeps : goal.returns-then-asks_to_keep-clause-keeps
+returns-then-asks_to_keep-clause-keeps c = λ reached. c.keep.ensures.keeps reached
+
+pub returns-else-asks_to_keep-clause-keeps : goal.returns-else-asks_to_keep-clause-keeps
+returns-else-asks_to_keep-clause-keeps c = λ reached.
+    first_its c.start_kept.result c.args.number c.args.key c.args.self.now c.start_kept.new.self (aside_own c.start_kept.result c.args.key c.args.self.now c.start_kept.new.self (c.start_kept.ensures.own reached))
+
+pub returns-then-asks_to_keep-clause-rests : goal.returns-then-asks_to_keep-clause-rests
+returns-then-asks_to_keep-clause-rests c = λ reached. c.keep.ensures.rests reached
+
+pub returns-else-asks_to_keep-clause-rests : goal.returns-else-asks_to_keep-clause-rests
+returns-else-asks_to_keep-clause-rests c = λ reached.
+    waiting_starts c.start_kept.result c.args.number c.args.key c.args.self.now c.start_kept.new.self (c.start_kept.ensures.own reached) c.start_kept.ensures.puts c.start_kept.ensures.stays
+
+pub returns-then-asks_to_keep-clause-still : goal.returns-then-asks_to_keep-clause-still
+returns-then-asks_to_keep-clause-still c = c.keep.ensures.still
+
+pub returns-else-asks_to_keep-clause-still : goal.returns-else-asks_to_keep-clause-still
+returns-else-asks_to_keep-clause-still c = still_asked c.start_kept.result _ c.args.self.now.links.items c.args.self.now.links.items c.start_kept.new.self.links.items (stays_refl c.args.self.now.links.items) (λ n. refl) c.start_kept.ensures.shut

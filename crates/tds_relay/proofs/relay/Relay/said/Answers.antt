@@ -20,6 +20,8 @@ use Rattle.tds_relay.proofs.spared.Speaking.{others_served}
 use Rattle.tds_relay.proofs.spared.Elsewhere.{said_puts}
 use Rattle.tds_relay.proofs.steps.Heeding.{cancels_served}
 use Rattle.tds_relay.proofs.steps.Tied.{relay_tied}
+use Rattle.tds_relay.proofs.lending.Dialled.{given_served}
+use Rattle.tds_relay.proofs.lending.Fresh.{features_kept, new_served, size_kept}
 use Rattle.tds_relay.proofs.relay.Relay.said.Goals as goal
 
 pub returns-clause-steps : goal.returns-clause-steps
@@ -92,3 +94,11 @@ returns-clause-cancels c = λ reached.
     cancels_served c.serve_line.result c.args.key (machine_in c.args.self.now) c.args.piece.now (standing_in c.args.key c.args.self.now) c.take_all.new.self c.serve_line.new.self c.in_ok-take_all.ensures.cancels
     c.serve_line.ensures.moves c.serve_line.ensures.kept (ok_more c.serve_line.result _ _ (λ g. g.go led c.args.key) c.serve_line.ensures.goes_on) (c.serve_line.ensures.aside led) c.serve_line.ensures.opens
     (c.serve_line.ensures.fills led)
+
+pub returns-clause-given : goal.returns-clause-given
+returns-clause-given c = given_served c.serve_line.result c.args.self.now c.take_all.new.self c.serve_line.new.self c.in_ok-take_all.ensures.read (goes_last (Application c.args.key) (pool_in c.args.self.now.pool) (pool_in c.take_all.new.self.pool) c.in_ok-take_all.ensures.goes) c.serve_line.ensures.given
+
+pub returns-clause-fresh : goal.returns-clause-fresh
+returns-clause-fresh c =
+    new_served c.serve_line.result c.args.self.now.size c.take_all.new.self.size c.args.self.now.features c.take_all.new.self.features c.args.self.now.links.items c.take_all.new.self.links.items c.serve_line.new.self.links.items (size_kept _ _ c.in_ok-take_all.ensures.closes.told) (features_kept _ _ c.in_ok-take_all.ensures.closes.told)
+    c.in_ok-take_all.ensures.read c.serve_line.ensures.fresh

@@ -1,4 +1,4 @@
-use Rattle.std.proofs.Common.{false, ap, inl, rules, subst, sym, ◌∙◌}
+use Rattle.std.proofs.Common.{false, ap, inl, inr, rules, subst, sym, ◌∙◌}
 use Rattle.tds_relay.specs.Ties.{pool_in, IsReached}
 use Rattle.tds_relay.proofs.steps.Fronts.{moves_same}
 use Rattle.tds_relay.proofs.steps.Reaching.{ok_more}
@@ -16,6 +16,8 @@ use Rattle.std.specs.Prelude.{None}
 use Rattle.tds_relay.proofs.spared.Begun.{answers_on}
 use Rattle.tds_relay.proofs.seats.Relays.{but_lasting, lasting_seated, lost_but}
 use Rattle.tds_relay.proofs.seats.Pools.{off_of}
+use Rattle.tds_relay.proofs.lending.Firsts.{first_lost_on, first_put, first_then_on}
+use Rattle.tds_relay.specs.Pool.{without_number}
 use Rattle.tds_relay.proofs.relay.Relay.send_on.Goals as goal
 
 pub returns-else-fits-clause-read : goal.returns-else-fits-clause-read
@@ -84,3 +86,18 @@ pub returns-else-fits-clause-gone : goal.returns-else-fits-clause-gone
 returns-else-fits-clause-gone c = λ s.
     lost_but c.lose.result c.args.number c.lose.new.self c.lose.ensures.gone
     (c.lose.ensures.seated (but_lasting c.args.number false c.args.self.now c.fits_on.new.self c.fits_on.ensures.pool c.in_ok-fits.ensures.lasts c.in_ok-fits.ensures.read s).off)
+
+pub returns-then-fits-clause-keeps : goal.returns-then-fits-clause-keeps
+returns-then-fits-clause-keeps c = first_put c.args.number c.args.self.now c.fits_on.new.self c.fits_on.ensures.pool c.in_ok-fits.ensures.queues c.in_ok-fits.ensures.answers
+
+pub returns-else-fits-clause-keeps : goal.returns-else-fits-clause-keeps
+returns-else-fits-clause-keeps c =
+    first_then_on c.lose.result c.args.number c.args.self.now c.fits_on.new.self c.lose.new.self
+    (first_put c.args.number c.args.self.now c.fits_on.new.self c.fits_on.ensures.pool c.in_ok-fits.ensures.queues c.in_ok-fits.ensures.answers)
+    (first_lost_on c.lose.result c.args.number c.fits_on.new.self c.lose.new.self c.lose.ensures.holds c.lose.ensures.queues c.lose.ensures.answers)
+
+pub returns-then-fits-clause-holds : goal.returns-then-fits-clause-holds
+returns-then-fits-clause-holds c = inl (ap (λ (d : code.Pool). d.holds.items) c.fits_on.ensures.pool)
+
+pub returns-else-fits-clause-holds : goal.returns-else-fits-clause-holds
+returns-else-fits-clause-holds c = ok_more c.lose.result _ _ (λ e. inr (e ∙ ap (λ (d : code.Pool). without_number c.args.number d.holds.items) c.fits_on.ensures.pool)) c.lose.ensures.holds

@@ -9,11 +9,10 @@ use Rattle.tds_relay.proofs.spared.Closings.{closes_first, closes_nobody}
 use Rattle.tds_relay.proofs.spared.Reasons.{for_reason}
 use Rattle.tds_relay.proofs.seats.Relays.{lasting_seated}
 use Rattle.tds_relay.proofs.spared.Speaking.{filled_at, filled_rest}
-use Rattle.tds_relay.proofs.spared.Resting.{others_all}
+use Rattle.tds_relay.proofs.lending.Resting.{others_all}
 use Rattle.tds_relay.proofs.spared.Elsewhere.{aside_on, aside_own, filled_own}
 use Rattle.tds_relay.proofs.spared.Rightly.{deaf_right_on, opens_before, right_by}
 use Rattle.tds_relay.specs.Asking.{IsTakenBack}
-use Rattle.tds_relay.specs.Bodies.{body_of}
 use Rattle.tds_relay.specs.Core.{EndList, end_at}
 use Rattle.tds_relay.specs.Sparing.{IsKept}
 use Rattle.tds_relay.proofs.spared.Turned.{kept_asks}

@@ -4,8 +4,11 @@ use Rattle.tds_relay.proofs.spared.Apart.{lends_nobody, lends_none, lends_on, se
 use Rattle.tds_relay.proofs.spared.Ordered.{ordered_both, ordered_refl}
 use Rattle.tds_relay.proofs.steps.Fronts.{moves_does}
 use Rattle.tds_relay.proofs.steps.Reaching.{reaches_turn}
-use Rattle.tds_relay.proofs.steps.Staying.{opens_both, opens_refl}
-use Rattle.tds_relay.proofs.spared.Resting.{go_both, go_refl, reached_on_does, reached_serves, served_go}
+use Rattle.tds_relay.proofs.steps.Staying.{opens_both, opens_refl, stays_refl}
+use Rattle.tds_relay.proofs.lending.Stilled.{still_lent, still_refl}
+use Rattle.tds_relay.proofs.lending.Dialled.{given_lent, given_refl}
+use Rattle.tds_relay.proofs.lending.Fresh.{dials_both, dials_refl, features_kept, size_kept}
+use Rattle.tds_relay.proofs.lending.Resting.{go_both, go_refl, reached_on_does, reached_serves, served_go}
 use Rattle.tds_relay.specs.Closings.{IsWaiting, Itself, register_in}
 use Rattle.tds_relay.specs.Waiting.{IsLentInVain}
 use Rattle.tds_relay.proofs.spared.Turned.{lent_in_vain}
@@ -48,6 +51,9 @@ line-init c =
       fills = λ r. lends_refl old;
       many = grows_refl old;
       aside = λ r. away_refl old;
+      given = given_refl old (stays_refl old.links.items);
+      still = still_refl _ old.links.items;
+      fresh = dials_refl old.size old.features old.links.items;
     }
 
 pub line-preserved : goal.line-preserved
@@ -106,6 +112,15 @@ line-preserved c = record {
       (served_waited (core_in c.args.self.now) (core_in c.line.self) _ c.in-Some.served c.line.invariant.unserved c.in_ok-served.ensures.ok.1 c.in-Some.is c.in-Some.served.hold.key refl)
       (away_pool c.args.self.now c.line.self _ (reached_on_does _ _ c.line.invariant.goes r) (c.line.invariant.aside r) c.in_ok-served.ensures.holds refl refl)
       (c.in_ok-lend-in-Some.ensures.others (reached_serves _ _ _ _ c.in_ok-served.ensures.ok.0 (reached_on_does _ _ c.line.invariant.goes r)));
+  given =
+      given_lent c.in-Some.served c.args.self.now c.line.self c.lend.new.self (pool_in c.serve.new.self) _ _ c.in_ok-served.ensures.ok.0 (subst (Serving (pool_in c.line.self.pool)) c.in-Some.is c.in_ok-served.ensures.ok.1)
+      (on_last (pool_in c.args.self.now.pool) (pool_in c.line.self.pool) c.line.invariant.goes) c.line.invariant.given c.in_ok-lend-in-Some.ensures.given;
+  still =
+      still_lent c.in-Some.served c.args.self.now c.line.self c.lend.new.self (pool_in c.serve.new.self) _ _ c.in_ok-served.ensures.ok.0 (subst (Serving (pool_in c.line.self.pool)) c.in-Some.is c.in_ok-served.ensures.ok.1)
+      (on_last (pool_in c.args.self.now.pool) (pool_in c.line.self.pool) c.line.invariant.goes) c.line.invariant.given c.line.invariant.still c.in_ok-lend-in-Some.ensures.still;
+  fresh =
+      dials_both c.args.self.now.size c.line.self.size c.args.self.now.features c.line.self.features c.args.self.now.links.items c.line.self.links.items c.lend.new.self.links.items
+      (size_kept _ _ c.line.invariant.closes.told) (features_kept _ _ c.line.invariant.closes.told) c.line.invariant.fresh c.in_ok-lend-in-Some.ensures.fresh;
 }
 
 pub returns-in-None-clause-apart : goal.returns-in-None-clause-apart

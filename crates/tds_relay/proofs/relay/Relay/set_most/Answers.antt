@@ -4,6 +4,8 @@ use Rattle.tds_relay.specs.Closings.{NoKey}
 use Rattle.tds_relay.specs.Waiting.{IsLentInVain}
 use Rattle.tds_relay.proofs.spared.Closings.{closes_more_on}
 use Rattle.tds_relay.specs.declared.relay.Relay as code
+use Rattle.tds_relay.proofs.lending.Fresh.{new_served}
+use Rattle.tds_relay.proofs.steps.Staying.{stays_refl}
 use Rattle.tds_relay.proofs.relay.Relay.set_most.Goals as goal
 
 pub returns-clause-puts : goal.returns-clause-puts
@@ -32,3 +34,10 @@ returns-clause-closes c =
       turned = lent.turned;
     })
     c.serve_line.ensures.vain
+
+pub returns-clause-given : goal.returns-clause-given
+returns-clause-given c = c.serve_line.ensures.given
+
+pub returns-clause-fresh : goal.returns-clause-fresh
+returns-clause-fresh c =
+    new_served c.serve_line.result c.args.self.now.size c.args.self.now.size c.args.self.now.features c.args.self.now.features c.args.self.now.links.items c.args.self.now.links.items c.serve_line.new.self.links.items refl refl (stays_refl c.args.self.now.links.items) c.serve_line.ensures.fresh

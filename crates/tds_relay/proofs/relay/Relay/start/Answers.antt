@@ -11,8 +11,8 @@ use Rattle.tds_relay.specs.Reads.{waits_on}
 use Rattle.tds_relay.specs.Sparing.{StartsBehind, Drains}
 use Rattle.tds_relay.proofs.steps.Bodied.{closed_body, closed_starts, shut_starts, shut}
 use Rattle.tds_relay.proofs.steps.Going.{behind_closed, behind_there, holds_stay, kept_at, starts_there}
-use Rattle.tds_relay.specs.Pool.{Pool, Asks}
-use Rattle.tds_relay.proofs.spared.Resting.{others_all, others_on, others_refl, put_rest, reached_does, same_on}
+use Rattle.tds_relay.specs.Pool.{Pool, Asks, find_key}
+use Rattle.tds_relay.proofs.lending.Resting.{others_all, others_on, others_refl, put_rest, reached_does, same_on}
 use Rattle.tds_relay.specs.Sparing as sparing
 use Rattle.tds_relay.proofs.spared.Starting.{taken_back, unkept_closed, unkept_none, unkept_over, unkept_there}
 use Rattle.tds_relay.specs.declared.pool.Pool as pools
@@ -31,6 +31,8 @@ use Rattle.tds_relay.specs.Reasons.{CannotStart, Unasked, Unput}
 use Rattle.tds_relay.proofs.spared.Turned.{ready_there}
 use Rattle.tds_relay.proofs.spared.Filling.{own_end, own_on, own_refl, own_same}
 use Rattle.tds_relay.proofs.steps.Still.{put_refl, put_shut, put_there}
+use Rattle.tds_relay.proofs.spared.Kepts.{kept_not}
+use Rattle.tds_relay.proofs.lending.Fresh.{shut_off, shut_refl, shut_unchanged}
 use Rattle.tds_relay.proofs.relay.Relay.start.Goals as goal
 
 pub returns-in-Ok-clause-goes : goal.returns-in-Ok-clause-goes
@@ -329,3 +331,53 @@ returns-in-Ok-clause-puts c =
     (put_there c.in-Waits.whole (held_of (get c.args.self.now.applications c.args.key)) c.in-Waits.kind c.args.key c.args.self.now.pool c.ask.new.self c.args.self.now.links.items _ c.in-Some-hold_of.hold (standing_in c.args.key c.put_held.new.self) c.in-Ok.ensures.whose
     (sym c.hold_of.ensures ∙ c.in-Some-hold_of.is) (holds_stay c.args.key _ (pool_in c.args.self.now.pool) (pool_in c.ask.new.self) _ _ c.in-Ok.ensures.ok) c.in-Ok.ensures.opened (c.is_open.ensures.there (search rules)) g))
     c.put_held.ensures.body
+
+pub returns-in_default-clause-stays : goal.returns-in_default-clause-stays
+returns-in_default-clause-stays c = λ kept. refl
+
+pub returns-then-application-clause-stays : goal.returns-then-application-clause-stays
+returns-then-application-clause-stays c = λ kept. refl
+
+pub returns-in_default-asking-clause-stays : goal.returns-in_default-asking-clause-stays
+returns-in_default-asking-clause-stays c = λ kept. refl
+
+pub returns-then-application-2-clause-stays : goal.returns-then-application-2-clause-stays
+returns-then-application-2-clause-stays c = λ kept. refl
+
+pub returns-then-not-is_open-clause-stays : goal.returns-then-not-is_open-clause-stays
+returns-then-not-is_open-clause-stays c = λ kept. refl
+
+pub returns-in_default-hold_of-clause-stays : goal.returns-in_default-hold_of-clause-stays
+returns-in_default-hold_of-clause-stays c = ok_more c.end.result _ _ (λ s kept. absurd (kept_not _ (unkept_closed _ (s _)) kept)) c.end.ensures.shuts
+
+pub returns-in-Ok-clause-stays : goal.returns-in-Ok-clause-stays
+returns-in-Ok-clause-stays c = ok_more c.put_held.result _ _ (λ g kept. absurd (kept_not _ g kept)) c.put_held.ensures.gone
+
+pub returns-in_ok-unless_memory-in-Err-clause-stays : goal.returns-in_ok-unless_memory-in-Err-clause-stays
+returns-in_ok-unless_memory-in-Err-clause-stays c = ok_more c.fail.result _ _ (λ d kept. absurd (kept_not _ (unkept_closed _ (shut c.fail.new.self.applications c.args.key _ d)) kept)) c.fail.ensures.over
+
+pub returns-in_default-clause-shut : goal.returns-in_default-clause-shut
+returns-in_default-clause-shut c = shut_refl c.args.self.now.links.items
+
+pub returns-then-application-clause-shut : goal.returns-then-application-clause-shut
+returns-then-application-clause-shut c = shut_refl c.args.self.now.links.items
+
+pub returns-in_default-asking-clause-shut : goal.returns-in_default-asking-clause-shut
+returns-in_default-asking-clause-shut c = shut_refl c.args.self.now.links.items
+
+pub returns-then-application-2-clause-shut : goal.returns-then-application-2-clause-shut
+returns-then-application-2-clause-shut c = shut_refl c.args.self.now.links.items
+
+pub returns-then-not-is_open-clause-shut : goal.returns-then-not-is_open-clause-shut
+returns-then-not-is_open-clause-shut c = shut_refl c.args.self.now.links.items
+
+pub returns-in_default-hold_of-clause-shut : goal.returns-in_default-hold_of-clause-shut
+returns-in_default-hold_of-clause-shut c = shut_unchanged c.end.result c.args.self.now.links.items c.end.new.self.links.items c.end.ensures.links
+
+pub returns-in-Ok-clause-shut : goal.returns-in-Ok-clause-shut
+returns-in-Ok-clause-shut c =
+    shut_off c.put_held.result c.in-Some-hold_of.hold.number c.args.self.now.links.items c.put_held.new.self.links.items (c.is_open.ensures.open (search rules))
+    (ok_more c.put_held.result _ _ (λ off. off c.in-Some-hold_of.hold (ap (find_key c.args.key) (holds_stay c.args.key _ (pool_in c.args.self.now.pool) (pool_in c.ask.new.self) _ _ c.in-Ok.ensures.ok) ∙ sym c.hold_of.ensures ∙ c.in-Some-hold_of.is)) c.put_held.ensures.off)
+
+pub returns-in_ok-unless_memory-in-Err-clause-shut : goal.returns-in_ok-unless_memory-in-Err-clause-shut
+returns-in_ok-unless_memory-in-Err-clause-shut c = shut_off c.fail.result c.in-Some-hold_of.hold.number c.args.self.now.links.items c.fail.new.self.links.items (c.is_open.ensures.open (search rules)) c.fail.ensures.off

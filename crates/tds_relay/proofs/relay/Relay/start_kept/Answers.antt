@@ -1,4 +1,4 @@
-use Rattle.std.proofs.Common.{◌≡◌, ◌∙◌, None, Some, inl, rules, sym, inr}
+use Rattle.std.proofs.Common.{◌≡◌, ◌∙◌, None, Some, inl, refl, rules, sym, inr}
 use Rattle.tds_relay.specs.Waiting.{IsUnheldOrTurnedAway}
 use Rattle.tds_relay.specs.Asking.{Closes}
 use Rattle.tds_relay.specs.Bodies.{Stays, body_of, going_of, standing_in}
@@ -11,7 +11,7 @@ use Rattle.tds_relay.proofs.steps.Fronts.{unheld_reset}
 use Rattle.tds_relay.proofs.steps.Reaching.{ok_more}
 use Rattle.tds_relay.proofs.steps.Staying.{stays_refl}
 use Rattle.tds_relay.proofs.spared.Apart.{alone_refl}
-use Rattle.tds_relay.proofs.spared.Resting.{others_all, others_refl}
+use Rattle.tds_relay.proofs.lending.Resting.{others_all, others_refl}
 use Rattle.tds_relay.proofs.spared.Starting.{unkept_closed}
 use Rattle.tds_relay.proofs.spared.Begun.{answers_refl}
 use Rattle.tds_relay.specs.Closings.{Itself, register_in}
@@ -22,6 +22,8 @@ use Rattle.tds_relay.proofs.spared.Turned.{turned_by, unstarted_or}
 use Rattle.tds_relay.specs.Reasons.{ItselfFor}
 use Rattle.tds_relay.proofs.spared.Filling.{own_refl}
 use Rattle.tds_relay.proofs.steps.Still.{put_refl, put_shut}
+use Rattle.tds_relay.proofs.spared.Kepts.{kept_not}
+use Rattle.tds_relay.proofs.lending.Fresh.{held_open, shut_off, shut_refl}
 use Rattle.tds_relay.proofs.relay.Relay.start_kept.Goals as goal
 
 pub returns-in_default-clause-moves : goal.returns-in_default-clause-moves
@@ -126,3 +128,24 @@ returns-then-is_held_back-clause-puts c = put_refl (standing_in c.args.key c.arg
 
 pub returns-clause-puts : goal.returns-clause-puts
 returns-clause-puts c = ok_more c.fail.result _ _ (λ d. put_shut _ (body_of c.args.key c.args.self.now) (standing_in c.args.key c.fail.new.self) (shut c.fail.new.self.applications c.args.key (going_of c.args.key c.fail.new.self) d)) c.fail.ensures.over
+
+pub returns-then-is_held_back-clause-stays : goal.returns-then-is_held_back-clause-stays
+returns-then-is_held_back-clause-stays c = λ kept. refl
+
+pub returns-clause-stays : goal.returns-clause-stays
+returns-clause-stays c = ok_more c.fail.result _ _ (λ d kept. absurd (kept_not _ (unkept_closed _ (shut c.fail.new.self.applications c.args.key _ d)) kept)) c.fail.ensures.over
+
+pub returns-in_default-clause-shut : goal.returns-in_default-clause-shut
+returns-in_default-clause-shut c = c.start.ensures.shut
+
+pub returns-then-may_ask-clause-shut : goal.returns-then-may_ask-clause-shut
+returns-then-may_ask-clause-shut c = c.start-then-may_ask.ensures.shut
+
+pub returns-then-is_held_back-clause-shut : goal.returns-then-is_held_back-clause-shut
+returns-then-is_held_back-clause-shut c = shut_refl c.args.self.now.links.items
+
+pub returns-clause-shut : goal.returns-clause-shut
+returns-clause-shut c =
+    let its = sym c.hold_of.ensures ∙ c.in-Some.is in
+    shut_off c.fail.result c.in-Some.hold.number c.args.self.now.links.items c.fail.new.self.links.items
+    (held_open c.args.key c.in-Some.hold _ c.args.self.now.pool c.args.self.now.links.items its (c.is_held_back.ensures.ready its (search rules))) c.fail.ensures.off

@@ -1,7 +1,7 @@
 use Rattle.std.proofs.Common.{sym, ◌∙◌, ◌⊎◌, ℕ, ap, subst, Some}
 use Rattle.tds_relay.specs.Waiting.{IsUnheldOrTurnedAway}
 use Rattle.tds_relay.specs.Reasons.{IsTurnedAwayAt, ItselfFor}
-use Rattle.tds_relay.proofs.spared.Resting.{go_on_one, go_refl}
+use Rattle.tds_relay.proofs.lending.Resting.{go_on_one, go_refl}
 use Rattle.tds_relay.specs.Bodies.{body_of}
 use Rattle.tds_relay.specs.Sparing.{IsHeldBack, IsUnkept, StartsThere}
 use Rattle.tds_relay.proofs.spared.Starting.{none_own, own_on}

@@ -25,7 +25,7 @@ use Rattle.tds_front.specs.declared.front.Front.{Front}
 use Rattle.tds_packet.specs.declared.status.Reset.{Reset}
 use Rattle.tds_relay.specs.Reasons.{GivesReason, ItselfFor, ReasonBy, ReasonWith, room_left}
 use Rattle.tds_relay.proofs.spared.Reasons.{may_before}
-use Rattle.tds_relay.proofs.spared.Resting.{others_both, others_refl, written_rest}
+use Rattle.tds_relay.proofs.lending.Resting.{others_both, others_refl, written_rest}
 use Rattle.tds_relay.proofs.spared.Elsewhere.{aside_refl}
 use Rattle.tds_relay.specs.Reads.{waits_on}
 use Rattle.tds_relay.proofs.steps.Tied.{goes_tied, relay_tied, slab_tied}

@@ -10,7 +10,7 @@ use Rattle.tds_relay.specs.Bodies.{body_of, standing_in}
 use Rattle.tds_relay.proofs.steps.Carried.{carries_begin, carries_left}
 use Rattle.tds_relay.specs.Closings.{register_in}
 use Rattle.tds_relay.proofs.spared.Closings.{closes_both, closes_more, closes_refl}
-use Rattle.tds_relay.proofs.spared.Resting.{others_both, others_refl}
+use Rattle.tds_relay.proofs.lending.Resting.{others_both, others_refl}
 use Rattle.tds_relay.proofs.spared.Speaking.{reached_by}
 use Rattle.tds_relay.proofs.spared.Elsewhere.{aside_both, aside_refl}
 use Rattle.tds_relay.proofs.steps.Heeding.{cancels_begin, cancels_left}

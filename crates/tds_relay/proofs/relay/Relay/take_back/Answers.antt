@@ -19,7 +19,7 @@ use Rattle.tds_relay.proofs.spared.Reasons.{for_reason, for_that, halts_unfit, n
 use Rattle.tds_relay.proofs.seats.Relays.{kept_seated, unwaited}
 use Rattle.tds_relay.specs.declared.pool.Pool as code
 use Rattle.tds_relay.proofs.spared.Speaking.{filled_at, halting_held, reached_by}
-use Rattle.tds_relay.proofs.spared.Resting.{all_others, all_rest, asks_on, others_both, others_on}
+use Rattle.tds_relay.proofs.lending.Resting.{all_others, all_rest, asks_on, others_both, others_on}
 use Rattle.tds_relay.specs.Pool.{find_key, Pool}
 use Rattle.tds_relay.proofs.spared.Elsewhere.{aside_both, aside_on, aside_same}
 use Rattle.tds_relay.specs.Bodies.{body_of, going_of, standing_in}

@@ -9,7 +9,7 @@ use Rattle.tds_relay.proofs.seats.Relays.{pool_seated}
 use Rattle.tds_relay.proofs.seats.Pools.{action_seated}
 use Rattle.tds_relay.specs.Pool.{Stops, Pool, find_number}
 use Rattle.tds_relay.proofs.spared.Speaking.{done_as, stopped_held}
-use Rattle.tds_relay.proofs.spared.Resting.{others_on}
+use Rattle.tds_relay.proofs.lending.Resting.{others_on}
 use Rattle.tds_relay.specs.Pool as pool
 use Rattle.tds_service.specs.Service as calls
 use Rattle.tds_relay.specs.Core.{end_at}

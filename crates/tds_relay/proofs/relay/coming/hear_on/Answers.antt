@@ -56,3 +56,15 @@ returns-in-Err-clause-seats c = λ reached n. refl
 
 pub returns-clause-seats : goal.returns-clause-seats
 returns-clause-seats c = λ reached. c.in_ok-heard.ensures.seats reached
+
+pub returns-in-Err-clause-holds : goal.returns-in-Err-clause-holds
+returns-in-Err-clause-holds c = inl refl
+
+pub returns-clause-holds : goal.returns-clause-holds
+returns-clause-holds c = c.in_ok-heard.ensures.holds
+
+pub returns-in-Err-clause-leases : goal.returns-in-Err-clause-leases
+returns-in-Err-clause-leases c = λ left. absurd left
+
+pub returns-clause-leases : goal.returns-clause-leases
+returns-clause-leases c = c.in_ok-heard.ensures.leases

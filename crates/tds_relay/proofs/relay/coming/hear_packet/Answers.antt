@@ -249,3 +249,39 @@ returns-then-not-hears-clause-seats c = λ reached. c.in_ok-heard.ensures.seats 
 
 pub returns-clause-seats : goal.returns-clause-seats
 returns-clause-seats c = λ reached. c.in_ok-heard.ensures.seats reached
+
+pub returns-in_default-clause-holds : goal.returns-in_default-clause-holds
+returns-in_default-clause-holds c = inl refl
+
+pub returns-then-matches-clause-holds : goal.returns-then-matches-clause-holds
+returns-then-matches-clause-holds c = c.in_ok-heard.ensures.holds
+
+pub returns-in_default-key-clause-holds : goal.returns-in_default-key-clause-holds
+returns-in_default-key-clause-holds c = c.in_ok-heard.ensures.holds
+
+pub returns-in_default-get_mut-clause-holds : goal.returns-in_default-get_mut-clause-holds
+returns-in_default-get_mut-clause-holds c = c.in_ok-heard.ensures.holds
+
+pub returns-then-not-hears-clause-holds : goal.returns-then-not-hears-clause-holds
+returns-then-not-hears-clause-holds c = c.in_ok-heard.ensures.holds
+
+pub returns-clause-holds : goal.returns-clause-holds
+returns-clause-holds c = c.in_ok-heard.ensures.holds
+
+pub returns-in_default-clause-leases : goal.returns-in_default-clause-leases
+returns-in_default-clause-leases c = λ left. inl refl
+
+pub returns-then-matches-clause-leases : goal.returns-then-matches-clause-leases
+returns-then-matches-clause-leases c = c.in_ok-heard.ensures.leases
+
+pub returns-in_default-key-clause-leases : goal.returns-in_default-key-clause-leases
+returns-in_default-key-clause-leases c = c.in_ok-heard.ensures.leases
+
+pub returns-in_default-get_mut-clause-leases : goal.returns-in_default-get_mut-clause-leases
+returns-in_default-get_mut-clause-leases c = c.in_ok-heard.ensures.leases
+
+pub returns-then-not-hears-clause-leases : goal.returns-then-not-hears-clause-leases
+returns-then-not-hears-clause-leases c = c.in_ok-heard.ensures.leases
+
+pub returns-clause-leases : goal.returns-clause-leases
+returns-clause-leases c = c.in_ok-heard.ensures.leases

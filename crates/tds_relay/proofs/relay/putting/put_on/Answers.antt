@@ -3,7 +3,7 @@ use Rattle.tds_relay.specs.Asking.{SendsOn}
 use Rattle.tds_relay.specs.Ties.{Reaches, pool_in}
 use Rattle.tds_relay.proofs.steps.Reaching.{reaches_turn}
 use Rattle.tds_relay.proofs.spared.Held.{action_both}
-use Rattle.tds_relay.proofs.spared.Resting.{reached_does}
+use Rattle.tds_relay.proofs.lending.Resting.{reached_does}
 use Rattle.tds_relay.specs.Bodies.{ClientPuts}
 use Rattle.tds_relay.proofs.steps.Going.{holds_stay, puts_last, puts_part}
 use Rattle.tds_relay.specs.Pool.{Pool, Puts, Ends, find_key}
