@@ -6,7 +6,7 @@ use crate::counts::{
 };
 use crate::fault::RelayFault;
 use crate::keys::keys_of;
-use crate::limits::{Limits, MOST as MOST_SECONDS, USUAL as USUAL_LIMITS};
+use crate::limits::{MOST as MOST_SECONDS, TimeLimits, USUAL as USUAL_LIMITS};
 use crate::named::{Named, named_by};
 use crate::proxies::Proxies;
 use crate::servers::Servers;
@@ -39,7 +39,7 @@ pub struct Asked {
     pub group: Keys,
     /// For how long an application keeps the connection that it is lent.
     pub share: Share,
-    pub limits: Limits,
+    pub limits: TimeLimits,
     /// For so many microseconds behind a report it doesn't wait for the next one, but asks for it.
     pub spin: u64,
     /// How the system looks after what it is connected to.
@@ -173,9 +173,13 @@ fn keeping_of(alloc: Global, matches: &ArgMatches, config: &Config) -> Result<Ke
     })
 }
 
-fn limits_of(alloc: Global, matches: &ArgMatches, config: &Config) -> Result<Limits, RelayFault> {
+fn limits_of(
+    alloc: Global,
+    matches: &ArgMatches,
+    config: &Config,
+) -> Result<TimeLimits, RelayFault> {
     let usual = USUAL_LIMITS;
-    Ok(Limits {
+    Ok(TimeLimits {
         login: seconds_of(alloc, matches, config, "login", usual.login)?,
         wait: seconds_of(alloc, matches, config, "wait", usual.wait)?,
         cancel: seconds_of(alloc, matches, config, "cancel", usual.cancel)?,

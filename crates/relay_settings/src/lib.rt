@@ -17,7 +17,7 @@ mod table;
 
 pub use arguments::{Asked, Settings, is_reached_at, read_arguments};
 pub use fault::{Bar, RelayFault};
-pub use limits::{Limits, is_beyond, lesser};
+pub use limits::{TimeLimits, is_beyond, lesser};
 pub use named::{Named, named_by};
 pub use proxies::Proxies;
 pub use servers::{MOST as MOST_SERVERS, Servers, bit, server_of};

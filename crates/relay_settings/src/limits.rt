@@ -2,7 +2,7 @@
 
 /// How long what may last.
 #[derive(Clone, Copy)]
-pub struct Limits {
+pub struct TimeLimits {
     /// A login, on either side.
     pub login: u64,
     /// The wait for a connection.
@@ -32,7 +32,7 @@ pub struct Limits {
 }
 
 /// The limits where no argument says them.
-pub const USUAL: Limits = Limits {
+pub const USUAL: TimeLimits = TimeLimits {
     login: 10,
     wait: 120,
     cancel: 30,

@@ -3,7 +3,7 @@
 use crate::program::Program;
 use relay_groups::Group;
 use relay_logins::number_of;
-use relay_settings::{Limits, lesser, server_of};
+use relay_settings::{TimeLimits, lesser, server_of};
 use relay_sockets::{RoleKind, Socket, names_of};
 use relay_status::{At, GroupLine, SocketLine, put_group, put_json_group, put_socket};
 use std::io::{self, Write};
@@ -136,7 +136,7 @@ impl Program {
 }
 
 /// The seconds behind which what is at this is closed, 0 for none.
-fn limit_of(at: At, limits: &Limits) -> u64 {
+fn limit_of(at: At, limits: &TimeLimits) -> u64 {
     match at {
         At::Login | At::Other => limits.login,
         At::Waiting | At::Opening | At::TakenBack => limits.wait,

@@ -1,7 +1,7 @@
 //! Sockets are looked at, each where something has happened on it or a limit of its may have run out.
 
 use crate::program::Program;
-use relay_settings::Limits;
+use relay_settings::TimeLimits;
 use relay_sockets::Seen;
 use relay_status::At;
 use std::io;
@@ -54,13 +54,13 @@ impl Program {
 }
 
 /// The millisecond from which a socket is looked at again where nothing happens on it: a limit of its runs out then.
-pub fn next_look(seen: &Seen, born: u64, limits: &Limits, now: u64) -> u64 {
+pub fn next_look(seen: &Seen, born: u64, limits: &TimeLimits, now: u64) -> u64 {
     let all = (now / LONGEST).saturating_add(1).saturating_mul(LONGEST);
     due_of(seen, born, limits).min(all)
 }
 
 /// The millisecond from which what is at this, and was born then, may be beyond a limit.
-fn due_of(seen: &Seen, born: u64, limits: &Limits) -> u64 {
+fn due_of(seen: &Seen, born: u64, limits: &TimeLimits) -> u64 {
     let since = seen.since;
     match seen.at {
         At::Login | At::Other => due(limits.login, since),

@@ -5,7 +5,7 @@ use crate::sweeping::next_look;
 use crate::why::{Why, why_late};
 use relay_groups::{Group, RelayState, relay_of};
 use relay_logins::{Groups, UNANSWERED};
-use relay_settings::{Limits, is_beyond};
+use relay_settings::{TimeLimits, is_beyond};
 use relay_sockets::{Role, RoleKind};
 use relay_status::{At, raise};
 use std::io;
@@ -74,7 +74,7 @@ impl Program {
     /// are; what it is asked behind the login has the time of one more. Who waits until they authenticate is told what
     /// becomes of it, so has all their shares, that time, and the times from one look at limits to the next. A
     /// connection that isn't shared may be idle as long as its application is there.
-    pub fn limits_for(&self, role_kind: RoleKind) -> Limits {
+    pub fn limits_for(&self, role_kind: RoleKind) -> TimeLimits {
         let mut limits = self.event_loop.asked.limits;
         let (login, servers) = (limits.login, self.event_loop.asked.servers.count());
         match role_kind {

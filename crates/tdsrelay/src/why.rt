@@ -1,6 +1,6 @@
 //! Why what has lasted too long is closed, and what is told of that.
 
-use relay_settings::{Limits, is_beyond};
+use relay_settings::{TimeLimits, is_beyond};
 use relay_sockets::Cause;
 use relay_status::At;
 
@@ -81,7 +81,7 @@ impl Why {
 }
 
 /// Why what has lasted so many milliseconds is to be closed, if it is.
-pub fn why_late(at: At, lasted: u64, age: u64, limits: &Limits) -> Option<Why> {
+pub fn why_late(at: At, lasted: u64, age: u64, limits: &TimeLimits) -> Option<Why> {
     match at {
         At::Login | At::Other => limited(limits.login, lasted, Why::Login),
         At::Waiting | At::Opening | At::TakenBack => limited(limits.wait, lasted, Why::Wait),
