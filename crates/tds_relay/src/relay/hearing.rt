@@ -68,6 +68,7 @@ impl Relay {
     }
 
     /// What came of a packet is done.
+    #[tactic(auto, using(crate::proofs::steps::Staying::stays_both, crate::proofs::bytes::Calls::stand_back, crate::proofs::spared::Ordered::ordered_both, crate::proofs::seats::Relays::kept_seated))]
     fn heard_packet(&mut self, number: u64, heard: Heard) -> Result<(), NoMemory>
         ensures goes { OnOk result (LedTo (Connection number)
             (pool_in self.old.pool) (pool_in self.new.pool)) }

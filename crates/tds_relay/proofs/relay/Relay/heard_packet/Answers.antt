@@ -61,23 +61,14 @@ returns-in-Closed-None-clause-moves c = ok_more c.close_link-in-Closed-None.resu
 pub returns-in-Goes-Some-clause-read : goal.returns-in-Goes-Some-clause-read
 returns-in-Goes-Some-clause-read c = stays_same c.order_write.result _ _ _ (stays_both _ _ _ c.in_ok-resumes.ensures.read c.in_ok-send_on.ensures.read) c.order_write.ensures.links
 
-pub returns-in-Goes-None-clause-read : goal.returns-in-Goes-None-clause-read
-returns-in-Goes-None-clause-read c = (stays_both _ _ _ c.in_ok-resumes.ensures.read c.in_ok-send_on.ensures.read)
-
 pub returns-in-Finished-Some-clause-read : goal.returns-in-Finished-Some-clause-read
 returns-in-Finished-Some-clause-read c = stays_same c.order_write-in-Finished-Some.result _ _ _ (stays_both _ _ _ c.in_ok-resumes.ensures.read c.in_ok-send_on.ensures.read) c.order_write-in-Finished-Some.ensures.links
-
-pub returns-in-Finished-None-clause-read : goal.returns-in-Finished-None-clause-read
-returns-in-Finished-None-clause-read c = (stays_both _ _ _ c.in_ok-resumes.ensures.read c.in_ok-send_on.ensures.read)
 
 pub returns-then-resumes-clause-read : goal.returns-then-resumes-clause-read
 returns-then-resumes-clause-read c = stays_on c.resume.result _ _ _ (stays_both _ _ _ c.in_ok-resumes.ensures.read c.in_ok-send_on.ensures.read) c.resume.ensures.read
 
 pub returns-else-resumes-clause-read : goal.returns-else-resumes-clause-read
 returns-else-resumes-clause-read c = stays_same c.order_write-else-resumes.result _ _ _ (stays_both _ _ _ c.in_ok-resumes.ensures.read c.in_ok-send_on.ensures.read) c.order_write-else-resumes.ensures.links
-
-pub returns-in-Acknowledged-None-clause-read : goal.returns-in-Acknowledged-None-clause-read
-returns-in-Acknowledged-None-clause-read c = (stays_both _ _ _ c.in_ok-resumes.ensures.read c.in_ok-send_on.ensures.read)
 
 pub returns-in-Closed-Some-clause-read : goal.returns-in-Closed-Some-clause-read
 returns-in-Closed-Some-clause-read c = stays_on c.close_link.result _ _ _ (stays_both _ _ _ c.in_ok-resumes.ensures.read c.in_ok-send_on.ensures.read) c.close_link.ensures.read
@@ -88,23 +79,14 @@ returns-in-Closed-None-clause-read c = stays_on c.close_link-in-Closed-None.resu
 pub returns-in-Goes-Some-clause-stand : goal.returns-in-Goes-Some-clause-stand
 returns-in-Goes-Some-clause-stand c = ok_if c.order_write.result _ (stand_at _ _ _ (stand_back _ _ _ c.in_ok-resumes.ensures.pool c.in_ok-send_on.ensures.stand) c.order_write.ensures.pool)
 
-pub returns-in-Goes-None-clause-stand : goal.returns-in-Goes-None-clause-stand
-returns-in-Goes-None-clause-stand c = stand_back _ _ _ c.in_ok-resumes.ensures.pool c.in_ok-send_on.ensures.stand
-
 pub returns-in-Finished-Some-clause-stand : goal.returns-in-Finished-Some-clause-stand
 returns-in-Finished-Some-clause-stand c = ok_if c.order_write-in-Finished-Some.result _ (stand_at _ _ _ (stand_back _ _ _ c.in_ok-resumes.ensures.pool c.in_ok-send_on.ensures.stand) c.order_write-in-Finished-Some.ensures.pool)
-
-pub returns-in-Finished-None-clause-stand : goal.returns-in-Finished-None-clause-stand
-returns-in-Finished-None-clause-stand c = stand_back _ _ _ c.in_ok-resumes.ensures.pool c.in_ok-send_on.ensures.stand
 
 pub returns-then-resumes-clause-stand : goal.returns-then-resumes-clause-stand
 returns-then-resumes-clause-stand c = stand_on c.resume.result _ _ _ (stand_back _ _ _ c.in_ok-resumes.ensures.pool c.in_ok-send_on.ensures.stand) c.resume.ensures.stand
 
 pub returns-else-resumes-clause-stand : goal.returns-else-resumes-clause-stand
 returns-else-resumes-clause-stand c = ok_if c.order_write-else-resumes.result _ (stand_at _ _ _ (stand_back _ _ _ c.in_ok-resumes.ensures.pool c.in_ok-send_on.ensures.stand) c.order_write-else-resumes.ensures.pool)
-
-pub returns-in-Acknowledged-None-clause-stand : goal.returns-in-Acknowledged-None-clause-stand
-returns-in-Acknowledged-None-clause-stand c = stand_back _ _ _ c.in_ok-resumes.ensures.pool c.in_ok-send_on.ensures.stand
 
 pub returns-in-Closed-Some-clause-stand : goal.returns-in-Closed-Some-clause-stand
 returns-in-Closed-Some-clause-stand c = ok_if c.close_link.result _ (stand_at _ _ _ (stand_back _ _ _ c.in_ok-resumes.ensures.pool c.in_ok-send_on.ensures.stand) c.close_link.ensures.pool)
@@ -156,15 +138,6 @@ returns-in-Closed-Some-clause-ordered c = ordered_on c.close_link.result _ _ _ c
 
 pub returns-in-Closed-None-clause-ordered : goal.returns-in-Closed-None-clause-ordered
 returns-in-Closed-None-clause-ordered c = ordered_on c.close_link-in-Closed-None.result _ _ _ c.close_link-in-Closed-None.ensures.ordered (ordered_both _ _ _ c.in_ok-resumes.ensures.ordered c.in_ok-send_on.ensures.ordered)
-
-pub returns-in-Goes-None-clause-ordered : goal.returns-in-Goes-None-clause-ordered
-returns-in-Goes-None-clause-ordered c = ordered_both _ _ _ c.in_ok-resumes.ensures.ordered c.in_ok-send_on.ensures.ordered
-
-pub returns-in-Finished-None-clause-ordered : goal.returns-in-Finished-None-clause-ordered
-returns-in-Finished-None-clause-ordered c = ordered_both _ _ _ c.in_ok-resumes.ensures.ordered c.in_ok-send_on.ensures.ordered
-
-pub returns-in-Acknowledged-None-clause-ordered : goal.returns-in-Acknowledged-None-clause-ordered
-returns-in-Acknowledged-None-clause-ordered c = ordered_both _ _ _ c.in_ok-resumes.ensures.ordered c.in_ok-send_on.ensures.ordered
 
 pub returns-in-Goes-Some-clause-wakes : goal.returns-in-Goes-Some-clause-wakes
 returns-in-Goes-Some-clause-wakes c = ok_more c.order_write.result _ _ (λ w key h. woken_mine c.args.heard c.in-Goes-Some.key key (ends_in c.args.self.now.applications) c.order_write.new.self.applications c.order_write.new.self.orders.items (search rules) w (hands_as (Some c.args.heard) c.args.heard key _ refl h)) c.order_write.ensures.wakes
@@ -316,23 +289,14 @@ returns-in-Closed-None-clause-begins c = any_if c.close_link-in-Closed-None.resu
 pub returns-in-Goes-Some-clause-seated : goal.returns-in-Goes-Some-clause-seated
 returns-in-Goes-Some-clause-seated c = λ s. kept_end c.order_write.result c.send_on.new.self c.order_write.new.self c.order_write.ensures.pool c.order_write.ensures.links (c.in_ok-send_on.ensures.seated (kept_seated c.args.self.now c.tell.new.self c.in_ok-resumes.ensures.pool c.in_ok-resumes.ensures.links (behind_stays (Some c.args.heard) c.args.heard c.args.number c.args.self.now refl (ap is_left (let w : c.args.heard.what ≡ whats.Goes = search rules in w)) s)))
 
-pub returns-in-Goes-None-clause-seated : goal.returns-in-Goes-None-clause-seated
-returns-in-Goes-None-clause-seated c = λ s. c.in_ok-send_on.ensures.seated (kept_seated c.args.self.now c.tell.new.self c.in_ok-resumes.ensures.pool c.in_ok-resumes.ensures.links (behind_stays (Some c.args.heard) c.args.heard c.args.number c.args.self.now refl (ap is_left (let w : c.args.heard.what ≡ whats.Goes = search rules in w)) s))
-
 pub returns-in-Finished-Some-clause-seated : goal.returns-in-Finished-Some-clause-seated
 returns-in-Finished-Some-clause-seated c = λ s. kept_end c.order_write-in-Finished-Some.result c.send_on.new.self c.order_write-in-Finished-Some.new.self c.order_write-in-Finished-Some.ensures.pool c.order_write-in-Finished-Some.ensures.links (c.in_ok-send_on.ensures.seated (kept_seated c.args.self.now c.tell.new.self c.in_ok-resumes.ensures.pool c.in_ok-resumes.ensures.links (behind_stays (Some c.args.heard) c.args.heard c.args.number c.args.self.now refl (ap is_left (let w : c.args.heard.what ≡ whats.Finished = search rules in w)) s)))
-
-pub returns-in-Finished-None-clause-seated : goal.returns-in-Finished-None-clause-seated
-returns-in-Finished-None-clause-seated c = λ s. c.in_ok-send_on.ensures.seated (kept_seated c.args.self.now c.tell.new.self c.in_ok-resumes.ensures.pool c.in_ok-resumes.ensures.links (behind_stays (Some c.args.heard) c.args.heard c.args.number c.args.self.now refl (ap is_left (let w : c.args.heard.what ≡ whats.Finished = search rules in w)) s))
 
 pub returns-then-resumes-clause-seated : goal.returns-then-resumes-clause-seated
 returns-then-resumes-clause-seated c = λ s. c.resume.ensures.seated (c.in_ok-send_on.ensures.seated (kept_seated c.args.self.now c.tell.new.self c.in_ok-resumes.ensures.pool c.in_ok-resumes.ensures.links (behind_stays (Some c.args.heard) c.args.heard c.args.number c.args.self.now refl (ap is_left (let w : c.args.heard.what ≡ whats.Acknowledged = search rules in w)) s)))
 
 pub returns-else-resumes-clause-seated : goal.returns-else-resumes-clause-seated
 returns-else-resumes-clause-seated c = λ s. kept_end c.order_write-else-resumes.result c.send_on.new.self c.order_write-else-resumes.new.self c.order_write-else-resumes.ensures.pool c.order_write-else-resumes.ensures.links (c.in_ok-send_on.ensures.seated (kept_seated c.args.self.now c.tell.new.self c.in_ok-resumes.ensures.pool c.in_ok-resumes.ensures.links (behind_stays (Some c.args.heard) c.args.heard c.args.number c.args.self.now refl (ap is_left (let w : c.args.heard.what ≡ whats.Acknowledged = search rules in w)) s)))
-
-pub returns-in-Acknowledged-None-clause-seated : goal.returns-in-Acknowledged-None-clause-seated
-returns-in-Acknowledged-None-clause-seated c = λ s. c.in_ok-send_on.ensures.seated (kept_seated c.args.self.now c.tell.new.self c.in_ok-resumes.ensures.pool c.in_ok-resumes.ensures.links (behind_stays (Some c.args.heard) c.args.heard c.args.number c.args.self.now refl (ap is_left (let w : c.args.heard.what ≡ whats.Acknowledged = search rules in w)) s))
 
 pub returns-in-Closed-Some-clause-seated : goal.returns-in-Closed-Some-clause-seated
 returns-in-Closed-Some-clause-seated c = λ s. closed_end c.close_link.result c.args.number c.send_on.new.self.pool c.send_on.new.self.links.items c.close_link.new.self c.close_link.ensures.pool c.close_link.ensures.gone c.close_link.ensures.others (c.in_ok-send_on.ensures.gone (but_kept c.args.number false c.args.self.now c.tell.new.self c.in_ok-resumes.ensures.pool (links_there c.args.self.now.links.items c.tell.new.self.links.items c.in_ok-resumes.ensures.links) (behind_out (Some c.args.heard) c.args.heard c.args.number c.args.self.now refl (ap is_left (let w : c.args.heard.what ≡ whats.Closed = search rules in w)) s)))
