@@ -242,7 +242,7 @@ abbrev pub GoesFrom : BodyAndWaits → BodyAndWaits → Type 0
 GoesFrom old new = PutsFrom old.1 old.0 new
 
 -- Where a request begins, it starts so. Where it asks for no reset, and nothing of it goes on,
--- nothing is put; of one that asks for a full one nothing goes on yet.
+-- nothing is put; with a full one nothing goes on yet (what is put as it lets go isn't said).
 pub record BeginsFrom (kind : Kind) (reset : Option Reset) (old new : BodyAndWaits) : Type 0 where
   pub mid : Body
   pub begins : BeginsBody kind mid
@@ -325,8 +325,8 @@ HeedsOn key left rest from to old new = (first : Machine) (bytes : List ℕ) (at
     → HeedsAll key first bytes left at from old → HeedsAll key first bytes rest at to new
 
 -- All of them are, and then those who wait are served, among whom its application may be: unless it
--- waits, its request stays by that, or it is to be closed, and on the connection that it holds
--- nothing is put.
+-- waits, its request stays by that, or it is to be closed, and on the connection that it holds,
+-- where that is open, nothing is put.
 pub record HeedsServed (key : ℕ) (old : Machine) (bytes : List ℕ) (from to : BodyAndWaits)
     (new : Machine) : Type 0 where
   pub at : Machine

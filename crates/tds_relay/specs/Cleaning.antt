@@ -58,7 +58,7 @@ pub record IsPutBehind (Is : List ℕ → Type 0) (before after : List ℕ) : Ty
   pub is : Is out
   pub appended : after ≡ before ++ out
 
--- A cleaning was, where this is nobody; or nothing.
+-- A cleaning was, where this is nobody; or nothing, also where the pool has begun one.
 abbrev pub MayClean : Option ℕ → List ℕ → List ℕ → Type 0
 MayClean who before after = (after ≡ before) ⊎ ((who ≡ None) × IsPutBehind (IsCleaning text_of_cleaning) before after)
 
@@ -72,7 +72,8 @@ pub data AreCleanings : ℕ → List ℕ → Type 0 where
   AndACleaning : (count : ℕ) (out more : List ℕ) → AreCleanings count out
       → IsCleaning text_of_cleaning more → AreCleanings (suc count) (out ++ more)
 
--- They are, and no more than leases were given, from so many to so many: each is put by one.
+-- They are, and no more than leases were given, from so many to so many, also by loans. There may be
+-- fewer.
 pub record AreByLeases (from to : ℕ) (out : List ℕ) : Type 0 where
   pub count : ℕ
   pub are : AreCleanings count out
@@ -173,7 +174,8 @@ CountsSent Fails (Some waits) old new = new ≡ (next old.0, old.1)
 abbrev pub IsUnfit : List ℕ → Option Queue → Type 0
 IsUnfit out queue = option_map (λ (p : Queue). fits p out) queue ≡ Some false
 
--- The pool has this connection no more as this application lets it go: memory was refused to that, or to its cleaning.
+-- The pool has this connection no more as this application lets it go: it gave that up, or its
+-- cleaning, as for want of memory; whether memory was refused isn't said.
 pub record IsGivenUp (key number : ℕ) (old new : Pool) : Type 0 where
   pub gives : Bool
   pub way : Way
@@ -236,8 +238,8 @@ CountsHeard number (Some heard) old new = CountsWhat heard.what heard.key number
 abbrev pub IsLentBy : ℕ → Service → Type 0
 IsLentBy number s = (lease : ℕ) × (had : Bool) × ((step {T = Token} s calls.Lease).reply ≡ calls.Lent lease number had)
 
--- There were connections before; or the pool has done what it does to bring one, of which the service lends none, or memory is refused to its
--- cleaning.
+-- There were connections before; or the pool has done what it does to bring one, of which the
+-- service lends none, or it gave up its cleaning, as for want of memory.
 abbrev pub IsNotBrought : List Link → Pool → Pool → Type 0
 IsNotBrought links old new = ((length links == 0) ≡ false) ⊎ ((gives : Bool) × (way : Way) × (new ≡ (turn old (Brings gives way)).pool))
 

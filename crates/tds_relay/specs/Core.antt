@@ -323,8 +323,8 @@ IsNotPut pool.Asks = Unit {0}
 IsNotPut pool.Stops = Unit {0}
 IsNotPut _ = ⊥
 
--- Nobody waits who has begun no request, holds a connection, or waits already; who waits does so
--- until it asks nothing. A request is asked where its reset is done. Who keeps a transaction by
+-- Nobody waits who has begun no request, holds a connection, or waits already; only who asks
+-- nothing may wait no more. A request is asked where its reset is done. Who keeps a transaction by
 -- another lease asks for the reset that does so, and memory is given to that: refused, it would
 -- lose the connection, and be told nothing. What else moves an end isn't done alone.
 abbrev pub MayDoAlone : Core → Event → Type 0

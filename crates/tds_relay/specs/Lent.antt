@@ -251,6 +251,6 @@ pub data MayBeLent (number : ℕ) (line : List ℕ) (had : List Hold) (old : Lis
 abbrev pub LendsInLine : code.Relay → code.Relay → Type 0
 LendsInLine old new = (number : ℕ) → MayBeLent number old.pool.line.items old.pool.holds.items old.links.items new.pool.holds.items new.links.items
 
--- This connection is one of who holds that one, if somebody does.
+-- This connection is that one, where somebody holds it, or another of its holder's.
 abbrev pub IsWithHolder : ℕ → code.Relay → ℕ → Type 0
 IsWithHolder number r other = IsSome (holder (pool_in r.pool) number) × (holder (pool_in r.pool) other ≡ holder (pool_in r.pool) number)

@@ -208,7 +208,8 @@ pub record KeepsHeard (number : ℕ) (heard : Option Heard) (old new : code.Rela
 
 -- Packets were heard on it, by which none was opened or filled. What others than its holder ask
 -- stays, or starts. On each that isn't its holder's the same waits, and who holds it does so still.
--- On this one, where nobody held it, cleanings alone were put, no more than leases were given; and
+-- On this one, where nobody held it, cleanings alone were put, no more than leases were given, also
+-- by loans; and
 -- while the request of who holds it is kept, that stays, and the same waits.
 pub record IsHeardTo (number : ℕ) (r mid : code.Relay) : Type 0 where
   pub opens : OpensOthers number r.links.items mid.links.items
