@@ -1,5 +1,6 @@
 pub mod Dialled
 pub mod Drained
+pub mod Earlier
 pub mod Firsts
 pub mod Fresh
 pub mod Leases

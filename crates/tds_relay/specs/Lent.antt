@@ -25,6 +25,13 @@ pub record KeepsAnswers (old new : List Link) : Type 0 where
 abbrev pub BeginsOn : ℕ → List Link → List Link → Type 0
 BeginsOn number old new = StaysAt (option_map at_its_beginning (answer_at number old)) (answer_at number new)
 
+-- On each connection that somebody holds by a lease which the service had given before, the same is
+-- known of the message that comes there; or it is there no more.
+abbrev pub AnewIfLent : code.Relay → code.Relay → Type 0
+AnewIfLent old new = (number : ℕ) (hold : Hold)
+    → find_number number new.pool.holds.items ≡ Some hold → hold.lease ≤ old.pool.service.given
+    → StaysAt (answer_at number old.links.items) (answer_at number new.links.items)
+
 -- Packets of this size are read there, set anew, and sent. Its login acknowledged these features,
 -- no message has begun, and nothing waits there, nor was there anything that didn't fit.
 abbrev pub IsMade : ℕ → Features → Link → Type 0

@@ -1,5 +1,5 @@
 -- What one application does leaves the requests of all others as they are.
-use Rattle.std.specs.Prelude.{◌≡◌, ◌≢◌, ◌≤◌, ◌⊎◌, true, false, ◌++◌, ℕ, Bool, List, [], ◌∷◌, IsSome, Option, Some, None, option_map}
+use Rattle.std.specs.Prelude.{◌≡◌, ◌≢◌, ◌<◌, ◌≤◌, ◌⊎◌, true, false, ◌++◌, ℕ, Bool, List, [], ◌∷◌, IsSome, Option, Some, None, option_map}
 use Rattle.tds_client.specs.declared.message.MessageKind.{MessageKind}
 use Rattle.tds_client.specs.Session.{ClientSession}
 use Rattle.tds_client.specs.Streams.{opened}
@@ -89,6 +89,11 @@ MayKeep d key = (hold : Hold) × (find_key key d.holds ≡ Some hold) × IsSome 
 abbrev pub IsKeptBy : Renewed → ℕ → Pool → Type 0
 IsKeptBy (renewals.Kept hold) key d = MayKeep d key
 IsKeptBy renewals.NotKept key d = Unit {0}
+
+-- Where it is kept, it is by a lease that was given behind so many.
+abbrev pub IsLentLater : ℕ → Renewed → Type 0
+IsLentLater given (renewals.Kept hold) = given < hold.lease
+IsLentLater given renewals.NotKept = Unit {0}
 
 -- ---- At a relay
 

@@ -210,7 +210,7 @@ none_each : (key : ℕ) (hs : List Hold) → find_key key hs ≡ None → Each (
 none_each key [] e = tt
 none_each key (x ∷ xs) e = none_each_by key x xs (x.key == key) refl e (λ f. none_each key xs f)
 
-last_each : (P : Hold → Type 0) (h : Hold) (hs : List Hold) → Each P (hs ++ h ∷ []) → P h
+pub last_each : (P : Hold → Type 0) (h : Hold) (hs : List Hold) → Each P (hs ++ h ∷ []) → P h
 last_each P h [] k = k.0
 last_each P h (x ∷ xs) k = last_each P h xs k.1
 
@@ -250,7 +250,7 @@ kept_by : (k : Bool) (p : Hold → Bool) (n : ℕ) (h x : Hold) (xs : List Hold)
 kept_by true p n h x xs others e f = kept_here (x.number == n) n h x xs (filter p xs) e f
 kept_by false p n h x xs others e f = kept_gone (x.number == n) n h x xs refl others (f e)
 
-kept_number : (p : Hold → Bool) (n : ℕ) (h : Hold) (hs : List Hold) → Apart hs → find_number n (filter p hs) ≡ Some h → find_number n hs ≡ Some h
+pub kept_number : (p : Hold → Bool) (n : ℕ) (h : Hold) (hs : List Hold) → Apart hs → find_number n (filter p hs) ≡ Some h → find_number n hs ≡ Some h
 kept_number p n h [] apart e = e
 kept_number p n h (x ∷ xs) apart e = kept_by (p x) p n h x xs apart.0 e (λ f. kept_number p n h xs apart.1 f)
 
@@ -263,7 +263,7 @@ added_by : (b : Bool) (n : ℕ) (h x z : Hold) (zs : List Hold) → (if b then S
 added_by true n h x z zs e f = inl e
 added_by false n h x z zs e f = f e
 
-added_number : (n : ℕ) (h x : Hold) (hs : List Hold) → find_number n (hs ++ x ∷ []) ≡ Some h → (find_number n hs ≡ Some h) ⊎ (h ≡ x)
+pub added_number : (n : ℕ) (h x : Hold) (hs : List Hold) → find_number n (hs ++ x ∷ []) ≡ Some h → (find_number n hs ≡ Some h) ⊎ (h ≡ x)
 added_number n h x [] e = inr (last_by (x.number == n) h x e)
 added_number n h x (z ∷ zs) e = added_by (z.number == n) n h x z zs e (λ f. added_number n h x zs f)
 

@@ -43,6 +43,9 @@ pub reached_turn : (old new : Pool) (event : Event) (before after : List ℕ) �
 reached_turn old new event before after t r =
     (r.0, r.1 ++ event ∷ [], after_both (new_pool r.0) r.1 (event ∷ []) ∙ ap (λ (d : Pool). (turn d event).pool) r.2 ∙ sym t.pool_is)
 
+pub reached_next : (d : Pool) (event : Event) → IsReached d → IsReached (turn d event).pool
+reached_next d event r = (r.0, r.1 ++ event ∷ [], after_both (new_pool r.0) r.1 (event ∷ []) ∙ ap (λ (x : Pool). (turn x event).pool) r.2)
+
 -- an application lets go what it holds
 pub reaches_left : (key : ℕ) (from old new : Pool) → Leaving key old new → Reaches (Application key) from old → Reaches (Application key) from new
 reaches_left key from old new l h = l.2 (Application key) from (reaches_next (Application key) from old (Leaves key l.0 l.1) refl h)

@@ -4,7 +4,7 @@ ghost use Rattle.tds_service.specs.Table.{KeepsClientsOff, client_of, reading_on
 ghost use Rattle.tds_relay.specs.Cleaning.{CleansFirst, GoesOutAtEnd, GoesOutBy, IsBatch, IsCleaning, IsLentBy, IsPutBehind};
 ghost use Rattle.tds_relay.specs.Pool.{Brings, Leaves, Loses, Renews, Way, cleaning, find_key, find_number};
 ghost use Rattle.tds_relay.specs.Pool.{key_of, releasing, without_number};
-ghost use Rattle.tds_relay.specs.Sparing.{AsideStay, IsKeptBy, IsRenewed, OffHold, OthersHold};
+ghost use Rattle.tds_relay.specs.Sparing.{AsideStay, IsKeptBy, IsLentLater, IsRenewed, OffHold, OthersHold};
 ghost use Rattle.tds_relay.specs.Ties.{IsNumberOf, IsReached, Makes, Turns, pool_in, is_sent, lost_by};
 ghost use Rattle.tds_relay.specs.TokenParsers.{AllStand, IsLed};
 ghost use Rattle.tds_relay.specs.Cleaning.{text_of_cleaning};
@@ -194,6 +194,8 @@ impl Pool {
             (pool_in self.old).service (pool_in self.new).service) }
         ensures is { IfOk result (λ renewed. IsRenewed renewed key self.old self.new) }
         ensures keeps { IfOk result (λ renewed. IsKeptBy renewed key (pool_in self.old)) }
+        ensures later { IsReached (pool_in self.old)
+            → IfOk result (IsLentLater self.old.service.given) }
         ensures others { OnOk result (OthersHold key self.old self.new) }
     {
         let Some(hold) = find_key(&self.holds, key) else {

@@ -2,7 +2,7 @@
 ghost use Rattle.std.specs.Prelude.{◌≡◌, ◌≤◌, [], Bool, None, IfOk, IsSome, OnOk, Some};
 ghost use Rattle.std.specs.Prelude.{drop, false, length, true};
 ghost use Rattle.slab.specs.Slab.{get};
-ghost use Rattle.tds_relay.specs.Lent.{DialsNewAt, KeepsGiven};
+ghost use Rattle.tds_relay.specs.Lent.{AnewIfLent, DialsNewAt, KeepsGiven};
 ghost use Rattle.tds_relay.specs.Asking.{AsksByBytes, AsksOn, IfAsks, IsUnderway, waits_of};
 ghost use Rattle.tds_relay.specs.Bodies.{Body, HeedsAll, HeedsOn, HeedsServed, CancelsSaid, Carries};
 ghost use Rattle.tds_relay.specs.Bodies.{CarriesOn, Grows, GrowsFrom, Obeys, PutsSaid, Starts, GoesFrom, body_of};
@@ -13,7 +13,7 @@ ghost use Rattle.tds_relay.specs.Few.{Few, IsSeated, NobodyWaits};
 ghost use Rattle.tds_relay.specs.Fronts.{FedOn, Moved, ends_in, given_by, core_in, machine_in};
 ghost use Rattle.tds_relay.specs.Core.{IfOpen, IsBegun, end_at, holder};
 ghost use Rattle.tds_relay.specs.Machine.{Steps};
-ghost use Rattle.tds_relay.specs.Lent.{OthersKeepAt, PutsOnly};
+ghost use Rattle.tds_relay.specs.Lent.{KeepsAnswers, OthersKeepAt, PutsOnly};
 ghost use Rattle.tds_relay.specs.Queues.{names_in, queues_in};
 ghost use Rattle.tds_relay.specs.Reads.{Opens, LinksStay};
 ghost use Rattle.tds_relay.specs.Reasons.{CannotGoOnAt, GivesReason, IsTurnedAwayAt, ItselfFor, MayCloseAt};
@@ -65,6 +65,8 @@ impl Relay {
             (λ number. holder (pool_in self.old.pool) number ≡ Some key) self.old self.new) }
         ensures given { OnOk result (KeepsGiven self.old self.new) }
         ensures fresh { OnOk result (DialsNewAt self.old self.new) }
+        ensures anew { IsReached (pool_in self.old.pool)
+            → OnOk result (AnewIfLent self.old self.new) }
     {
         self.take_all(key, piece)?;
         self.serve_line()
@@ -96,6 +98,8 @@ impl Relay {
         ensures aside { IsReached (pool_in self.old.pool)
             → OnOk result (OthersKeepAt key self.old self.new) }
         ensures right { IsRightlyKept key self.old → OnOk result (IsRightlyKept key self.new) }
+        ensures anew { IsReached (pool_in self.old.pool)
+            → OnOk result (AnewIfLent self.old self.new) }
     {
         let mut rest = piece;
         'taking: for _ in 0..piece.len() {
@@ -138,6 +142,8 @@ impl Relay {
         ensures aside { IsReached (pool_in self.old.pool)
             → OnOk result (OthersKeepAt key self.old self.new) }
         ensures right { IsRightlyKept key self.old → OnOk result (IsRightlyKept key self.new) }
+        ensures anew { IsReached (pool_in self.old.pool)
+            → OnOk result (AnewIfLent self.old self.new) }
     {
         let Some(application) = self.applications.get_mut(key) else {
             return Ok(piece.len());
@@ -189,6 +195,8 @@ impl Relay {
         ensures puts { OnOk result (PutsSaid said bytes.now (standing_in key self.old)
             (standing_in key self.new)) }
         ensures right { IsRightlyKept key self.old → OnOk result (IsRightlyKept key self.new) }
+        ensures anew { IsReached (pool_in self.old.pool)
+            → OnOk result (AnewIfLent self.old self.new) }
     {
         bytes_are_packets();
         match said {
@@ -234,6 +242,7 @@ impl Relay {
         ensures puts { OnOk result (GoesFrom (standing_in key self.old)
             (standing_in key self.new)) }
         ensures right { OnOk result (IsRightlyKept key self.new) }
+        ensures answers { OnOk result (KeepsAnswers self.old.links.items self.new.links.items) }
     {
         match self.pool.hold_of(key) {
             Some(_) => self.start_kept(key),
@@ -273,6 +282,7 @@ impl Relay {
         ensures puts { OnOk result (GrowsFrom whole bytes.now (standing_in key self.old)
             (standing_in key self.new)) }
         ensures right { OnOk result (IsRightlyKept key self.new) }
+        ensures answers { OnOk result (KeepsAnswers self.old.links.items self.new.links.items) }
     {
         let Some(application) = self.applications.get_mut(key) else {
             return Ok(());

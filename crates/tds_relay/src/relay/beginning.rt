@@ -11,7 +11,7 @@ ghost use Rattle.tds_relay.specs.Closings.{ClosesOnly, IsNoRequest, register_in}
 ghost use Rattle.tds_relay.specs.Few.{IsSeated};
 ghost use Rattle.tds_relay.specs.Fronts.{Moved, ends_in, core_in};
 ghost use Rattle.tds_relay.specs.Core.{AsksFor, AsksToPart, IfAsked, IfOpen, IsBegun, end_at};
-ghost use Rattle.tds_relay.specs.Lent.{OthersKeepAt};
+ghost use Rattle.tds_relay.specs.Lent.{AnewIfLent, KeepsAnswers, OthersKeepAt};
 ghost use Rattle.tds_relay.specs.Waiting.{IsRightlyKept};
 ghost use Rattle.tds_relay.specs.Ordering.{opens_in};
 ghost use Rattle.tds_relay.specs.Places.{HasNoTransaction};
@@ -67,6 +67,8 @@ impl Relay {
         ensures puts { OnOk result (BeginsFrom kind reset (standing_in key self.old)
             (standing_in key self.new)) }
         ensures right { OnOk result (IsRightlyKept key self.new) }
+        ensures anew { IsReached (pool_in self.old.pool)
+            → OnOk result (AnewIfLent self.old self.new) }
     {
         let Some(application) = self.applications.get_mut(key) else {
             return Ok(());
@@ -140,6 +142,7 @@ impl Relay {
         ensures aside { IsReached (pool_in self.old.pool)
             → OnOk result (OthersKeepAt key self.old self.new) }
         ensures right { OnOk result (IsRightlyKept key self.new) }
+        ensures answers { OnOk result (KeepsAnswers self.old.links.items self.new.links.items) }
     {
         if !self.has_nothing_out(key) {
             return self.expel(key);
@@ -184,6 +187,8 @@ impl Relay {
         ensures puts { (whole : Bool) → waits_of (get self.old.applications key) ≡ Some whole
             → OnOk result (StartsInPlace (standing_in key self.old).1 (body_of key self.old)
             (body_of key self.new)) }
+        ensures anew { IsReached (pool_in self.old.pool)
+            → OnOk result (AnewIfLent self.old self.new) }
     {
         match self.pool.renew(key)? {
             Renewed::Kept(hold) => {

@@ -1,7 +1,7 @@
 //! Applications of which nothing more is taken.
 ghost use Rattle.std.specs.Prelude.{◌≡◌, None, OnOk};
 ghost use Rattle.tds_relay.specs.Bodies.{AskOn};
-ghost use Rattle.tds_relay.specs.Lent.{OthersKeepAt};
+ghost use Rattle.tds_relay.specs.Lent.{KeepsAnswers, OthersKeepAt};
 ghost use Rattle.tds_relay.specs.Few.{IsSeated};
 ghost use Rattle.tds_relay.specs.Fronts.{Moved, ends_in, core_in, core_of_ends};
 ghost use Rattle.tds_relay.specs.Core.{change_end, closes, closes_for, end_at};
@@ -40,6 +40,7 @@ impl Relay {
         ensures opening { opens_in self.new.orders.items ≡ opens_in self.old.orders.items }
         ensures aside { IsReached (pool_in self.old.pool)
             → OnOk result (OthersKeepAt key self.old self.new) }
+        ensures answers { OnOk result (KeepsAnswers self.old.links.items self.new.links.items) }
     {
         self.expel_for(key, None)
     }
@@ -67,6 +68,7 @@ impl Relay {
         ensures opening { opens_in self.new.orders.items ≡ opens_in self.old.orders.items }
         ensures aside { IsReached (pool_in self.old.pool)
             → OnOk result (OthersKeepAt key self.old self.new) }
+        ensures answers { OnOk result (KeepsAnswers self.old.links.items self.new.links.items) }
     {
         self.end_for(key, why)?;
         self.release(key)

@@ -200,6 +200,7 @@ impl Relay {
             (OthersKeepAt key self.old self.new) }
         ensures frees { IsReached (pool_in self.old.pool) → OnOk result
             (IsLetGo key self.old.pool.holds.items self.new.pool.holds.items) }
+        ensures answers { OnOk result (KeepsAnswers self.old.links.items self.new.links.items) }
     {
         self.outbox.clear();
         let left = self.pool.leave(key, &mut self.outbox)?;

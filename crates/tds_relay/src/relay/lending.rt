@@ -1,7 +1,7 @@
 //! Connections that are lent to those who wait, opened, and asked.
 ghost use Rattle.std.specs.Prelude.{◌≡◌, ◌≢◌, ◌⊎◌, ◌++◌, ◌<◌, ◌≤◌, [], ℕ, Bool, IfOk, List, None, OnOk, Some, false, length, option_map, true};
 ghost use Rattle.slab.specs.Slab.{get};
-ghost use Rattle.tds_relay.specs.Lent.{AllLast, Any, BeginsOn, DialsNewAt, FirstKeeps, GivenStay, IsMade, IsMadeOn, IsOnItsOwn, IsWithHolder, KeepsAnswers, KeepsGiven, LastBut, LendsInLine, OffRest, OpensGiven, PutsOnly, ShutGiven, ShutRest, ShutStay, StaysDialledAt, seen_in};
+ghost use Rattle.tds_relay.specs.Lent.{AllLast, AnewIfLent, Any, BeginsOn, DialsNewAt, FirstKeeps, GivenStay, IsMade, IsMadeOn, IsOnItsOwn, IsWithHolder, KeepsAnswers, KeepsGiven, LastBut, LendsInLine, OffRest, OpensGiven, PutsOnly, ShutGiven, ShutRest, ShutStay, StaysDialledAt, seen_in};
 ghost use Rattle.tds_relay.specs.Apart.{Alone, AloneWho, LendsAfter, LendsInTurn, UnlessServed};
 ghost use Rattle.tds_relay.specs.Asking.{HasBegun, IsUnderway, waits_of};
 ghost use Rattle.tds_relay.specs.Bodies.{AskAsBefore, AskOn, Grows, Starts, GoesFrom, body_of, going_of, held_of, standing_in};
@@ -14,7 +14,7 @@ ghost use Rattle.tds_relay.specs.Machine.{StepsOn};
 ghost use Rattle.tds_relay.specs.Waiting.{GoesOrWaits, IsUnheldOrTurnedAway, IsLentInVain, OpensOrLends};
 ghost use Rattle.tds_relay.specs.Queues.{names_in, queues_in};
 ghost use Rattle.tds_relay.specs.Cutting.{at_its_beginning};
-ghost use Rattle.tds_relay.specs.Reads.{Opens, OpensOne, LinksStay, answer_at, named_seen, open_at, bytes_on, link_at, opened_at, opened_seen, queue_on, seen_at, waits_on};
+ghost use Rattle.tds_relay.specs.Reads.{Opens, OpensOne, LinksStay, StaysAt, answer_at, named_seen, open_at, bytes_on, link_at, opened_at, opened_seen, queue_on, seen_at, waits_on};
 ghost use Rattle.tds_relay.specs.Ordering.{GrowsByOrders, OpensNew, StayOrdered, opens_if, opens_in};
 ghost use Rattle.tds_relay.specs.Reasons.{CannotPut, CannotStartAt, HasNoRoom, IsTurnedAwayAt, IsUnheld, ItselfFor};
 ghost use Rattle.tds_relay.specs.Sending.{IsToWrite, called_at};
@@ -201,6 +201,8 @@ impl Relay {
         ensures given { OnOk result (KeepsGiven self.old self.new) }
         ensures fresh { OnOk result (StaysDialledAt self.old self.new) }
         ensures still { OnOk result (ShutGiven self.old self.new) }
+        ensures anew { IsReached (pool_in self.old.pool)
+            → OnOk result (AnewIfLent self.old self.new) }
     {
         let waiting = self.pool.waiting();
         'line: for turn in 0..waiting {
@@ -261,6 +263,8 @@ impl Relay {
         ensures fresh { OnOk result (StaysDialledAt self.old self.new) }
         ensures still { (last : ℕ) → (served.had ≡ false → last < served.hold.number)
             → OnOk result (ShutStay (λ n. n ≤ last) self.old.links.items self.new.links.items) }
+        ensures elsewhere { OnOk result ((n : ℕ) → n ≢ served.hold.number
+            → StaysAt (answer_at n self.old.links.items) (answer_at n self.new.links.items)) }
     {
         let number = served.hold.number;
         if served.had {

@@ -12,7 +12,7 @@ ghost use Rattle.tds_relay.specs.Pool.{Does, Stops, Unwaits, find_key};
 ghost use Rattle.tds_relay.specs.declared.pool.Hold.{Hold};
 ghost use Rattle.tds_relay.specs.Fronts.{FedOn, Moved, MovedOn, ends_in, core_in, core_of_ends, withdraws};
 ghost use Rattle.tds_relay.specs.Core.{EndList, IfOpen, change_end, end_at};
-ghost use Rattle.tds_relay.specs.Lent.{OthersKeepAt};
+ghost use Rattle.tds_relay.specs.Lent.{KeepsAnswers, OthersKeepAt};
 ghost use Rattle.tds_relay.specs.Waiting.{IsRightlyKept};
 ghost use Rattle.tds_relay.specs.Queues.{acknowledgement, give, queue_at, queues_in};
 ghost use Rattle.tds_relay.specs.Reads.{LinksStay};
@@ -62,6 +62,7 @@ impl Relay {
             → OnOk result (OthersKeepAt key self.old self.new) }
         ensures puts { OnOk result (PutsNothing (standing_in key self.old)
             (standing_in key self.new)) }
+        ensures answers { OnOk result (KeepsAnswers self.old.links.items self.new.links.items) }
     {
         let was_asked = self.forget_request(key);
         if was_asked { self.unask(key) } else { Ok(()) }
@@ -119,6 +120,7 @@ impl Relay {
         ensures opening { opens_in self.new.orders.items ≡ opens_in self.old.orders.items }
         ensures aside { IsReached (pool_in self.old.pool)
             → OnOk result (OthersKeepAt key self.old self.new) }
+        ensures answers { OnOk result (KeepsAnswers self.old.links.items self.new.links.items) }
     {
         if !self.has_nothing_out(key) {
             return self.expel(key);
@@ -159,6 +161,7 @@ impl Relay {
         ensures opening { opens_in self.new.orders.items ≡ opens_in self.old.orders.items }
         ensures aside { IsReached (pool_in self.old.pool)
             → OnOk result (OthersKeepAt key self.old self.new) }
+        ensures answers { OnOk result (KeepsAnswers self.old.links.items self.new.links.items) }
     {
         let _ = self.forget_request(key);
         match self.stop(key)? {
@@ -273,6 +276,7 @@ impl Relay {
         ensures aside { IsReached (pool_in self.old.pool)
             → OnOk result (OthersKeepAt key self.old self.new) }
         ensures right { IsRightlyKept key self.old → OnOk result (IsRightlyKept key self.new) }
+        ensures answers { OnOk result (KeepsAnswers self.old.links.items self.new.links.items) }
     {
         match self.stop(key)? {
             Some(number) => self.send_stop(key, number),
@@ -304,6 +308,7 @@ impl Relay {
             → find_key key (pool_in self.old.pool).holds ≡ Some hold → hold.number ≡ number
             → OnOk result (OthersKeepAt key self.old self.new) }
         ensures right { IsRightlyKept key self.old → OnOk result (IsRightlyKept key self.new) }
+        ensures answers { OnOk result (KeepsAnswers self.old.links.items self.new.links.items) }
     {
         let fits = self.fits_on(number)?;
         if fits { Ok(()) } else { self.fail(key, number) }

@@ -9,6 +9,7 @@ use Rattle.tds_relay.proofs.bytes.Walking.{keeps_stand, same_stand}
 use Rattle.tds_service.specs.Service.{Service}
 use Rattle.tds_relay.proofs.seats.Pools.{both_keep}
 use Rattle.tds_relay.proofs.seats.Rests.{call_keeps, same_keeps}
+use Rattle.tds_relay.proofs.lending.Earlier.{relent_later}
 use Rattle.tds_relay.proofs.spared.Aside.{renewed_others}
 use Rattle.tds_relay.proofs.spared.Held.{action_others, action_refl}
 use Rattle.std.proofs.lemmas.Bool.{eqb-true}
@@ -59,3 +60,7 @@ returns-clause-is c =
 
 pub returns-clause-keeps : goal.returns-clause-keeps
 returns-clause-keeps c = (c.in-Some.hold, search rules, ap (λ (r : calls.Reply). is_some (ticket_in r)) c.in-Ok.ensures.ok.1.reply_is)
+
+pub returns-clause-later : goal.returns-clause-later
+returns-clause-later c = λ reached.
+    relent_later (pool_in c.args.self.now) (service_in c.keep.new.self) c.in-Some.hold.lease c.in-Ok.ticket c.in-Ok-resume.lent.lease c.in-Ok-resume.lent.number _ reached c.in-Ok.ensures.ok.1.service_is c.in-Ok-resume.ensures.ok.reply_is

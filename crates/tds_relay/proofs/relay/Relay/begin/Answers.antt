@@ -31,6 +31,8 @@ use Rattle.tds_relay.specs.Reads.{waits_on}
 use Rattle.tds_relay.proofs.steps.Still.{begins_put, begins_shut, none_shut, put_refl, put_same, spared_place}
 use Rattle.tds_relay.proofs.spared.Rightly.{deaf_right_on, held_right_on, unkept_right, waits_right_on}
 use Rattle.tds_relay.proofs.spared.Starting.{unkept_none}
+use Rattle.tds_relay.proofs.lending.Earlier.{anew_kept, anew_refl}
+use Rattle.tds_relay.proofs.spared.Begun.{answers_unchanged}
 use Rattle.tds_relay.proofs.relay.Relay.begin.Goals as goal
 
 pub returns-in-false-default-clause-goes : goal.returns-in-false-default-clause-goes
@@ -287,3 +289,24 @@ returns-in-true-None-clause-right c = held_right_on c.start.result c.args.key c.
 
 pub returns-then-may_keep_later-clause-right : goal.returns-then-may_keep_later-clause-right
 returns-then-may_keep_later-clause-right c = c.may_keep_later.ensures.right (search rules)
+
+pub returns-in_default-clause-anew : goal.returns-in_default-clause-anew
+returns-in_default-clause-anew c = λ reached. anew_refl c.args.self.now
+
+pub returns-in_default-message_kind-clause-anew : goal.returns-in_default-message_kind-clause-anew
+returns-in_default-message_kind-clause-anew c = λ reached. anew_kept c.expel.result c.args.self.now c.expel.new.self c.expel.ensures.answers
+
+pub returns-in-true-None-clause-anew : goal.returns-in-true-None-clause-anew
+returns-in-true-None-clause-anew c = λ reached. anew_kept c.start.result c.args.self.now c.start.new.self c.start.ensures.answers
+
+pub returns-then-may_keep_later-clause-anew : goal.returns-then-may_keep_later-clause-anew
+returns-then-may_keep_later-clause-anew c = λ reached. anew_refl c.args.self.now
+
+pub returns-else-may_keep_later-clause-anew : goal.returns-else-may_keep_later-clause-anew
+returns-else-may_keep_later-clause-anew c = λ reached. c.renew.ensures.anew reached
+
+pub returns-in-true-Some-Full-clause-anew : goal.returns-in-true-Some-Full-clause-anew
+returns-in-true-Some-Full-clause-anew c = λ reached. anew_kept c.change.result c.args.self.now c.change.new.self c.change.ensures.answers
+
+pub returns-in-false-default-clause-anew : goal.returns-in-false-default-clause-anew
+returns-in-false-default-clause-anew c = λ reached. anew_kept c.wait.result c.args.self.now c.wait.new.self (answers_unchanged c.wait.result c.args.self.now.links.items c.wait.new.self.links.items (ok_if c.wait.result _ c.wait.ensures.links))

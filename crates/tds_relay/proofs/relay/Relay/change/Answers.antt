@@ -20,6 +20,7 @@ use Rattle.tds_relay.specs.Fronts.{ends_in}
 use Rattle.tds_relay.proofs.steps.Quieting.{open_lets_go}
 use Rattle.tds_relay.proofs.spared.Elsewhere.{aside_on, aside_waits}
 use Rattle.tds_relay.proofs.spared.Rightly.{deaf_right_on, waits_right_on}
+use Rattle.tds_relay.proofs.spared.Begun.{answers_on, answers_then}
 use Rattle.tds_relay.proofs.relay.Relay.change.Goals as goal
 
 pub returns-then-not-has_nothing_out-clause-moves : goal.returns-then-not-has_nothing_out-clause-moves
@@ -123,3 +124,9 @@ returns-then-is_some-clause-right c = deaf_right_on c.expel-then-is_some.result 
 
 pub returns-clause-right : goal.returns-clause-right
 returns-clause-right c = waits_right_on c.wait.result c.args.key c.release.new.self c.wait.new.self c.wait.ensures.holds (search rules)
+
+pub returns-clause-answers : goal.returns-clause-answers
+returns-clause-answers c = answers_then c.wait.result _ _ _ c.in_ok-release.ensures.answers (ok_if c.wait.result _ c.wait.ensures.links)
+
+pub returns-then-is_some-clause-answers : goal.returns-then-is_some-clause-answers
+returns-then-is_some-clause-answers c = answers_on c.expel-then-is_some.result _ _ _ c.in_ok-release.ensures.answers c.expel-then-is_some.ensures.answers

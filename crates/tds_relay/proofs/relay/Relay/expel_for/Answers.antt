@@ -14,6 +14,7 @@ use Rattle.tds_relay.specs.Closings.{Itself}
 use Rattle.tds_relay.proofs.spared.Closings.{closes_behind}
 use Rattle.tds_relay.proofs.seats.Relays.{kept_seated}
 use Rattle.tds_relay.proofs.spared.Elsewhere.{aside_on, aside_same}
+use Rattle.tds_relay.proofs.spared.Begun.{answers_from}
 use Rattle.tds_relay.proofs.relay.Relay.expel_for.Goals as goal
 
 pub returns-clause-goes : goal.returns-clause-goes
@@ -59,3 +60,6 @@ returns-clause-aside c = λ reached.
     aside_on c.release.result c.args.key c.args.self.now c.end_for.new.self c.release.new.self
     (aside_same c.args.key c.args.self.now c.end_for.new.self (ap (λ (d : code.Pool). d.holds.items) c.end_for.ensures.pool) c.in_ok-end_for.ensures.links)
     (c.release.ensures.keeps (subst (λ (d : code.Pool). IsReached (pool_in d)) (sym c.end_for.ensures.pool) reached))
+
+pub returns-clause-answers : goal.returns-clause-answers
+returns-clause-answers c = answers_from c.release.result _ _ _ c.in_ok-end_for.ensures.links c.release.ensures.answers

@@ -22,6 +22,7 @@ use Rattle.tds_relay.specs.Bodies.{body_of, going_of, standing_in}
 use Rattle.tds_relay.proofs.steps.Halting.{cancelled_unsent, forgot_cancelled}
 use Rattle.tds_relay.proofs.steps.Tied.{stays_closed}
 use Rattle.tds_relay.proofs.steps.Still.{asked_moves, links_same, moves}
+use Rattle.tds_relay.proofs.spared.Begun.{answers_from, answers_same}
 use Rattle.tds_relay.proofs.relay.Relay.forget.Goals as goal
 
 pub returns-then-was_asked-clause-moves : goal.returns-then-was_asked-clause-moves
@@ -104,3 +105,9 @@ returns-then-was_asked-clause-puts c =
 
 pub returns-else-was_asked-clause-puts : goal.returns-else-was_asked-clause-puts
 returns-else-was_asked-clause-puts c = λ still number. links_same number c.args.self.now.links.items c.forget_request-was_asked.new.self.links.items c.forget_request-was_asked.ensures.links
+
+pub returns-then-was_asked-clause-answers : goal.returns-then-was_asked-clause-answers
+returns-then-was_asked-clause-answers c = answers_from c.unask.result _ _ _ c.forget_request-was_asked.ensures.links c.unask.ensures.answers
+
+pub returns-else-was_asked-clause-answers : goal.returns-else-was_asked-clause-answers
+returns-else-was_asked-clause-answers c = answers_same c.args.self.now.links.items _ (c.forget_request-was_asked.ensures.links)

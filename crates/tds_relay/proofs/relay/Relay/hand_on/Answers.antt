@@ -26,6 +26,7 @@ use Rattle.tds_relay.specs.Sparing.{IsKept}
 use Rattle.tds_relay.specs.Reads.{open_at}
 use Rattle.std.specs.Prelude.{IsSome}
 use Rattle.tds_relay.proofs.spared.Turned.{kept_asks}
+use Rattle.tds_relay.proofs.spared.Begun.{answers_from}
 use Rattle.tds_relay.proofs.relay.Relay.hand_on.Goals as goal
 
 pub returns-in-Some-clause-moves : goal.returns-in-Some-clause-moves
@@ -140,3 +141,9 @@ returns-in-None-clause-right c = λ right. deaf_right_on c.expel.result c.args.k
 
 pub returns-in-Some-clause-goes : goal.returns-in-Some-clause-goes
 returns-in-Some-clause-goes c = ok_more c.send_stop.result _ _ (λ g from h. g (Application c.args.key) from (c.stop.ensures.goes from h)) c.send_stop.ensures.goes
+
+pub returns-in-Some-clause-answers : goal.returns-in-Some-clause-answers
+returns-in-Some-clause-answers c = answers_from c.send_stop.result _ _ _ c.stop.ensures.links c.send_stop.ensures.answers
+
+pub returns-in-None-clause-answers : goal.returns-in-None-clause-answers
+returns-in-None-clause-answers c = answers_from c.expel.result _ _ _ c.stop.ensures.links c.expel.ensures.answers

@@ -28,6 +28,7 @@ use Rattle.tds_relay.proofs.spared.Filling.{own_put, own_behind, own_pushed}
 use Rattle.tds_relay.proofs.spared.Growing.{pushed_more}
 use Rattle.tds_relay.proofs.spared.Elsewhere.{begun_own}
 use Rattle.tds_relay.proofs.lending.Dialled.{given_by_push, given_stays_on}
+use Rattle.tds_relay.proofs.lending.Earlier.{lent_elsewhere, pushed_elsewhere}
 use Rattle.tds_relay.proofs.lending.Fresh.{dials_again, dials_by_push}
 use Rattle.tds_relay.proofs.lending.Stilled.{still_asked, still_pushed}
 use Rattle.tds_relay.proofs.relay.Relay.lend.Goals as goal
@@ -167,3 +168,10 @@ returns-then-served-clause-still c = λ last new. still_asked c.start_kept.resul
 
 pub returns-clause-still : goal.returns-clause-still
 returns-clause-still c = λ last new. still_pushed last c.args.served.hold.number c.args.self.now.links.items c.push.new.self.items c.in_ok-link.link c.in_ok-push.ensures.items c.in_ok-link.ensures.number (new (search rules))
+
+pub returns-then-served-clause-elsewhere : goal.returns-then-served-clause-elsewhere
+returns-then-served-clause-elsewhere c =
+    lent_elsewhere c.start_kept.result c.args.served.hold.number c.args.self.now.links.items c.restart.new.self.links.items c.start_kept.new.self.links.items c.restart.ensures.others c.start_kept.ensures.answers
+
+pub returns-clause-elsewhere : goal.returns-clause-elsewhere
+returns-clause-elsewhere c = pushed_elsewhere c.args.served.hold.number c.args.self.now.links.items c.push.new.self.items c.in_ok-link.link c.in_ok-push.ensures.items c.in_ok-link.ensures.number

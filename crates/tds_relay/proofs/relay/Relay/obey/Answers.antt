@@ -27,6 +27,8 @@ use Rattle.tds_relay.proofs.steps.Halting.{cancelled_told}
 use Rattle.tds_relay.specs.Reads.{waits_on}
 use Rattle.tds_relay.proofs.steps.Still.{links_then, put_refl}
 use Rattle.tds_relay.proofs.spared.Rightly.{forgotten_right}
+use Rattle.tds_relay.proofs.lending.Earlier.{anew_kept, anew_refl}
+use Rattle.tds_relay.proofs.spared.Begun.{answers_then}
 use Rattle.tds_relay.proofs.relay.Relay.obey.Goals as goal
 
 pub returns-in-Begin-clause-given : goal.returns-in-Begin-clause-given
@@ -336,3 +338,27 @@ returns-in-HandOn-clause-right c = λ right. c.hand_on.ensures.right right
 pub returns-in-HandOn-clause-moves : goal.returns-in-HandOn-clause-moves
 returns-in-HandOn-clause-moves c =
     ok_more c.hand_on.result _ _ (λ m. subst (λ (s : Said). FedOn c.args.key s (pool_in c.args.self.now.pool) (ends_in c.args.self.now.applications) (core_in c.hand_on.new.self)) (sym c.in-HandOn.is) m) c.hand_on.ensures.moves
+
+pub returns-in-Nothing-clause-anew : goal.returns-in-Nothing-clause-anew
+returns-in-Nothing-clause-anew c = λ reached. anew_refl c.args.self.now
+
+pub returns-in-Begin-clause-anew : goal.returns-in-Begin-clause-anew
+returns-in-Begin-clause-anew c = λ reached. c.begin.ensures.anew reached
+
+pub returns-in-Body-clause-anew : goal.returns-in-Body-clause-anew
+returns-in-Body-clause-anew c = λ reached. anew_kept c.go_on.result c.args.self.now c.go_on.new.self c.go_on.ensures.answers
+
+pub returns-in-End-clause-anew : goal.returns-in-End-clause-anew
+returns-in-End-clause-anew c = λ reached. anew_kept c.go_on-in-End.result c.args.self.now c.go_on-in-End.new.self c.go_on-in-End.ensures.answers
+
+pub returns-in-Forget-false-clause-anew : goal.returns-in-Forget-false-clause-anew
+returns-in-Forget-false-clause-anew c = λ reached. anew_kept c.forget.result c.args.self.now c.forget.new.self c.forget.ensures.answers
+
+pub returns-in-Forget-true-clause-anew : goal.returns-in-Forget-true-clause-anew
+returns-in-Forget-true-clause-anew c = λ reached. anew_kept c.take_back.result c.args.self.now c.take_back.new.self c.take_back.ensures.answers
+
+pub returns-in-HandOn-clause-anew : goal.returns-in-HandOn-clause-anew
+returns-in-HandOn-clause-anew c = λ reached. anew_kept c.hand_on.result c.args.self.now c.hand_on.new.self c.hand_on.ensures.answers
+
+pub returns-in_ok-forget-in-Acknowledge-clause-anew : goal.returns-in_ok-forget-in-Acknowledge-clause-anew
+returns-in_ok-forget-in-Acknowledge-clause-anew c = λ reached. anew_kept c.acknowledge.result c.args.self.now c.acknowledge.new.self (answers_then c.acknowledge.result _ _ _ c.in_ok-forget-in-Acknowledge.ensures.answers c.acknowledge.ensures.links)

@@ -17,6 +17,7 @@ use Rattle.tds_relay.proofs.spared.Lasting.{but_same, held_but, held_number}
 use Rattle.tds_relay.specs.Places.{held_by}
 use Rattle.tds_relay.specs.Cleaning.{CountsOnce, cleaned_in}
 use Rattle.tds_relay.proofs.spared.Freeing.{left_frees, left_keeps, nobody_frees, nobody_keeps}
+use Rattle.tds_relay.proofs.spared.Begun.{answers_from, answers_same}
 use Rattle.tds_relay.proofs.relay.Relay.release.Goals as goal
 
 pub returns-in_default-clause-lets_go : goal.returns-in_default-clause-lets_go
@@ -203,3 +204,12 @@ returns-else-left-clause-cleaned c = λ reached.
     (ok_more c.close.result _ _ (λ g. waits_none c.in-Some.left.number c.close.new.self.links.items g) c.close.ensures.gone)
     c.in_ok-left.ensures.turns.0 c.in_ok-left.ensures.turns.1 c.leave.new.self _ _ c.in_ok-left.left reached c.in-Some.is c.in_ok-left.ensures.seats (search rules) c.in_ok-left.ensures.turns.2
     (c.close.ensures.pool ∙ c.let_go.ensures.pool)
+
+pub returns-in_default-clause-answers : goal.returns-in_default-clause-answers
+returns-in_default-clause-answers c = answers_same c.args.self.now.links.items _ (c.let_go.ensures.links)
+
+pub returns-then-left-clause-answers : goal.returns-then-left-clause-answers
+returns-then-left-clause-answers c = answers_from c.send_unheld.result _ _ _ c.let_go.ensures.links c.send_unheld.ensures.answers
+
+pub returns-else-left-clause-answers : goal.returns-else-left-clause-answers
+returns-else-left-clause-answers c = answers_from c.close.result _ _ _ c.let_go.ensures.links c.close.ensures.answers

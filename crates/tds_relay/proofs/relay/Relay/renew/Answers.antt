@@ -25,13 +25,14 @@ use Rattle.tds_relay.specs.Ties.{Application, IsReached, Reaches, pool_in}
 use Rattle.tds_relay.proofs.spared.Speaking.{done_as}
 use Rattle.tds_relay.proofs.lending.Resting.{all_others, others_both, others_on}
 use Rattle.tds_relay.specs.declared.pool.leaving.Renewed.{Renewed}
-use Rattle.tds_relay.specs.Sparing.{IsKeptBy, IsRenewed}
+use Rattle.tds_relay.specs.Sparing.{IsKeptBy, IsLentLater, IsRenewed}
 use Rattle.tds_relay.proofs.spared.Elsewhere.{begun_aside, begun_own, aside_own, keeps_both, keeps_on, renew_keeps}
 use Rattle.tds_relay.proofs.spared.Filling.{last_found}
 use Rattle.tds_relay.proofs.held.Numbers.{Apart, apart_at}
 use Rattle.tds_relay.specs.Lent.{OthersKeep}
 use Rattle.tds_relay.specs.declared.pool.Hold.{Hold}
 use Rattle.tds_relay.proofs.spared.Rightly.{deaf_right_on, held_right_on}
+use Rattle.tds_relay.proofs.lending.Earlier.{anew_kept, relent_anew}
 use Rattle.tds_relay.proofs.relay.Relay.renew.Goals as goal
 
 pub returns-in-Kept-clause-goes : goal.returns-in-Kept-clause-goes
@@ -198,3 +199,18 @@ returns-else-has_transaction-clause-puts c = λ whole waits.
     (λ s. waits_place waiting waiting (get c.args.self.now.applications c.args.key) (get c.args.self.now.applications c.args.key) whole (going_of c.args.key c.args.self.now) _ (body_of c.args.key c.change.new.self) waits refl (λ number. refl)
     (spared_place waiting _ (body_of c.args.key c.change.new.self) s))
     (c.change.ensures.body whole waits)
+
+pub returns-in-Kept-clause-anew : goal.returns-in-Kept-clause-anew
+returns-in-Kept-clause-anew c = λ reached.
+    let old = c.args.self.now in
+    let key = c.args.key in
+    let is = subst (λ (r : Renewed). IsRenewed r key old.pool c.renew.new.self) c.in-Kept.is c.in_ok-hold.ensures.is in
+    let later = subst (IsLentLater old.pool.service.given) c.in-Kept.is (c.in_ok-hold.ensures.later reached) in
+    relent_anew key old c.restart.new.self c.start_kept.new.self c.renew.new.self c.in-Kept.hold _ _ (Application key) reached c.in_ok-hold.ensures.turns later is c.restart.ensures.pool c.restart.ensures.others c.start_kept.result
+    (ok_more c.start_kept.result _ _ (λ g. g (Application key)) c.start_kept.ensures.goes) c.start_kept.ensures.answers
+
+pub returns-then-has_transaction-clause-anew : goal.returns-then-has_transaction-clause-anew
+returns-then-has_transaction-clause-anew c = λ reached. anew_kept c.expel.result c.args.self.now c.expel.new.self c.expel.ensures.answers
+
+pub returns-else-has_transaction-clause-anew : goal.returns-else-has_transaction-clause-anew
+returns-else-has_transaction-clause-anew c = λ reached. anew_kept c.change.result c.args.self.now c.change.new.self c.change.ensures.answers

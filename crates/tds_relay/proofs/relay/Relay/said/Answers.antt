@@ -22,6 +22,7 @@ use Rattle.tds_relay.proofs.steps.Heeding.{cancels_served}
 use Rattle.tds_relay.proofs.steps.Tied.{relay_tied}
 use Rattle.tds_relay.proofs.lending.Dialled.{given_served}
 use Rattle.tds_relay.proofs.lending.Fresh.{features_kept, new_served, size_kept}
+use Rattle.tds_relay.proofs.lending.Earlier.{anew_on}
 use Rattle.tds_relay.proofs.relay.Relay.said.Goals as goal
 
 pub returns-clause-steps : goal.returns-clause-steps
@@ -102,3 +103,10 @@ pub returns-clause-fresh : goal.returns-clause-fresh
 returns-clause-fresh c =
     new_served c.serve_line.result c.args.self.now.size c.take_all.new.self.size c.args.self.now.features c.take_all.new.self.features c.args.self.now.links.items c.take_all.new.self.links.items c.serve_line.new.self.links.items (size_kept _ _ c.in_ok-take_all.ensures.closes.told) (features_kept _ _ c.in_ok-take_all.ensures.closes.told)
     c.in_ok-take_all.ensures.read c.serve_line.ensures.fresh
+
+pub returns-clause-anew : goal.returns-clause-anew
+returns-clause-anew c = λ reached.
+    let by = Application c.args.key in
+    let led = reached_on by _ _ c.in_ok-take_all.ensures.goes reached in
+    anew_on c.serve_line.result by by c.args.self.now c.take_all.new.self c.serve_line.new.self reached led c.in_ok-take_all.ensures.goes (ok_more c.serve_line.result _ _ (λ g. g by) c.serve_line.ensures.goes)
+    (c.in_ok-take_all.ensures.anew reached) (c.serve_line.ensures.anew led)

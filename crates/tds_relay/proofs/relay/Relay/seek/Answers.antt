@@ -13,6 +13,7 @@ use Rattle.tds_relay.proofs.spared.Elsewhere.{aside_own, aside_refl, aside_waits
 use Rattle.tds_relay.specs.Reads.{waits_on}
 use Rattle.tds_relay.proofs.steps.Still.{put_same}
 use Rattle.tds_relay.proofs.spared.Rightly.{held_right_on, waits_right_on}
+use Rattle.tds_relay.proofs.spared.Begun.{answers_refl, answers_then}
 use Rattle.tds_relay.proofs.relay.Relay.seek.Goals as goal
 
 pub returns-in-None-clause-goes : goal.returns-in-None-clause-goes
@@ -65,3 +66,6 @@ returns-in-Some-clause-right c = held_right_on c.start_kept.result c.args.key c.
 
 pub returns-in-None-clause-right : goal.returns-in-None-clause-right
 returns-in-None-clause-right c = waits_right_on c.wait.result c.args.key c.args.self.now c.wait.new.self c.wait.ensures.holds (sym c.hold_of.ensures ∙ c.in-None.is)
+
+pub returns-in-None-clause-answers : goal.returns-in-None-clause-answers
+returns-in-None-clause-answers c = answers_then c.wait.result _ _ _ (answers_refl c.args.self.now.links.items) (ok_if c.wait.result _ c.wait.ensures.links)

@@ -17,6 +17,7 @@ use Rattle.tds_relay.specs.Core.{EndList, end_at}
 use Rattle.tds_relay.specs.Sparing.{IsKept}
 use Rattle.tds_relay.proofs.spared.Turned.{kept_asks}
 use Rattle.tds_relay.specs.declared.pool.Pool as pools
+use Rattle.tds_relay.proofs.spared.Begun.{answers_on}
 use Rattle.tds_relay.proofs.relay.Relay.send_stop.Goals as goal
 
 pub returns-else-fits-clause-read : goal.returns-else-fits-clause-read
@@ -76,3 +77,6 @@ returns-then-fits-clause-right c = λ right.
 
 pub returns-else-fits-clause-right : goal.returns-else-fits-clause-right
 returns-else-fits-clause-right c = λ right. deaf_right_on c.fail.result c.args.key c.fail.new.self c.fail.ensures.over
+
+pub returns-else-fits-clause-answers : goal.returns-else-fits-clause-answers
+returns-else-fits-clause-answers c = answers_on c.fail.result _ _ _ c.in_ok-fits.ensures.answers c.fail.ensures.answers

@@ -1,4 +1,4 @@
-use Rattle.std.proofs.Common.{◌≡◌, ℕ, suc, length, ap, arith, refl, ◌∙◌, inl, inr, rules, subst}
+use Rattle.std.proofs.Common.{◌≡◌, ◌≤◌, ℕ, suc, length, ap, arith, refl, sym, ◌∙◌, inl, inr, rules, subst}
 use Rattle.std.proofs.Math.Nat.{zero-add}
 use Rattle.tds_relay.proofs.spared.Apart.{lends_nobody, lends_none, lends_on, served_shorter, unserved_on, unserved_refl}
 use Rattle.tds_relay.proofs.spared.Ordered.{ordered_both, ordered_refl}
@@ -13,7 +13,7 @@ use Rattle.tds_relay.specs.Closings.{IsWaiting, Itself, register_in}
 use Rattle.tds_relay.specs.Waiting.{IsLentInVain}
 use Rattle.tds_relay.proofs.spared.Turned.{lent_in_vain}
 use Rattle.tds_relay.specs.Fronts.{core_in}
-use Rattle.tds_relay.specs.Ties.{pool_in, Serving}
+use Rattle.tds_relay.specs.Ties.{IsReached, pool_in, Serving}
 use Rattle.tds_relay.proofs.spared.Lines.{served_waited}
 use Rattle.tds_relay.proofs.spared.Closings.{closes_both, closes_more, closes_refl}
 use Rattle.tds_relay.proofs.spared.Lasting.{last_both, last_more, last_start}
@@ -21,9 +21,13 @@ use Rattle.tds_relay.proofs.spared.Few.{few_lent, most_kept, none_refl}
 use Rattle.tds_relay.proofs.seats.Pools.{unserved}
 use Rattle.tds_relay.proofs.seats.Relays.{lent_if}
 use Rattle.tds_relay.proofs.spared.Opening.{grows_both, grows_refl, lent_opens, on_last, opens_new_both, opens_none, opens_same, turn_last}
-use Rattle.tds_relay.specs.Pool.{Serves}
+use Rattle.tds_relay.specs.Pool.{Pool, Serves, find_number}
 use Rattle.tds_relay.proofs.spared.Filling.{lends_more, lends_nothing, lends_refl}
 use Rattle.tds_relay.proofs.spared.Away.{away_lent, away_pool, away_refl}
+use Rattle.tds_relay.proofs.lending.Earlier.{anew_refl, served_anew, turn_was}
+use Rattle.tds_relay.proofs.lending.Leases.{on_given}
+use Rattle.tds_relay.proofs.held.Numbers.{apart_at}
+use Rattle.tds_relay.proofs.spared.Held.{sound_at}
 use Rattle.tds_relay.proofs.relay.Relay.serve_line.Goals as goal
 
 pub line-init : goal.line-init
@@ -54,6 +58,7 @@ line-init c =
       given = given_refl old (stays_refl old.links.items);
       still = still_refl _ old.links.items;
       fresh = dials_refl old.size old.features old.links.items;
+      anew = λ r. anew_refl old;
     }
 
 pub line-preserved : goal.line-preserved
@@ -107,6 +112,10 @@ line-preserved c = record {
       (served_waited (core_in c.args.self.now) (core_in c.line.self) _ c.in-Some.served c.line.invariant.unserved c.in_ok-served.ensures.ok.1 c.in-Some.is c.in-Some.served.hold.key refl)
       (λ its. c.in_ok-lend-in-Some.ensures.own (reached_serves _ _ _ _ c.in_ok-served.ensures.ok.0 (reached_on_does _ _ c.line.invariant.goes r)) its) (c.line.invariant.fills r);
   many = grows_both c.args.self.now c.line.self c.lend.new.self c.line.invariant.many c.in_ok-lend-in-Some.ensures.many;
+  anew = λ r.
+      let mid = reached_on_does _ _ c.line.invariant.goes r in
+      served_anew c.args.self.now c.line.self c.lend.new.self c.serve.new.self c.in-Some.served _ _ r c.line.invariant.goes mid (reached_serves _ _ _ _ c.in_ok-served.ensures.ok.0 mid) c.in_ok-served.ensures.ok.0
+      (subst (Serving (pool_in c.line.self.pool)) c.in-Some.is c.in_ok-served.ensures.ok.1) c.in_ok-lend-in-Some.ensures.goes c.in_ok-lend-in-Some.ensures.elsewhere (c.line.invariant.anew r);
   aside = λ r.
       away_lent c.in-Some.served.hold.key c.args.self.now _ c.lend.new.self
       (served_waited (core_in c.args.self.now) (core_in c.line.self) _ c.in-Some.served c.line.invariant.unserved c.in_ok-served.ensures.ok.1 c.in-Some.is c.in-Some.served.hold.key refl)
@@ -159,6 +168,16 @@ returns-then-is_full-clause-lends c = c.line.invariant.lends
 
 pub returns-in-None-clause-fills : goal.returns-in-None-clause-fills
 returns-in-None-clause-fills c = λ r. lends_nothing c.args.self.now c.line.self c.serve.new.self _ c.in_ok-served.ensures.ok.0 c.in_ok-served.ensures.ok.1 c.in-None.is (c.line.invariant.fills r)
+
+pub returns-in-None-clause-anew : goal.returns-in-None-clause-anew
+returns-in-None-clause-anew c = λ r n h found le.
+    let start = pool_in c.args.self.now.pool in
+    let mid = pool_in c.line.self.pool in
+    let reached : IsReached mid = reached_on_does _ _ c.line.invariant.goes r in
+    let rises : start.service.given ≤ mid.service.given = on_given start mid r c.line.invariant.goes in
+    let was : h.lease ≤ start.service.given = le in
+    let less : h.lease ≤ mid.service.given = omega (arith, rises, was) in
+    c.line.invariant.anew r n h (turn_was mid n h (apart_at mid reached) (sound_at mid reached).tidy less Serves (ap (λ (x : Pool). find_number n x.holds) (sym c.in_ok-served.ensures.ok.0.pool_is) ∙ found)) le
 
 pub returns-in-None-clause-aside : goal.returns-in-None-clause-aside
 returns-in-None-clause-aside c = λ r. away_pool c.args.self.now c.line.self _ (reached_on_does _ _ c.line.invariant.goes r) (c.line.invariant.aside r) c.in_ok-served.ensures.holds refl refl

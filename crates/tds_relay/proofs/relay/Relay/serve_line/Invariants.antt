@@ -2,7 +2,7 @@ use Rattle.std.proofs.Common.{◌≡◌, ◌+◌, length}
 use Rattle.tds_relay.specs.Few.{Few, IsSeated}
 use Rattle.tds_relay.specs.Apart.{LendsInTurn}
 use Rattle.tds_relay.specs.Fronts.{MovedOn, ends_in, core_in}
-use Rattle.tds_relay.specs.Lent.{LastBut, LendsInLine, KeepsGiven, ShutGiven, StaysDialled}
+use Rattle.tds_relay.specs.Lent.{AnewIfLent, LastBut, LendsInLine, KeepsGiven, ShutGiven, StaysDialled}
 use Rattle.tds_relay.specs.Ordering.{GrowsByOrders, OpensNew, StayOrdered}
 use Rattle.tds_relay.specs.Queues.{queues_in}
 use Rattle.tds_relay.specs.Reads.{Opens}
@@ -40,4 +40,5 @@ invariant-line l = record {
   given : KeepsGiven l.fn.self l.self;
   still : ShutGiven l.fn.self l.self;
   fresh : StaysDialled l.fn.self.size l.fn.self.features l.fn.self.links.items l.self.links.items;
+  anew : IsReached (pool_in l.fn.self.pool) → AnewIfLent l.fn.self l.self;
 }

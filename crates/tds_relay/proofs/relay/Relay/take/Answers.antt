@@ -37,6 +37,7 @@ use Rattle.tds_relay.specs.Asking.{IsTakenBack}
 use Rattle.tds_relay.specs.Sparing.{IsKept}
 use Rattle.tds_relay.proofs.spared.Starting.{unkept_over}
 use Rattle.tds_relay.specs.declared.relay.Relay as code
+use Rattle.tds_relay.proofs.lending.Earlier.{anew_refl}
 use Rattle.tds_relay.proofs.relay.Relay.take.Goals as goal
 
 pub returns-in-Err-clause-tells : goal.returns-in-Err-clause-tells
@@ -306,3 +307,15 @@ returns-clause-right c = λ right.
     let same = asks_kept slab c.args.key a b c.in-Some.ensures.value c.feed.ensures.body c.args.key (going_of c.args.key r) in
     c.in_ok-obey.ensures.right
     (right_by c.args.key r fed_in refl (λ taken. subst IsTakenBack (sym now) (c.feed.ensures.withdrawn ∙ subst IsTakenBack was taken)) (λ kept. subst IsKept same kept) (λ n some. some) right)
+
+pub returns-in_default-clause-anew : goal.returns-in_default-clause-anew
+returns-in_default-clause-anew c = λ reached. anew_refl c.args.self.now
+
+pub returns-then-application-clause-anew : goal.returns-then-application-clause-anew
+returns-then-application-clause-anew c = λ reached. anew_refl c.args.self.now
+
+pub returns-in-Err-clause-anew : goal.returns-in-Err-clause-anew
+returns-in-Err-clause-anew c = λ reached number hold found le. c.in_ok-expel_for-in-Err.ensures.answers.keeps number
+
+pub returns-clause-anew : goal.returns-clause-anew
+returns-clause-anew c = λ reached. c.in_ok-obey.ensures.anew reached

@@ -1,4 +1,5 @@
 use Rattle.std.proofs.Common.{◌∙◌, length, refl, rules, sym}
+use Rattle.tds_relay.specs.Ties.{Application}
 use Rattle.tds_relay.specs.Fronts.{machine_in}
 use Rattle.tds_relay.proofs.steps.Staying.{stays_both, stays_refl}
 use Rattle.tds_relay.proofs.steps.Told.{tells_begin, tells_left}
@@ -15,6 +16,7 @@ use Rattle.tds_relay.proofs.spared.Speaking.{reached_by}
 use Rattle.tds_relay.proofs.spared.Elsewhere.{aside_both, aside_refl}
 use Rattle.tds_relay.proofs.steps.Heeding.{cancels_begin, cancels_left}
 use Rattle.tds_relay.proofs.steps.Tied.{relay_tied}
+use Rattle.tds_relay.proofs.lending.Earlier.{anew_both, anew_refl}
 use Rattle.tds_relay.proofs.relay.Relay.take_all.Goals as goal
 
 pub taking-init : goal.taking-init
@@ -32,6 +34,7 @@ taking-init c = record {
   seated = λ s. s;
   others = λ reached. others_refl c.args.key c.args.self.now;
   aside = λ reached. aside_refl c.args.key c.args.self.now;
+  anew = λ reached. anew_refl c.args.self.now;
   opening = refl;
   right = λ h. h;
 }
@@ -61,6 +64,10 @@ taking-preserved c = record {
   seated = λ s. c.in_ok-count.ensures.seated (c.taking.invariant.seated s);
   others = λ reached. others_both c.args.key c.args.self.now c.taking.self c.take.new.self (c.taking.invariant.others reached) (c.in_ok-count.ensures.others (reached_by c.args.key c.args.self.now.pool c.taking.self.pool c.taking.invariant.goes reached));
   aside = λ reached. aside_both c.args.key c.args.self.now c.taking.self c.take.new.self (c.taking.invariant.aside reached) (c.in_ok-count.ensures.aside (reached_by c.args.key c.args.self.now.pool c.taking.self.pool c.taking.invariant.goes reached));
+  anew = λ reached.
+      let by = Application c.args.key in
+      let led = reached_by c.args.key c.args.self.now.pool c.taking.self.pool c.taking.invariant.goes reached in
+      anew_both by by c.args.self.now c.taking.self c.take.new.self reached led c.taking.invariant.goes c.in_ok-count.ensures.goes (c.taking.invariant.anew reached) (c.in_ok-count.ensures.anew led);
   opening = c.take.ensures.opening ∙ c.taking.invariant.opening;
   right = λ h. c.in_ok-count.ensures.right (c.taking.invariant.right h);
 }

@@ -12,7 +12,7 @@ use Rattle.tds_relay.specs.Ties.{Application, LedTo, IsReached, pool_in}
 use Rattle.tds_relay.specs.TokenParsers.{AllStand}
 use Rattle.tds_relay.specs.Closings.{ClosesOnly, register_in}
 use Rattle.tds_relay.specs.Few.{IsSeated}
-use Rattle.tds_relay.specs.Lent.{OthersKeepAt}
+use Rattle.tds_relay.specs.Lent.{AnewIfLent, OthersKeepAt}
 use Rattle.tds_relay.specs.Ordering.{opens_in}
 use Rattle.tds_relay.proofs.relay.Relay.take_all.Given as goal
 
@@ -33,4 +33,5 @@ invariant-taking l = record {
   others : IsReached (pool_in l.fn.self.pool) → OthersRest l.fn.key l.fn.self l.self;
   right : IsRightlyKept l.fn.key l.fn.self → IsRightlyKept l.fn.key l.self;
   aside : IsReached (pool_in l.fn.self.pool) → OthersKeepAt l.fn.key l.fn.self l.self;
+  anew : IsReached (pool_in l.fn.self.pool) → AnewIfLent l.fn.self l.self;
 }

@@ -25,6 +25,7 @@ use Rattle.tds_relay.proofs.spared.Elsewhere.{aside_both, aside_on, aside_same}
 use Rattle.tds_relay.specs.Bodies.{body_of, going_of, standing_in}
 use Rattle.tds_relay.proofs.steps.Halting.{cancelled_shut, taken_back}
 use Rattle.tds_relay.proofs.steps.Tied.{closed_asks}
+use Rattle.tds_relay.proofs.spared.Begun.{answers_from}
 use Rattle.tds_relay.proofs.relay.Relay.take_back.Goals as goal
 
 pub returns-in-Some-clause-moves : goal.returns-in-Some-clause-moves
@@ -189,3 +190,9 @@ returns-in-Some-clause-cancels c =
 pub returns-in-None-clause-cancels : goal.returns-in-None-clause-cancels
 returns-in-None-clause-cancels c =
     ok_more c.expel.result _ _ (λ d. cancelled_shut (body_of c.args.key c.args.self.now) (standing_in c.args.key c.expel.new.self) (shut c.expel.new.self.applications c.args.key (going_of c.args.key c.expel.new.self) d)) c.expel.ensures.over
+
+pub returns-in-Some-clause-answers : goal.returns-in-Some-clause-answers
+returns-in-Some-clause-answers c = answers_from c.send_stop.result _ _ _ (c.withdraw.ensures.links ∙ c.stop.ensures.links ∙ c.forget_request.ensures.links) c.send_stop.ensures.answers
+
+pub returns-in-None-clause-answers : goal.returns-in-None-clause-answers
+returns-in-None-clause-answers c = answers_from c.expel.result _ _ _ (c.stop.ensures.links ∙ c.forget_request.ensures.links) c.expel.ensures.answers
