@@ -9,6 +9,7 @@ pub mod Rereading
 pub mod SetAnew
 pub mod Streaming
 pub mod Taking
+pub mod Telling
 pub mod Turns
 pub mod Walking
 pub mod Wires

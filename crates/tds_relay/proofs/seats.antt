@@ -1,4 +1,5 @@
 pub mod Counting
+pub mod Within
 pub mod Pools
 pub mod Leased
 pub mod Linked

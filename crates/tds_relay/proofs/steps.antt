@@ -1,3 +1,4 @@
+pub mod Answering
 pub mod Asked
 pub mod Beginning
 pub mod Bodied
@@ -26,6 +27,7 @@ pub mod Resets
 pub mod Seen
 pub mod Sent
 pub mod Slots
+pub mod States
 pub mod Staying
 pub mod Stepping
 pub mod Still

@@ -6,9 +6,6 @@ use Rattle.tds_front.specs.declared.stage.Stage.{Stage}
 use Rattle.tds_front.specs.declared.stage.Stage.TheVariants.{Quiet}
 use Rattle.tds_service.specs.Anew.{begins_anew}
 use Rattle.tds_service.specs.Service.{Seat, seat_numbered}
-use Rattle.tds_relay.specs.declared.application.Asking.{Asking}
-use Rattle.tds_relay.specs.declared.application.Asking.TheVariants as asking
-use Rattle.tds_relay.specs.declared.application.TheConstants.{MOST_HELD}
 use Rattle.tds_relay.specs.declared.pool.Hold.{Hold}
 use Rattle.tds_relay.specs.Pool as pool
 use Rattle.tds_relay.specs.Pool.{Action, Pool}
@@ -35,11 +32,3 @@ WhereAsked pool.Stops P = Unit {0}
 -- An application asks nothing: its request has its answer, or was taken back, or none has begun.
 abbrev pub AsksNothing : Stage → Type 0
 AsksNothing stage = stage ≡ Quiet
-
--- ---- What is kept of a request
-
--- the most bytes, by where it is: of one that doesn't wait nothing
-abbrev pub most_held_by : Asking → ℕ
-most_held_by asking.Nothing = 0
-most_held_by (asking.Waits kind whole) = MOST_HELD
-most_held_by asking.Goes = 0

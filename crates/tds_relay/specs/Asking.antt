@@ -8,8 +8,8 @@ use Rattle.tds_front.specs.Bytes.{fed}
 use Rattle.tds_service.specs.Line as line
 use Rattle.tds_service.specs.Service.{Seat, Service, find_by, has_lease}
 use Rattle.tds_relay.specs.declared.application.Application.{Application}
-use Rattle.tds_relay.specs.declared.application.Asking.{Asking}
-use Rattle.tds_relay.specs.declared.application.Asking.TheVariants as asking
+use Rattle.tds_relay.specs.declared.state.Asking.{Asking}
+use Rattle.tds_relay.specs.declared.state.Asking.TheVariants as asking
 use Rattle.tds_relay.specs.declared.pool.Hold.{Hold}
 use Rattle.tds_relay.specs.declared.link.Link.{Link}
 use Rattle.tds_relay.specs.Pool.{Pool, find_key}
@@ -17,6 +17,7 @@ use Rattle.tds_relay.specs.Core.{End, Core, IfOpen, IsBegun, Open, Over, end_at,
 use Rattle.tds_relay.specs.Machine.{Machine, Step, Makes, Takes, after}
 use Rattle.tds_relay.specs.Reads.{open_at}
 use Rattle.tds_relay.specs.Taking.{IsDeaf, Tells}
+use Rattle.tds_relay.specs.Places.{own_asking}
 
 -- ---- On its connection
 
@@ -71,15 +72,16 @@ said_of bytes None = said.Nothing
 said_of bytes (Some (Open front withdrawn asks)) = said_of_piece (fed front bytes).brings
 said_of bytes (Some (Over why)) = said.Nothing
 
--- where by it a request begins or goes on, or ends
-abbrev pub IfAsks : (Bool → Type 0) → Said → Type 0
-IfAsks P said.Nothing = Unit {0}
-IfAsks P (said.Begin kind reset) = P false
-IfAsks P (said.Body count) = P false
-IfAsks P (said.End count) = P true
-IfAsks P (said.Forget gone) = Unit {0}
-IfAsks P said.Acknowledge = Unit {0}
-IfAsks P said.HandOn = Unit {0}
+-- Where by it a request begins, goes on or ends, that is underway; where one is taken back, its
+-- application stands in the line no more.
+abbrev pub IsObeyed : List Link → ℕ → Said → Core → Type 0
+IsObeyed links key said.Nothing h = Unit {0}
+IsObeyed links key (said.Begin kind reset) h = IsUnderway false links key h
+IsObeyed links key (said.Body count) h = IsUnderway false links key h
+IsObeyed links key (said.End count) h = IsUnderway true links key h
+IsObeyed links key (said.Forget gone) h = is_in key h.pool.line ≡ false
+IsObeyed links key said.Acknowledge h = is_in key h.pool.line ≡ false
+IsObeyed links key said.HandOn h = Unit {0}
 
 -- at once, or by the moves before anything else comes
 abbrev pub Soon : (Core → Type 0) → Machine → List Step → Type 0
@@ -87,17 +89,19 @@ Soon P h [] = P h.core
 Soon P h (Makes move ∷ steps) = P h.core ⊎ Soon P (after h (Makes move)) steps
 Soon P h (step ∷ steps) = P h.core
 
--- Behind each piece that steps take of an application's request this holds, before the next one is taken.
-abbrev pub AreObeyed : (Bool → Core → Type 0) → ℕ → Machine → List Step → Type 0
+-- Behind each piece that steps take of an application this holds, by what is said of it, before the
+-- next one is taken.
+abbrev pub AreObeyed : (Said → Core → Type 0) → ℕ → Machine → List Step → Type 0
 AreObeyed P key h [] = Unit {0}
 AreObeyed P key h (Takes other bytes ∷ steps) =
-    IfAsks (λ whole. Soon (P whole) (after h (Takes other bytes)) steps) (said_of bytes (end_at h.core.ends key)) × AreObeyed P key (after h (Takes other bytes)) steps
+    Soon (P (said_of bytes (end_at h.core.ends key))) (after h (Takes other bytes)) steps
+    × AreObeyed P key (after h (Takes other bytes)) steps
 AreObeyed P key h (step ∷ steps) = AreObeyed P key (after h step) steps
 
--- An application's bytes are taken, up to these, and behind each piece its request is underway.
+-- An application's bytes are taken, up to these, and each piece is obeyed.
 pub record AsksByBytes (key : ℕ) (old : Machine) (bytes left : List ℕ) (links : List Link) (new : Machine) : Type 0 where
   pub tells : Tells key old bytes left new
-  pub obeyed : AreObeyed (λ whole. IsUnderway whole links key) key old tells.steps
+  pub obeyed : AreObeyed (IsObeyed links key) key old tells.steps
 
 -- Whatever was taken before, these bytes are taken behind it, up to these.
 abbrev pub AsksOn : ℕ → List ℕ → List ℕ → List Link → List Link → Machine → Machine → Type 0
@@ -113,4 +117,4 @@ waits_in asking.Goes = None
 
 abbrev pub waits_of : Option Application → Option Bool
 waits_of None = None
-waits_of (Some a) = waits_in a.asking
+waits_of (Some a) = waits_in (own_asking a)

@@ -1,6 +1,6 @@
 -- Where the body of an application's request is: kept while that waits, or put by the client of the
 -- connection that its application holds.
-use Rattle.std.specs.Prelude.{◌≡◌, ◌⊎◌, ◌-◌, ℕ, Bool, true, false, List, [], ◌∷◌, ◌++◌, drop, length, take, Option, Some, None, Ok, option_map, if◌then◌else◌}
+use Rattle.std.specs.Prelude.{◌≡◌, ◌⊎◌, ◌≤◌, ◌-◌, ℕ, Bool, true, false, List, [], ◌∷◌, ◌++◌, drop, length, take, Option, Some, None, Ok, option_map, if◌then◌else◌}
 use Rattle.slab.specs.Slab.{Slab, get}
 use Rattle.tds_packet.specs.declared.kind.Kind.{Kind}
 use Rattle.tds_packet.specs.declared.status.Reset.{Reset}
@@ -16,8 +16,8 @@ use Rattle.tds_service.specs.declared.service.Service as services
 use Rattle.tds_service.specs.Table.{TurnsInto, client_of}
 use Rattle.tds_service.specs.Ties.{cancel_out}
 use Rattle.tds_relay.specs.declared.application.Application.{Application}
-use Rattle.tds_relay.specs.declared.application.Asking.{Asking}
-use Rattle.tds_relay.specs.declared.application.Asking.TheVariants as asking
+use Rattle.tds_relay.specs.declared.state.Asking.{Asking}
+use Rattle.tds_relay.specs.declared.state.Asking.TheVariants as asking
 use Rattle.tds_relay.specs.declared.pool.Pool as pools
 use Rattle.tds_relay.specs.declared.pool.Hold.{Hold}
 use Rattle.tds_relay.specs.declared.link.Link.{Link}
@@ -27,8 +27,9 @@ use Rattle.tds_relay.specs.Pool.{find_key}
 use Rattle.tds_relay.specs.Fronts.{MovedOn, ends_in}
 use Rattle.tds_relay.specs.Core.{End, Open, Over, end_at, holder, is_in}
 use Rattle.tds_relay.specs.Machine.{Machine, Step, Takes, after}
-use Rattle.tds_relay.specs.Reads.{FillsAt, StaysAt, open_waits, waits_on}
+use Rattle.tds_relay.specs.Reads.{FillsAt, StaysAt, waits_on}
 use Rattle.tds_relay.specs.Taking.{IsDeaf, Tells, count_by}
+use Rattle.tds_relay.specs.Places.{is_closed, own_asking, own_held}
 
 pub data Body : Type 0 where
   -- its application is to be closed, or isn't there
@@ -63,7 +64,7 @@ body_by asking.Goes held goes = goes
 -- by what an application asks: where that goes on, it is this
 abbrev pub body_in : Option Application → Body → Body
 body_in None goes = Closed
-body_in (Some a) goes = if a.is_over then Closed else body_by a.asking a.held.items goes
+body_in (Some a) goes = if is_closed a then Closed else body_by (own_asking a) (own_held a) goes
 
 -- what goes on where it holds a connection
 abbrev pub going_of : ℕ → code.Relay → Body
@@ -212,10 +213,6 @@ BodyAndWaits = Body × (ℕ → Option (List ℕ))
 abbrev pub standing_in : ℕ → code.Relay → BodyAndWaits
 standing_in key r = (body_of key r, λ (number : ℕ). waits_on number r.links.items)
 
--- where those that are open are looked at alone
-abbrev pub standing_open : ℕ → code.Relay → BodyAndWaits
-standing_open key r = (body_of key r, λ (number : ℕ). open_waits number r.links.items)
-
 -- Nothing of it goes on: there is none, or it is kept.
 abbrev pub IsStill : Body → Type 0
 IsStill Nowhere = Unit {0}
@@ -326,8 +323,8 @@ HeedsOn key left rest from to old new = (first : Machine) (bytes : List ℕ) (at
 
 -- All of them are, and then those who wait are served, among whom its application may be: unless it
 -- waits, its request stays by that, or it is to be closed, and on the connection that it holds,
--- where that is open, nothing is put.
-pub record HeedsServed (key : ℕ) (old : Machine) (bytes : List ℕ) (from to : BodyAndWaits)
+-- open or not, nothing is put. What waited on those up to this number waits still.
+pub record HeedsServed (key last : ℕ) (old : Machine) (bytes : List ℕ) (from to : BodyAndWaits)
     (new : Machine) : Type 0 where
   pub at : Machine
   pub mid : BodyAndWaits
@@ -335,7 +332,7 @@ pub record HeedsServed (key : ℕ) (old : Machine) (bytes : List ℕ) (from to :
   pub moves : MovedOn at.core new.core
   pub kept : new.queues ≡ at.queues
   pub starts : Starts mid.0 to.0
-  pub fills : (number : ℕ) → FillsAt (mid.1 number) (to.1 number)
+  pub fills : (number : ℕ) → number ≤ last → FillsAt (mid.1 number) (to.1 number)
   pub rests : is_in key at.core.pool.line ≡ false → Spared mid.0 to.0 ⊎ (mid.0 ≡ Astray)
   pub keeps : is_in key at.core.pool.line ≡ false → (number : ℕ)
       → holder at.core.pool number ≡ Some key → StaysAt (mid.1 number) (to.1 number)
@@ -346,7 +343,7 @@ pub record HeedsServed (key : ℕ) (old : Machine) (bytes : List ℕ) (from to :
 -- what is kept of an application's request
 abbrev pub held_of : Option Application → List ℕ
 held_of None = []
-held_of (Some a) = a.held.items
+held_of (Some a) = own_held a
 
 -- The client of the connection that an application holds puts these bytes, with which its message
 -- is finished or not.
@@ -389,8 +386,7 @@ pub record IsHalting (number key : ℕ) (old new : code.Relay) : Type 0 where
   pub number_is : number ≡ hold.number
   pub stops : ClientStops key old.pool new.pool [] new.outbox.items
 
--- These bytes are put where an application's request goes on, whether it asks one or not; or it is
--- to be closed.
+-- These bytes are put where its request goes on, whether it asks one or not; or it is to be closed.
 abbrev pub PutsOn : Bool → List ℕ → ℕ → code.Relay → code.Relay → Type 0
 PutsOn whole more key old new =
     (body_of key new ≡ Closed)

@@ -1,10 +1,11 @@
 -- How many connections there may be, which a call of its own changes: none is opened where as many are there; and which there are: the
 -- service has those that the relay has, by their numbers, and no other.
-use Rattle.std.specs.Prelude.{◌≡◌, ◌≤◌, ◌<◌, ◌⊎◌, ℕ, suc, Bool, true, false, List, [], None, is_some, length, ◌≢◌, Option, Some, ◌&&◌}
+use Rattle.std.specs.Prelude.{◌≡◌, ◌≤◌, ◌<◌, ◌+◌, ◌⊎◌, ℕ, suc, Bool, true, false, List, [], None, is_some, length, ◌≢◌, Option, Some, ◌&&◌}
 use Rattle.tds_service.specs.Service.{find_by, is_lendable, Seat, Service, has_lease, seat_numbered}
 use Rattle.tds_relay.specs.declared.link.Link.{Link}
 use Rattle.tds_relay.specs.declared.relay.Relay as code
 use Rattle.tds_relay.specs.Pool.{Pool}
+use Rattle.tds_relay.specs.Promises.{one_if}
 use Rattle.tds_relay.specs.Reads.{waits_on}
 use Rattle.tds_relay.specs.Ties.{IsServed, pool_in, IsReached}
 use Rattle.tds_relay.specs.declared.pool.coming.Heard.{Heard}
@@ -51,10 +52,12 @@ FewBy false old new = length new ≡ suc (length old)
 abbrev pub has_seat : ℕ → Service → Bool
 has_seat number s = is_some (seat_numbered number s.seats)
 
--- The pool was reached by events, and its service has a connection of each number of these, and of no other number.
+-- The pool was reached by events, and its service has a connection of each number of these, and of no other number; there are no more of these
+-- than it has, so that each is there once.
 pub record AreSeated (d : Pool) (ls : List Link) : Type 0 where
   pub reached : IsReached d
   pub each : (number : ℕ) → has_seat number d.service ≡ is_there number ls
+  pub few : length ls ≤ length d.service.seats
 
 abbrev pub IsSeated : code.Relay → Type 0
 IsSeated r = AreSeated (pool_in r.pool) r.links.items
@@ -65,14 +68,16 @@ IsSeated r = AreSeated (pool_in r.pool) r.links.items
 pub record AreSeatedOff (number : ℕ) (d : Pool) (ls : List Link) : Type 0 where
   pub reached : IsReached d
   pub others : (other : ℕ) → other ≢ number → has_seat other d.service ≡ is_there other ls
+  pub few : length ls + one_if (has_seat number d.service) ≤ length d.service.seats + one_if (is_there number ls)
 
 abbrev pub IsSeatedOff : ℕ → code.Relay → Type 0
 IsSeatedOff number r = AreSeatedOff number (pool_in r.pool) r.links.items
 
--- which the service has or not.
+-- which the service has or not; where it has it, none of these is of its number.
 pub record AreSeatedBut (number : ℕ) (has : Bool) (d : Pool) (ls : List Link) : Type 0 where
   pub off : AreSeatedOff number d ls
   pub here : has_seat number d.service ≡ has
+  pub new : has ≡ true → is_there number ls ≡ false
 
 abbrev pub IsSeatedBut : ℕ → Bool → code.Relay → Type 0
 IsSeatedBut number has r = AreSeatedBut number has (pool_in r.pool) r.links.items
@@ -92,6 +97,10 @@ is_left whats.Closed = false
 abbrev pub IsSeatedBehind : Option Heard → ℕ → code.Relay → Type 0
 IsSeatedBehind None number r = IsSeated r
 IsSeatedBehind (Some heard) number r = IsSeatedIf (is_left heard.what) number false r
+
+-- One fewer is there, where this one was.
+abbrev pub TakenOut : ℕ → List Link → List Link → Type 0
+TakenOut number old new = length new + one_if (is_there number old) ≤ length old
 
 -- ---- In a service
 

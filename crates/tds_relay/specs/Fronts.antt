@@ -22,12 +22,12 @@ use Rattle.tds_relay.specs.Machine.{Machine}
 use Rattle.tds_relay.specs.Queues.{Queues, acknowledgement, give, queues_in}
 use Rattle.tds_relay.specs.Taking.{IsDeaf}
 use Rattle.tds_relay.specs.Ties.{Application as ByApplication, Cause, Turns, pool_in}
-use Rattle.tds_relay.specs.declared.application.Asking.{Asking}
-use Rattle.tds_relay.specs.declared.application.Asking.TheVariants as asking
-use Rattle.tds_relay.specs.declared.relay.Relay as code
+use Rattle.tds_relay.specs.declared.state.Asking.{Asking}
+use Rattle.tds_relay.specs.declared.state.Asking.TheVariants as asking
+use Rattle.tds_relay.specs.Places.{is_closed, own_asking, own_fault, own_reset, took_back}
 
 abbrev pub own_end : Application → End
-own_end a = if a.is_over then Over a.fault else Open a.front a.is_withdrawn a.reset
+own_end a = if is_closed a then Over (own_fault a) else Open a.front (took_back a) (own_reset a)
 
 abbrev pub ends_in : Slab Application → EndList
 ends_in s = map (option_map own_end) s.slots
@@ -152,7 +152,7 @@ is_asking_nothing asking.Goes = false
 
 abbrev pub has_no_request : Option Application → Bool
 has_no_request None = false
-has_no_request (Some a) = is_asking_nothing a.asking
+has_no_request (Some a) = is_asking_nothing (own_asking a)
 
 abbrev pub may_park_in : code.Relay → ℕ → Bool
 may_park_in r key = may_park (core_in r) key && has_no_request (get r.applications key)

@@ -16,7 +16,7 @@ use Rattle.tds_relay.specs.declared.order.Order.{Order}
 use Rattle.tds_relay.specs.declared.order.Order.TheVariants as orders
 use Rattle.tds_relay.specs.Pool as pool
 use Rattle.tds_relay.specs.Pool.{Sharing, Wrong, find_key, hearing, owes_reset, Pool, Event, turn}
-use Rattle.tds_relay.specs.Places.{HasNoTransaction, open_on}
+use Rattle.tds_relay.specs.Places.{HasNoTransaction, open_on, is_closed}
 use Rattle.tds_relay.specs.Giving.{Visit, machine_at_visit, moves_in}
 use Rattle.tds_relay.specs.Core.{Core, Move, Does, LetsGo, Loses, Replaces, Comes, Quits, AsksFor, IfOpen, IsHere, Open, dones_of_part, end_at, moved, new_core}
 use Rattle.tds_relay.specs.Behind.{events_along}
@@ -106,7 +106,7 @@ KeepsOwnOrRests {sharing} {key} v move =
 
 abbrev pub closing : Option Application → List Order → List Order
 closing None all = all
-closing (Some a) all = if a.is_over then all else all ++ orders.Close a.tag ∷ []
+closing (Some a) all = if is_closed a then all else all ++ orders.Close a.tag ∷ []
 
 -- ---- (4) What goes out on a connection, over calls
 

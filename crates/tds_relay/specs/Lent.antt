@@ -134,11 +134,6 @@ ShutGiven old new =
 abbrev pub ShutElse : ℕ → List Link → List Link → Type 0
 ShutElse number old new = ShutStay (λ other. other ≢ number) old new
 
-abbrev pub ShutGivenElse : ℕ → code.Relay → code.Relay → Type 0
-ShutGivenElse number old new =
-    ShutStay (λ other. (other ≢ number) × (other ≤ old.pool.service.last)) old.links.items
-    new.links.items
-
 -- ---- Those that are new behind it
 
 -- It is as it was made, yet to be opened, and has no name; or none is there.

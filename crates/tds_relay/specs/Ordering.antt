@@ -1,5 +1,5 @@
 -- What is to be done stays so, in order, until it is taken: no call takes any of it away but `orders`.
-use Rattle.std.specs.Prelude.{◌≡◌, ◌<◌, ◌≤◌, ◌+◌, ℕ, length, Bool, true, false, List, [], ◌∷◌, ◌++◌}
+use Rattle.std.specs.Prelude.{◌≡◌, ◌<◌, ◌≤◌, ◌+◌, ℕ, suc, length, Bool, true, false, List, [], ◌∷◌, ◌++◌, Option, Some, None}
 use Rattle.tds_relay.specs.declared.order.Order.{Order}
 use Rattle.tds_relay.specs.declared.order.Order.TheVariants as orders
 use Rattle.tds_relay.specs.declared.relay.Relay as code
@@ -42,6 +42,12 @@ pub record OpensAbove (number : ℕ) (old new : code.Relay) : Type 0 where
 -- As many more as were ordered opened since have come to be there, at most.
 abbrev pub GrowsByOrders : code.Relay → code.Relay → Type 0
 GrowsByOrders old new = length new.links.items + length (opens_in old.orders.items) ≤ length old.links.items + length (opens_in new.orders.items)
+
+-- So it is where none is brought; where one is, that has come besides.
+abbrev pub GrowsBrought : Option ℕ → code.Relay → code.Relay → Type 0
+GrowsBrought None old new = GrowsByOrders old new
+GrowsBrought (Some number) old new =
+    length new.links.items + length (opens_in old.orders.items) ≤ suc (length old.links.items + length (opens_in new.orders.items))
 
 -- One that somebody had before isn't opened, a new one is.
 abbrev pub opens_if : Bool → ℕ → List ℕ

@@ -5,8 +5,8 @@ use Rattle.tds_front.specs.declared.stage.Stage.{Stage}
 use Rattle.tds_front.specs.declared.stage.Stage.TheVariants as stages
 use Rattle.tds_service.specs.Service as calls
 use Rattle.tds_relay.specs.declared.application.Application.{Application}
-use Rattle.tds_relay.specs.declared.application.Asking.{Asking}
-use Rattle.tds_relay.specs.declared.application.Asking.TheVariants as asking
+use Rattle.tds_relay.specs.declared.state.Asking.{Asking}
+use Rattle.tds_relay.specs.declared.state.Asking.TheVariants as asking
 use Rattle.tds_relay.specs.declared.link.Link.{Link}
 use Rattle.tds_relay.specs.declared.relay.places.Counts.{Counts}
 use Rattle.tds_relay.specs.declared.relay.places.Place.{Place}
@@ -15,9 +15,9 @@ use Rattle.tds_relay.specs.declared.relay.places.PlaceOn.{PlaceOn}
 use Rattle.tds_relay.specs.declared.relay.places.PlaceOn.TheVariants as on
 use Rattle.tds_relay.specs.Pool.{Pool, owes_reset}
 use Rattle.tds_relay.specs.News.{holds_back}
-use Rattle.tds_relay.specs.Places.{held_by, holder_of_number, seated}
+use Rattle.tds_relay.specs.Places.{held_by, holder_of_number, seated, is_closed, own_asking, own_held, own_reset}
 use Rattle.tds_relay.specs.Reads.{link_at, waits_on}
-use Rattle.tds_relay.specs.declared.application.TheConstants.{MOST_HELD}
+use Rattle.tds_relay.specs.declared.state.TheConstants.{MOST_HELD}
 use Rattle.tds_relay.specs.declared.outgoing.TheConstants.{ACKNOWLEDGED, ATTENTION, BESIDE, PIECE}
 use Rattle.tds_relay.specs.declared.relay.Relay as code
 use Rattle.tds_relay.specs.Ties.{pool_in}
@@ -72,8 +72,8 @@ held_place number stops asking.Goes = if stops then Cancelling number else Asks 
 
 -- by what it holds; who is to be closed has no other place
 abbrev pub place_with : Option ℕ → Application → Place
-place_with None a = if a.is_over then Over else unheld_place a.asking
-place_with (Some number) a = if a.is_over then Over else held_place number (has_cancelled a.front.stage) a.asking
+place_with None a = if is_closed a then Over else unheld_place (own_asking a)
+place_with (Some number) a = if is_closed a then Over else held_place number (has_cancelled a.front.stage) (own_asking a)
 
 abbrev pub told_place : Option ℕ → Option Application → Option Place
 told_place held a = option_map (place_with held) a
@@ -111,7 +111,7 @@ room_behind (Some waits) = (PIECE - length waits) - BESIDE
 
 -- Or it is kept while its request waits: so much more may be, and that fits on a connection where nothing waits.
 abbrev pub room_to_keep : Application → ℕ
-room_to_keep a = min ((a.out.size + PIECE) - BESIDE) MOST_HELD - vec_len a.held
+room_to_keep a = min ((a.out.size + PIECE) - BESIDE) MOST_HELD - length (own_held a)
 
 -- Or they are attentions: the acknowledgements of so many bytes of them fit behind what waits for it (MS-TDS 2.2.1.7, 2.2.7.6).
 abbrev pub room_to_answer : Application → ℕ
@@ -132,7 +132,7 @@ own_room a = if has_server a.front.stage then min (room_to_keep a) PIECE else mi
 -- and as fits where it goes on. Nothing of one that is to be closed, or isn't there.
 abbrev pub room_with : Option (List ℕ) → Option Application → ℕ
 room_with waits None = 0
-room_with waits (Some a) = if a.is_over then 0 else min (room_behind waits) (own_room a)
+room_with waits (Some a) = if is_closed a then 0 else min (room_behind waits) (own_room a)
 
 -- what waits to be sent on the connection that it holds
 abbrev pub waits_where : ℕ → code.Relay → Option (List ℕ)
@@ -151,7 +151,7 @@ least_for (Some key) r = (PIECE - waiting_for (get r.applications key)) - BESIDE
 -- So much may be: nothing of one that isn't there, and a piece where nobody holds it. Its packets may be set anew, or the news of a reset may go
 -- before them, where who holds it asked for one, bytes of a token were held back, or the server owes that news.
 abbrev pub may_grow : Application → Link → Bool → Bool
-may_grow a l owes = is_some a.reset || (holds_back l.answer.known || owes)
+may_grow a l owes = is_some (own_reset a) || (holds_back l.answer.known || owes)
 
 abbrev pub room_beside : Bool → ℕ → ℕ
 room_beside grows room = if grows then room - BESIDE else room

@@ -1,7 +1,7 @@
 -- That no request is forgotten which waits, and whom a call closes: who is turned away as its connection opens, or is lent one that doesn't take
 -- what it asks; and by a piece of what it says, or a packet.
 use Rattle.tds_front.specs.declared.front.Said.TheVariants as said
-use Rattle.tds_relay.specs.declared.application.Asking.TheVariants as asking
+use Rattle.tds_relay.specs.declared.state.Asking.TheVariants as asking
 use Rattle.tds_relay.specs.declared.pool.coming.What.TheVariants as whats
 use Rattle.tds_relay.specs.declared.relay.Relay as code
 use Rattle.tds_relay.specs.declared.pool.Pool as pools
@@ -31,6 +31,7 @@ use Rattle.tds_relay.specs.Coming.{StreamsAnew}
 use Rattle.tds_relay.specs.Few.{IsSeated}
 use Rattle.tds_relay.specs.Lent.{FirstKeeps, IsWithHolder, MayBeLent, OthersKeepAt, ShutElse}
 use Rattle.tds_relay.specs.Machine.{IsLedTo, Steps}
+use Rattle.tds_relay.specs.Places.{is_closed, own_asking, own_held}
 
 -- It goes on, or waits for its connection to open, or for the acknowledgement of what its application took back.
 abbrev pub GoesOrWaits : ℕ → code.Relay → Type 0
@@ -62,8 +63,8 @@ pub record RestsElse (heard : Option Heard) (number : ℕ) (old new : List Link)
 abbrev pub KeepsInLine : Bool → List ℕ → Option Application → Body → Type 0
 KeepsInLine whole more None new = Unit {0}
 KeepsInLine whole more (Some a) new =
-    a.is_over ≡ false → length more ≤ room_to_keep a → (kind : MessageKind) (was : Bool) → a.asking ≡ asking.Waits kind was → IfOpen IsBegun (Some (own_end a))
-    → new ≡ Kept kind (a.held.items ++ more) whole
+    is_closed a ≡ false → length more ≤ room_to_keep a → (kind : MessageKind) (was : Bool) → own_asking a ≡ asking.Waits kind was → IfOpen IsBegun (Some (own_end a))
+    → new ≡ Kept kind (own_held a ++ more) whole
 
 -- So are those of one that goes on or ends, by what is said of them.
 abbrev pub KeepsSaid : Said → List ℕ → Option Application → Body → Type 0

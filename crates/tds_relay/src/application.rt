@@ -1,33 +1,18 @@
 //! An application, as the relay knows it.
-ghost use Rattle.std.specs.Prelude.{◌≡◌, ◌≢◌, ◌⊎◌, ◌≤◌, ◌<◌, ◌-◌, ◌++◌, [], IfOk, None, Some, false, is_some, length, true, vec_len};
+ghost use Rattle.std.specs.Prelude.{◌≡◌, ◌≢◌, ◌⊎◌, ◌≤◌, ◌<◌, ◌-◌, ◌++◌, [], IfOk, None, Some, false, is_some, length, true, Bool};
 ghost use Rattle.tds_front.specs.Bytes.{TakesSome};
-ghost use Rattle.tds_relay.specs.Anew.{most_held_by};
-ghost use Rattle.tds_relay.specs.declared.application.TheConstants.{MOST_HELD};
+ghost use Rattle.tds_relay.specs.declared.state.TheConstants.{MOST_HELD};
 ghost use Rattle.tds_relay.specs.declared.outgoing.TheConstants.{PIECE};
 
 use crate::NoMemory;
 use crate::outgoing::{BESIDE, Outgoing, PIECE};
 use crate::pool::What;
+use crate::state::{Asking, MOST_HELD, Request, State};
 use std::alloc::Global;
-use std::mem;
 use tds_client::MessageKind;
 use tds_front::laws::takes_some;
 use tds_front::{Fed, Front, FrontFault, Said, Stage};
 use tds_packet::{PacketSize, Reset};
-
-/// The most bytes of a request that are kept while it waits for a connection.
-pub(crate) const MOST_HELD: usize = 16_384;
-
-/// Where its request is.
-#[derive(Clone, Copy, Debug)]
-pub(crate) enum Asking {
-    /// There is none, or all of it has gone on.
-    Nothing,
-    /// It waits for a connection, or until that is open or idle. Whether all of it has come.
-    Waits { kind: MessageKind, whole: bool },
-    /// It goes on to its connection as it comes.
-    Goes,
-}
 
 #[derive(Drop)]
 pub(crate) struct Application {
@@ -36,21 +21,9 @@ pub(crate) struct Application {
     pub(crate) tag: usize,
     pub(crate) front: Front,
     pub(crate) out: Outgoing,
-    pub(crate) asking: Asking,
-    /// The reset that its request asks for itself, while it hasn't been told of it: no packet of the answer
-    /// has been handed on.
-    pub(crate) reset: Option<Reset>,
-    /// What has come of the body of a request that waits.
-    held: Vec<u8>,
-    /// Whether what it took back isn't acknowledged: nothing is handed on to it, and its next request waits.
-    pub(crate) is_withdrawn: bool,
-    /// Whether nothing more of it is taken.
-    pub(crate) is_over: bool,
-    /// What it did that the protocol doesn't allow, where that is why.
-    pub(crate) fault: Option<FrontFault>,
+    pub(crate) state: State,
     /// How many requests it has begun.
     pub(crate) begun: u64,
-    ghost bounded: { vec_len held ≤ most_held_by asking },
     ghost lively: { TakesSome front },
 }
 
@@ -66,11 +39,11 @@ impl Application {
     ghost use Rattle.tds_relay.specs.Machine.{hears_of_reset, is_said};
     ghost use Rattle.tds_relay.specs.Queues.{tagged, empty_queue, queue_of};
     ghost use Rattle.tds_relay.specs.Fronts.{has_no_request};
-    ghost use Rattle.tds_relay.specs.Places.{begun_more};
+    ghost use Rattle.tds_relay.specs.Places.{begun_more, is_closed, own_asking, own_held, own_reset, took_back};
     ghost use Rattle.tds_relay.specs.Reasons.{HasGoneOut, IsUnbegun};
     ghost use Rattle.tds_relay.specs.Told.{own_room, room_to_keep};
-    ghost use Rattle.tds_relay.specs.Coming.{IsDoneWith};
-    ghost use Rattle.tds_relay.specs.declared.pool.coming.What.TheVariants.{Acknowledged, Goes};
+    ghost use Rattle.tds_relay.specs.Coming.{IsDoneAs};
+    ghost use Rattle.tds_relay.specs.declared.pool.coming.What.TheVariants.{Acknowledged, Finished, Goes};
 
     pub(crate) fn new(alloc: Global, tag: usize, size: PacketSize) -> Application
         ensures size { result.out.size ≡ size }
@@ -85,12 +58,7 @@ impl Application {
             tag,
             front: Front::new(size),
             out: Outgoing::new(alloc, size),
-            asking: Asking::Nothing,
-            reset: None,
-            held: Vec::new(alloc),
-            is_withdrawn: false,
-            is_over: false,
-            fault: None,
+            state: State::new(),
             begun: 0,
         }
     }
@@ -103,12 +71,13 @@ impl Application {
         ensures brings { result ≡ (fed self.old.front piece.now).brings }
         ensures within { IfOk result (λ taken. taken.count ≤ length piece.now) }
         ensures some { IfOk result (λ taken. 1 ≤ length piece.now → 1 ≤ taken.count) }
-        ensures asks { IfOk result (λ taken. self.new.reset ≡ asks_by taken.said self.old.reset) }
+        ensures asks { IfOk result (λ taken. is_closed self.old ≡ false → own_reset self.new
+            ≡ asks_by taken.said (own_reset self.old)) }
         ensures counts { IfOk result (λ taken. self.new.begun
             ≡ begun_more taken.said self.old.begun) }
         ensures room { room_to_keep self.new ≡ room_to_keep self.old }
-        ensures withdrawn { self.new.is_withdrawn ≡ self.old.is_withdrawn }
-        ensures over { self.new.is_over ≡ self.old.is_over }
+        ensures withdrawn { took_back self.new ≡ took_back self.old }
+        ensures over { is_closed self.new ≡ is_closed self.old }
         ensures body { (goes : Body) → body_in (Some self.new) goes ≡ body_in (Some self.old) goes }
     {
         takes_some();
@@ -116,9 +85,9 @@ impl Application {
         match fed.said {
             Said::Begin { reset, .. } => {
                 self.begun = self.begun.saturating_add(1);
-                self.reset = reset;
+                self.state.set_reset(reset);
             }
-            Said::Forget { .. } | Said::Acknowledge => self.reset = None,
+            Said::Forget { .. } | Said::Acknowledge => self.state.set_reset(None),
             _ => {}
         }
         Ok(fed)
@@ -127,18 +96,18 @@ impl Application {
     /// Whether it waits with a request that asks for a reset but for the transaction.
     pub(crate) fn asks_to_keep(&self) -> bool
         ensures asks { result ≡ true → AsksFor KeepTransaction (Some (own_end self.now)) }
-        ensures not { result ≡ false → (waits_in self.now.asking ≡ None)
-            ⊎ (self.now.reset ≢ Some KeepTransaction) }
+        ensures not { result ≡ false → (waits_in (own_asking self.now) ≡ None)
+            ⊎ (own_reset self.now ≢ Some KeepTransaction) }
     {
-        matches!(self.asking, Asking::Waits { .. })
-            && matches!(self.reset, Some(Reset::KeepTransaction))
+        matches!(self.state.asking(), Asking::Waits { .. })
+            && matches!(self.state.reset(), Some(Reset::KeepTransaction))
     }
 
     /// What is kept of its request.
     pub(crate) fn held(&self) -> &[u8]
-        ensures { result.now ≡ self.now.held.items }
+        ensures { result.now ≡ own_held self.now }
     {
-        self.held.as_slice()
+        self.state.held()
     }
 
     /// How many bytes of it may be read, so that what is kept of them may be, and what they are answered
@@ -156,32 +125,33 @@ impl Application {
 
     /// How many more bytes of its request may be kept: no more than fit on a connection with nothing to send.
     fn room_to_keep(&self) -> usize
-        ensures most { result ≤ MOST_HELD - vec_len self.now.held }
+        ensures most { result ≤ MOST_HELD - length (own_held self.now) }
         ensures is { result ≡ room_to_keep self.now }
     {
         let most = self.out.most().saturating_sub(BESIDE).min(MOST_HELD);
-        most.saturating_sub(self.held.len())
+        most.saturating_sub(self.state.held().len())
     }
 
     /// Keeps these bytes of its request, which waits and is whole with them or not. False: too many.
-    pub(crate) fn keep(
-        &mut self,
-        kind: MessageKind,
-        bytes: &[u8],
-        whole: bool,
-    ) -> Result<bool, NoMemory>
+    pub(crate) fn keep(&mut self, bytes: &[u8], whole: bool) -> Result<bool, NoMemory>
         ensures queue { queue_of self.new ≡ queue_of self.old }
         ensures end { own_end self.new ≡ own_end self.old }
-        ensures body { IfOk result (λ is. is ≡ true → (self.new.is_over ≡ self.old.is_over)
-            × (self.new.held.items ≡ self.old.held.items ++ bytes.now)) }
-        ensures asks { IfOk result (λ is. is ≡ true → self.new.asking ≡ Asking.Waits kind whole) }
+        ensures over { is_closed self.new ≡ is_closed self.old }
+        ensures keeps { IfOk result (λ is. is ≡ true → (kind : MessageKind) (was : Bool)
+            → own_asking self.old ≡ Asking.Waits kind was
+            → (own_asking self.new ≡ Asking.Waits kind whole)
+            × (own_held self.new ≡ own_held self.old ++ bytes.now)) }
         ensures long { IfOk result (λ is. is ≡ false → room_to_keep self.old < length bytes.now) }
     {
         if bytes.len() > self.room_to_keep() {
             return Ok(false);
         }
-        self.held.extend_from_slice(bytes)?;
-        self.asking = Asking::Waits { kind, whole };
+        if let State::Open(open) = &mut self.state {
+            if let Request::Waits(waiting) = &mut open.request {
+                waiting.held.extend_from_slice(bytes)?;
+                waiting.whole = whole;
+            }
+        }
         Ok(true)
     }
 
@@ -191,8 +161,8 @@ impl Application {
         ensures end { own_end self.new ≡ end_hears (own_end self.old) }
         ensures body { (goes : Body) → body_in (Some self.new) goes ≡ body_in (Some self.old) goes }
     {
-        if !self.is_withdrawn {
-            self.reset = None;
+        if !self.state.is_withdrawn() {
+            self.state.set_reset(None);
         }
     }
 
@@ -200,10 +170,10 @@ impl Application {
     fn end_request(&mut self)
         ensures queue { queue_of self.new ≡ queue_of self.old }
         ensures end { own_end self.new ≡ own_end self.old }
-        ensures body { IsDoneWith (Some self.old) (Some self.new) }
+        ensures body { IsDoneAs Finished self.old self.new }
     {
-        if matches!(self.asking, Asking::Goes) {
-            self.asking = Asking::Nothing;
+        if matches!(self.state.asking(), Asking::Goes) {
+            self.state.set_request(Request::Nothing);
         }
     }
 
@@ -211,7 +181,7 @@ impl Application {
     pub(crate) fn answered(&mut self)
         ensures queue { queue_of self.new ≡ queue_of self.old }
         ensures end { own_end self.new ≡ move_stage rules.answered (end_hears (own_end self.old)) }
-        ensures body { IsDoneWith (Some self.old) (Some self.new) }
+        ensures body { IsDoneAs Finished self.old self.new }
     {
         self.end_request();
         self.goes_on();
@@ -222,15 +192,15 @@ impl Application {
     pub(crate) fn acknowledged(&mut self) -> bool
         ensures queue { queue_of self.new ≡ queue_of self.old }
         ensures end { own_end self.new ≡ end_acknowledged (end_hears (own_end self.old)) }
-        ensures body { IsDoneWith (Some self.old) (Some self.new) }
+        ensures body { IsDoneAs Acknowledged self.old self.new }
         ensures silent { result ≡ true → is_said Acknowledged (Some (own_end self.old)) ≡ false }
-        ensures resumes { result ≡ true → self.old.is_withdrawn ≡ true }
+        ensures resumes { result ≡ true → took_back self.old ≡ true }
     {
-        if self.is_withdrawn {
-            self.is_withdrawn = false;
+        if self.state.is_withdrawn() {
+            self.state.set_withdrawn(false);
             return true;
         }
-        self.reset = None;
+        self.state.set_reset(None);
         self.front.acknowledged();
         self.end_request();
         false
@@ -251,7 +221,7 @@ impl Application {
         ensures end { own_end self.new ≡ withdraws (own_end self.old) }
         ensures body { (goes : Body) → body_in (Some self.new) goes ≡ body_in (Some self.old) goes }
     {
-        self.is_withdrawn = true;
+        self.state.set_withdrawn(true);
     }
 
     /// Its connection is let go, and with it what it took back there.
@@ -260,7 +230,7 @@ impl Application {
         ensures end { own_end self.new ≡ lets_go (own_end self.old) }
         ensures body { (goes : Body) → body_in (Some self.new) goes ≡ body_in (Some self.old) goes }
     {
-        self.is_withdrawn = false;
+        self.state.set_withdrawn(false);
     }
 
     /// Nothing more of it is taken, for this. Whoever is to be closed already is so for what was first.
@@ -269,9 +239,8 @@ impl Application {
         ensures end { own_end self.new ≡ closes_for why (own_end self.old) }
         ensures tag { self.new.tag ≡ self.old.tag }
     {
-        if !self.is_over {
-            self.is_over = true;
-            self.fault = why;
+        if !self.state.is_over() {
+            self.state = State::Over(why);
         }
     }
 
@@ -279,14 +248,14 @@ impl Application {
     pub(crate) fn fault(&self) -> Option<FrontFault>
         ensures { result ≡ why_of (Some (own_end self.now)) }
     {
-        if self.is_over { self.fault } else { None }
+        self.state.fault()
     }
 
     /// Whether its request waits.
     pub(crate) fn waits(&self) -> bool
-        ensures { result ≡ is_some (waits_in self.now.asking) }
+        ensures { result ≡ is_some (waits_in (own_asking self.now)) }
     {
-        matches!(self.asking, Asking::Waits { .. })
+        matches!(self.state.asking(), Asking::Waits { .. })
     }
 
     /// Whether bytes of its request may be put, and its end: one has begun, or is whole.
@@ -307,15 +276,15 @@ impl Application {
     pub(crate) fn asks_full(&self) -> bool
         ensures { result ≡ true → AsksFor Full (Some (own_end self.now)) }
     {
-        matches!(self.reset, Some(Reset::Full))
+        matches!(self.state.reset(), Some(Reset::Full))
     }
 
     /// Whether it asks for one that keeps its transaction.
     pub(crate) fn asks_kept(&self) -> bool
         ensures asks { result ≡ true → AsksFor KeepTransaction (Some (own_end self.now)) }
-        ensures not { result ≡ false → self.now.reset ≢ Some KeepTransaction }
+        ensures not { result ≡ false → own_reset self.now ≢ Some KeepTransaction }
     {
-        matches!(self.reset, Some(Reset::KeepTransaction))
+        matches!(self.state.reset(), Some(Reset::KeepTransaction))
     }
 
     /// Whether nothing of its request has gone on, and no attention.
@@ -336,11 +305,11 @@ impl Application {
     pub(crate) fn is_at_end(&self) -> bool
         ensures { result ≡ is_at_end (Some (own_end self.now)) }
     {
-        if self.is_over {
+        if self.state.is_over() {
             return false;
         }
         match self.front.stage() {
-            Stage::Quiet => !self.is_withdrawn && self.reset.is_none(),
+            Stage::Quiet => !self.state.is_withdrawn() && self.state.reset().is_none(),
             Stage::Receiving { .. } => false,
             Stage::Underway { .. } => false,
             Stage::Stopping => false,
@@ -352,7 +321,7 @@ impl Application {
     pub(crate) fn has_no_request(&self) -> bool
         ensures { result ≡ has_no_request (Some self.now) }
     {
-        matches!(self.asking, Asking::Nothing)
+        matches!(self.state.asking(), Asking::Nothing)
     }
 
     /// Whether it is told of a reset with a packet of which this came, if it hears that: its request asks for
@@ -362,7 +331,7 @@ impl Application {
             → result ≡ hears_of_reset what (Some (own_end self.now)) }
     {
         match what {
-            What::Goes | What::Finished | What::Closed => self.reset.is_some(),
+            What::Goes | What::Finished | What::Closed => self.state.reset().is_some(),
             What::Acknowledged => false,
         }
     }
@@ -371,29 +340,27 @@ impl Application {
     pub(crate) fn hears(&self) -> bool
         ensures { result ≡ is_said Goes (Some (own_end self.now)) }
     {
-        !self.is_over && !self.is_withdrawn
+        !self.state.is_over() && !self.state.is_withdrawn()
     }
 
-    /// Nothing is kept of its request any more, which is there now. What was.
-    pub(crate) fn take_held(&mut self, asking: Asking) -> Vec<u8>
-        ensures held { result.items ≡ self.old.held.items }
+    /// Its request goes on from now on. What was kept of it.
+    pub(crate) fn take_held(&mut self) -> Vec<u8>
+        ensures held { result.items ≡ own_held self.old }
         ensures queue { queue_of self.new ≡ queue_of self.old }
         ensures end { own_end self.new ≡ own_end self.old }
-        ensures asking { self.new.asking ≡ asking }
-        ensures body { (self.new.is_over ≡ self.old.is_over) × (self.new.held.items ≡ []) }
+        ensures asking { is_closed self.new ≡ false → own_asking self.new ≡ Asking.Goes }
+        ensures body { (is_closed self.new ≡ is_closed self.old) × (own_held self.new ≡ []) }
     {
-        self.asking = asking;
-        mem::replace(&mut self.held, Vec::new(self.alloc))
+        self.state.take_held(self.alloc)
     }
 
-    /// The same, where that is wanted no more.
+    /// Nothing is kept of its request any more, which is this now.
     pub(crate) fn forget(&mut self, asking: Asking)
         ensures queue { queue_of self.new ≡ queue_of self.old }
         ensures end { own_end self.new ≡ own_end self.old }
-        ensures asking { self.new.asking ≡ asking }
-        ensures body { (self.new.is_over ≡ self.old.is_over) × (self.new.held.items ≡ []) }
+        ensures asking { is_closed self.new ≡ false → own_asking self.new ≡ asking }
+        ensures body { (is_closed self.new ≡ is_closed self.old) × (own_held self.new ≡ []) }
     {
-        self.held = Vec::new(self.alloc);
-        self.asking = asking;
+        self.state.set_request(Request::new(self.alloc, asking));
     }
 }

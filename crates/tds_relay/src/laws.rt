@@ -1,10 +1,11 @@
 //! What a pool promises, over any list of events, and a relay behind any calls. Each function does nothing
 //! when it runs: its contract is the law.
 ghost use Rattle.std.specs.Prelude.{◌≡◌, [], ◌∷◌, ◌+◌, ◌<◌, ◌≤◌, ◌++◌, ℕ, List, None, OnOk, Option};
-ghost use Rattle.std.specs.Prelude.{Some, false, vec_len};
+ghost use Rattle.std.specs.Prelude.{Some, false, length, vec_len};
 ghost use Rattle.tds_wire.specs.declared.told.Token.{Token};
 ghost use Rattle.tds_service.specs.Line.{Idle};
 ghost use Rattle.tds_service.specs.Service.{Lease, Seat, seat_numbered, step};
+ghost use Rattle.tds_relay.specs.Places.{own_held};
 ghost use Rattle.tds_relay.specs.Pool.{Pool, Event, Sharing, pool_after, new_pool, turn, whose};
 ghost use Rattle.tds_relay.specs.Promises.{CaresFor, Each, IsAmong, IsHandedTo, LendsClean, LendsFirst};
 ghost use Rattle.tds_relay.specs.Promises.{NoneAstray, SaysOnce, TakesOne, comes_to_wait};
@@ -130,7 +131,7 @@ pub fn lawful_connections()
 /// Whatever comes, and whatever isn't taken, so much is kept at most.
 pub fn bounds()
     /// Of a request that waits for a connection 16,384 bytes are kept at most.
-    ensures kept { (a : Application) → vec_len a.held ≤ 16384 }
+    ensures kept { (a : Application) → length (own_held a) ≤ 16384 }
     /// For an application at most as many bytes wait as a packet has, and 32,768.
     ensures for_application { (a : Application) → waiting_in a.out ≤ a.out.size + 32768 }
     /// On a connection at most as many bytes wait as a packet has, and 32,768.
@@ -179,6 +180,7 @@ pub fn bytes_that_came(relay: &mut Relay, key: usize, said: &[u8]) -> Result<(),
 /// before the next piece is taken, its application stands in the line; or holds a connection that isn't open yet, or
 /// one on which the server hasn't acknowledged yet what it took back; or the request was asked on the connection that
 /// it holds, and is being sent, and where all of it has come its end was sent. Or its application is to be closed.
+/// Behind each piece by which it takes its request back, its application stands in the line no more.
 pub fn request_goes_on(relay: &mut Relay, key: usize, said: &[u8]) -> Result<(), NoMemory>
     ensures { OnOk result (AsksByBytes key (machine_in relay.old) said.now []
         relay.new.links.items (machine_in relay.new)) }

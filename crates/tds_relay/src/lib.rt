@@ -20,6 +20,7 @@ mod reading;
 mod relay;
 pub mod sharing_laws;
 mod sorted;
+mod state;
 
 pub use order::Order;
 pub use pool::{Figures, Heard, Hold, Left, Mode, Pool, Renewed, Served, What};

@@ -167,6 +167,7 @@ pub(crate) fn restart(links: &mut Links, number: u64)
 pub(crate) fn set_tag(links: &mut Links, number: u64, tag: usize)
     ensures named { (other : ℕ)
         → seen_at other links.new.items ≡ named_seen tag number other links.old.items }
+    ensures many { length links.new.items ≡ length links.old.items }
     ensures waits { (other : ℕ)
         → waits_on other links.new.items ≡ waits_on other links.old.items }
     ensures queues { (other : ℕ)
@@ -185,6 +186,7 @@ pub(crate) fn set_tag(links: &mut Links, number: u64, tag: usize)
 #[tactic(auto, using(crate::proofs::steps::Staying::sees_written))]
 pub(crate) fn forget_sent(links: &mut Links, number: u64, count: usize) -> bool
     ensures read { HoldsOnLinks links.old.items links.new.items }
+    ensures many { length links.new.items ≡ length links.old.items }
     ensures answers { KeepsAnswers links.old.items links.new.items }
     ensures others { (other : ℕ) → other ≢ number
         → waits_on other links.new.items ≡ waits_on other links.old.items }

@@ -188,7 +188,7 @@ impl Relay {
         let Some(application) = self.applications.get(key) else {
             return 0;
         };
-        if application.is_over {
+        if application.state.is_over() {
             return 0;
         }
         let room = match self.pool.hold_of(key) {
@@ -231,7 +231,10 @@ impl Relay {
         };
         let room = application.out.piece();
         // Its packets may be set anew, or the news of a reset may go before them.
-        if application.reset.is_some() || link.answer.holds() || self.pool.owes_reset(number) {
+        if application.state.reset().is_some()
+            || link.answer.holds()
+            || self.pool.owes_reset(number)
+        {
             room.saturating_sub(BESIDE)
         } else {
             room
@@ -336,6 +339,7 @@ impl Relay {
         ensures stand { OnOk result (AllStand self.old.pool.service
             self.new.pool.service) }
         ensures body { (other : ℕ) → body_of other self.new ≡ body_of other self.old }
+        ensures asks { AskAsBefore self.old.applications self.new.applications }
         ensures lines { OnOk result (StandsInLine key self.new) }
         ensures spares { OnOk result ((number : ℕ)
             → SparesOthers number (Some key) (core_in self.old) (core_in self.new)) }
@@ -364,7 +368,7 @@ impl Relay {
         let Some(application) = self.applications.get(key) else {
             return false;
         };
-        if application.is_over {
+        if application.state.is_over() {
             return false;
         }
         match self.pool.hold_of(key) {

@@ -8,8 +8,8 @@ use Rattle.tds_client.specs.Session.{ClientSession}
 use Rattle.tds_service.specs.declared.service.Service as services
 use Rattle.tds_service.specs.Table.{client_of}
 use Rattle.tds_relay.specs.declared.application.Application.{Application}
-use Rattle.tds_relay.specs.declared.application.Asking.{Asking}
-use Rattle.tds_relay.specs.declared.application.Asking.TheVariants as asking
+use Rattle.tds_relay.specs.declared.state.Asking.{Asking}
+use Rattle.tds_relay.specs.declared.state.Asking.TheVariants as asking
 use Rattle.tds_relay.specs.declared.pool.Pool as pools
 use Rattle.tds_relay.specs.declared.pool.Hold.{Hold}
 use Rattle.tds_relay.specs.declared.link.Link.{Link}
@@ -22,6 +22,7 @@ use Rattle.tds_relay.specs.Sparing.{AllGo, AllHold, AllRest, HeldConnection, Hol
 use Rattle.tds_relay.specs.Ties.{CausesAction, LedOn, IsReached, Neither, Turns, pool_in}
 use Rattle.tds_relay.proofs.spared.Held.{holder_is, off_others}
 use Rattle.tds_relay.proofs.steps.Reaching.{reached_on, reaches_turn}
+use Rattle.tds_relay.specs.Places.{is_closed, own_asking, own_held}
 
 -- ---- One after the other
 
@@ -137,7 +138,7 @@ either_asks false asking.Goes held = inl refl
 
 either : (o : Option Application) → Either o
 either None = inr (λ goes. refl)
-either (Some a) = either_asks a.is_over a.asking a.held.items
+either (Some a) = either_asks (is_closed a) (own_asking a) (own_held a)
 
 astray_rests : (key : ℕ) (old new : code.Relay) → Either (get old.applications key) → going_of key old ≡ Astray → AsksAt key old new → Rests (body_of key old) (body_of key new)
 astray_rests key old new (inl e) astray asks = inr (ap (body_in (get old.applications key)) astray ∙ e)

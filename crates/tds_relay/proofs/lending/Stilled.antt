@@ -1,20 +1,26 @@
 -- Connections that aren't open, on which nothing is put.
-use Rattle.std.proofs.Common.{◌≡◌, ◌≢◌, ◌⊎◌, ◌∙◌, ◌≤◌, ◌<◌, ◌++◌, ℕ, false, List, [], ◌∷◌, Option, Some, None, inl, inr, refl, sym, ap, subst, arith, option_map}
+use Rattle.std.proofs.Common.{◌≡◌, ◌≢◌, ◌⊎◌, ◌∙◌, ◌≤◌, ◌<◌, ◌++◌, ℕ, false, List, [], ◌∷◌, Option, Some, None, inl, inr, refl, sym, ap, subst, arith, append-nil, option_map}
+use Rattle.std.proofs.lemmas.Bool.{cases_eq}
 use Rattle.std.specs.Prelude.{Result, Ok, Err, OnOk}
 use Rattle.tds_relay.specs.declared.link.Link.{Link}
 use Rattle.tds_relay.specs.declared.pool.Served.{Served}
 use Rattle.tds_relay.specs.declared.pool.coming.Heard.{Heard}
 use Rattle.tds_relay.specs.declared.pool.coming.What.TheVariants as whats
 use Rattle.tds_relay.specs.declared.relay.Relay as code
-use Rattle.tds_relay.specs.Lent.{HearsAny, KeepsGiven, ShutElse, ShutGiven, ShutGivenElse, ShutRest, ShutStay}
+use Rattle.tds_relay.specs.Lent.{Any, HearsAny, KeepsGiven, ShutElse, ShutGiven, ShutRest, ShutStay}
+use Rattle.tds_relay.specs.Handing.{heard_key}
+use Rattle.tds_relay.specs.Machine.{Machine}
+use Rattle.tds_relay.specs.Reasons.{HearsNothing, IsHeardAs, IsIdle}
 use Rattle.tds_relay.specs.Waiting.{RestsElse}
 use Rattle.tds_relay.specs.Pool.{Pool, Serves}
-use Rattle.tds_relay.specs.Reads.{LinksStay, bytes_on, link_at, open_at, seen_at, waits_on}
+use Rattle.tds_relay.specs.Reads.{FillsBy, LinksStay, bytes_on, link_at, open_at, seen_at, waits_on}
 use Rattle.tds_relay.specs.Sending.{NamedWaiting, sending_at, sending_of}
 use Rattle.tds_relay.specs.Ties.{Serving, Turns, pool_in}
 use Rattle.tds_relay.proofs.lending.Dialled.{above, above_too, called_so, shut_on}
 use Rattle.tds_relay.proofs.spared.Filling.{pushed_link, waits_queued}
 use Rattle.tds_relay.proofs.spared.Opening.{served_above}
+use Rattle.tds_relay.proofs.spared.Only.{none_key}
+use Rattle.tds_relay.proofs.steps.Placed.{is_open_at}
 use Rattle.tds_relay.proofs.steps.Staying.{at_refl}
 
 -- ---- Call behind call
@@ -91,18 +97,43 @@ still_heard These ls ms same = still_same These ls ms (λ n these. waiting_of (l
 shut_hears : (number : ℕ) (ls ms : List Link) → HearsAny number ls ms → (n : ℕ) → open_at n ls ≡ None → open_at n ms ≡ None
 shut_hears number ls ms h n none = shut_on (seen_at n ls) (seen_at n ms) ((h n).called n (let le : n ≤ n = omega arith in le)) none
 
-pub still_next : (number : ℕ) (ls ms ns os : List Link) → HearsAny number ls ms → HearsAny number ms ns → ShutElse number ls ms → ShutElse number ms ns → ShutElse number ns os → ShutElse number ls os
-still_next number ls ms ns os a b h k l =
-    let These : ℕ → Type 0 = λ (other : ℕ). other ≢ number in
-    still_by These ls ms os (λ n these none. shut_hears number ls ms a n none) h (still_by These ms ns os (λ n these none. shut_hears number ms ns b n none) k l)
+never_open : (number : ℕ) (left : List ℕ) (o : Option Heard) (a : code.Relay) (new : Machine) → IsHeardAs number left o a new → open_at number a.links.items ≢ None
+never_open number left o a new heard none =
+    let there : open_at number a.links.items ≡ Some heard.link.reader = is_open_at number a.links.items heard.link heard.there heard.is_open in
+    let u : None ≡ Some heard.link.reader = sym none ∙ there in
+    let v : ⊥ = cc in v
 
-pub still_served : {A E : Type 0} (r : Result A E) (number : ℕ) (a b c : code.Relay) → HearsAny number a.links.items b.links.items → ShutElse number a.links.items b.links.items → a.pool.service.last ≤ b.pool.service.last → OnOk r (ShutGiven b c)
-    → OnOk r (ShutGivenElse number a c)
+nothing_more : (out : List ℕ) (x y : Option (List ℕ)) → out ≡ [] → FillsBy out x y → (y ≡ None) ⊎ (y ≡ x)
+nothing_more out x None none f = inl refl
+nothing_more out None (Some new) none f = absurd f
+nothing_more out (Some old) (Some new) none f = inr (ap Some (f ∙ ap (λ (xs : List ℕ). old ++ xs) none ∙ append-nil old))
+
+-- where the connection isn't open, nothing was heard of the packet, and nothing is put there by it
+module _ (number : ℕ) (left : List ℕ) (o : Option Heard) (ls : List Link) (a b c : code.Relay) (new : Machine) (before : HearsAny number ls a.links.items) (by : HearsAny number a.links.items b.links.items) (h : ShutStay Any ls a.links.items) (k : ShutStay Any a.links.items b.links.items) (hears : (HearsNothing o × IsIdle a b) ⊎ IsHeardAs number left o a new) (others : RestsElse o number b.links.items c.links.items) (fills : heard_key o ≡ None → FillsBy b.outbox.items (waits_on number b.links.items) (waits_on number c.links.items)) where
+  rests_itself : (HearsNothing o × IsIdle a b) ⊎ IsHeardAs number left o a new → open_at number a.links.items ≡ None → Waits number b.links.items c.links.items
+  rests_itself (inl none) shut = nothing_more b.outbox.items (waits_on number b.links.items) (waits_on number c.links.items) none.1.1 (fills (none_key o none.0))
+  rests_itself (inr heard) shut = absurd (never_open number left o a new heard shut)
+
+  rests_on : (n : ℕ) → (n ≡ number) ⊎ (n ≢ number) → open_at n a.links.items ≡ None → open_at n b.links.items ≡ None → Waits n b.links.items c.links.items
+  rests_on n (inl same) shut next = subst (λ (m : ℕ). Waits m b.links.items c.links.items) (sym same) (rests_itself hears (subst (λ (m : ℕ). open_at m a.links.items ≡ None) same shut))
+  rests_on n (inr differs) shut next = others.still.stays n differs next
+
+  pub still_next : ShutStay Any ls c.links.items
+  still_next = record {
+    stays = λ n any none.
+        let shut = shut_hears number ls a.links.items before n none in
+        let next = shut_hears number a.links.items b.links.items by n shut in
+        waits_both n ls a.links.items c.links.items (h.stays n any none)
+        (waits_both n a.links.items b.links.items c.links.items (k.stays n any shut) (rests_on n (cases_eq n number) shut next));
+  }
+
+pub still_served : {A E : Type 0} (r : Result A E) (number : ℕ) (a b c : code.Relay) → HearsAny number a.links.items b.links.items → ShutStay Any a.links.items b.links.items → a.pool.service.last ≤ b.pool.service.last → OnOk r (ShutGiven b c)
+    → OnOk r (ShutGiven a c)
 still_served (Ok x) number a b c hears h rises k = record {
-  stays = λ n these none.
-      let low : n ≤ a.pool.service.last = these.1 in
+  stays = λ n le none.
+      let low : n ≤ a.pool.service.last = le in
       let up : n ≤ b.pool.service.last = omega (arith, low, rises) in
-      waits_both n a.links.items b.links.items c.links.items (h.stays n these.0 none) (k.stays n up (shut_hears number a.links.items b.links.items hears n none));
+      waits_both n a.links.items b.links.items c.links.items (h.stays n tt none) (k.stays n up (shut_hears number a.links.items b.links.items hears n none));
 }
 still_served (Err e) number a b c hears h rises k = tt
 

@@ -30,6 +30,7 @@ use Rattle.tds_relay.proofs.seats.Counting.{does_same, unequal}
 pub record Lends (had : Bool) (number : ℕ) (s t : Service) : Type 0 where
   pub here : has_seat number t ≡ true
   pub was : had ≡ true → has_seat number s ≡ true
+  pub fresh : had ≡ false → has_seat number s ≡ false
   pub others : (other : ℕ) → other ≢ number → has_seat other t ≡ has_seat other s
 
 numbered_none : (last : ℕ) (cs : List Seat) → Each (UpTo last) cs → seat_numbered (suc last) cs ≡ None
@@ -49,10 +50,12 @@ module _ (s : Service) (tidy : Tidy s) where
       let c : Seat = record { number = suc s.last; place = Leased (suc s.given); line = new_line } in
       let is : suc s.last ≡ number = cc in
       let new : had ≡ false = cc in
-      let here : seat_numbered (suc s.last) (s.seats ++ c ∷ []) ≡ Some c = added_here c s.seats (numbered_none s.last s.seats tidy.upto) in
+      let none : seat_numbered (suc s.last) s.seats ≡ None = numbered_none s.last s.seats tidy.upto in
+      let here : seat_numbered (suc s.last) (s.seats ++ c ∷ []) ≡ Some c = added_here c s.seats none in
       record {
         here = subst (λ (k : ℕ). has_seat k (calls.opens {T = Token} s true).service ≡ true) is (ap is_some here);
         was = λ old. absurd (let u : true ≡ false = sym old ∙ new in let v : ⊥ = cc in v);
+        fresh = λ f. subst (λ (k : ℕ). has_seat k s ≡ false) is (ap is_some none);
         others = λ other ne. ap is_some (added_other other c s.seats (unequal (suc s.last) other (λ same. ne (sym same ∙ is))));
       }
 
@@ -63,7 +66,13 @@ module _ (s : Service) (tidy : Tidy s) where
       let t = (calls.lends {T = Token} s (Some c)).service in
       let same : (n : ℕ) → has_seat n t ≡ has_seat n s = λ n. does_same s n (suc s.given) is_lendable c (Leased (suc s.given)) (line.Mark Full ∷ []) (calls.Lent (suc s.given) c.number true) in
       let found : has_seat number s ≡ true = subst (λ (k : ℕ). has_seat k s ≡ true) is (ap is_some (is_found is_lendable c s.seats tidy.distinct e)) in
-      record { here = same number ∙ found; was = λ old. found; others = λ other ne. same other }
+      let old : had ≡ true = cc in
+      record {
+        here = same number ∙ found;
+        was = λ o. found;
+        fresh = λ f. absurd (let u : true ≡ false = sym old ∙ f in let v : ⊥ = cc in v);
+        others = λ other ne. same other;
+      }
 
   pub lease_lends : Lent (step s calls.Lease)
   lease_lends = lends_by (find_by is_lendable s.seats) refl

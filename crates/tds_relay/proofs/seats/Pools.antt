@@ -1,5 +1,5 @@
 -- Connections that a pool's service has, behind what is done at the pool, beside those of a relay.
-use Rattle.std.proofs.Common.{◌≡◌, ◌∙◌, ℕ, Bool, true, false, List, [], ◌∷◌, ◌++◌, Option, Some, None, inl, inr, refl, sym, ap, subst}
+use Rattle.std.proofs.Common.{◌≡◌, ◌≢◌, ◌∙◌, ◌≤◌, ℕ, Bool, true, false, List, [], ◌∷◌, ◌++◌, Option, Some, None, inl, inr, refl, sym, ap, subst, length, arith}
 use Rattle.std.proofs.lemmas.Bool.{cases_eq}
 use Rattle.tds_wire.specs.declared.told.Token.{Token}
 use Rattle.tds_service.specs.Service as calls
@@ -10,11 +10,14 @@ use Rattle.tds_relay.specs.declared.link.Link.{Link}
 use Rattle.tds_relay.specs.Pool as pool
 use Rattle.tds_relay.specs.Pool.{Action, Pool, Event, pool_after, find_key, lent_in, new_pool, turn}
 use Rattle.tds_relay.specs.Few.{AreSeated, AreSeatedBut, AreSeatedOff, KeepsSeats, SeatIs, SeatStays, has_seat}
+use Rattle.tds_relay.specs.Told.{is_there}
 use Rattle.tds_relay.specs.Ties.{LedOn, IsReached, IsServed, Neither, Serving, Turns}
 use Rattle.tds_relay.proofs.seats.Counting.{Keeps, all_same, lost_stays, step_same}
 use Rattle.tds_relay.proofs.bytes.Walking.{led_tidy}
 use Rattle.tds_relay.specs.TokenParsers.{IsLed}
 use Rattle.tds_relay.proofs.spared.Aside.{led_at}
+use Rattle.tds_relay.proofs.promises.Seats.{Distinct}
+use Rattle.tds_relay.proofs.seats.Within.{seats_but, seats_same, turned_by, with_one}
 use Rattle.tds_relay.proofs.seats.Leased.{Lends, lease_lends}
 use Rattle.tds_relay.proofs.spared.Held.{sound_at}
 use Rattle.tds_relay.proofs.steps.Reaching.{reached_on}
@@ -37,17 +40,51 @@ gone_on d e g r = reached_on Neither d e (g Neither) r
 
 -- ---- With the relay's
 
+apart_in : (d : Pool) → IsReached d → Distinct d.service.seats
+apart_in d reached = (led_tidy d.service (led_at d reached)).distinct
+
+pub off_of : (number : ℕ) (d : Pool) (ls : List Link) → AreSeated d ls → AreSeatedOff number d ls
+off_of number d ls s = record {
+  reached = s.reached;
+  others = λ n ne. s.each n;
+  few = with_one (length ls) (length d.service.seats) (has_seat number d.service) (is_there number ls) (s.each number) s.few;
+}
+
+-- the service's others stay
+off_turned : (number : ℕ) (d e : Pool) (ls : List Link) → (IsReached d → IsReached e) → ((other : ℕ) → other ≢ number → has_seat other e.service ≡ has_seat other d.service) → AreSeatedOff number d ls
+    → AreSeatedOff number e ls
+off_turned number d e ls led others s = record {
+  reached = led s.reached;
+  others = λ n ne. others n ne ∙ s.others n ne;
+  few =
+      turned_by (length ls) (length d.service.seats) (length e.service.seats) (has_seat number d.service) (has_seat number e.service) (is_there number ls) s.few
+      (seats_but number d.service e.service (apart_in d s.reached) others);
+}
+
+never : {P : Type 0} → false ≡ true → P
+never e = absurd (let u : ⊥ = cc in u)
+
 pub seated_on : (d e : Pool) (ls : List Link) → (IsReached d → IsReached e) → KeepsSeats d.service e.service → AreSeated d ls → AreSeated e ls
-seated_on d e ls led keeps s = record { reached = led s.reached; each = λ n. keeps n ∙ s.each n }
+seated_on d e ls led keeps s = record {
+  reached = led s.reached;
+  each = λ n. keeps n ∙ s.each n;
+  few =
+      let a : ℕ = length ls in
+      let b : ℕ = length d.service.seats in
+      let c : ℕ = length e.service.seats in
+      let had : a ≤ b = s.few in
+      let more : b ≤ c = seats_same d.service e.service (apart_in d s.reached) keeps in
+      let t : a ≤ c = omega (arith, had, more) in t;
+}
 
 pub seated_stays : (number : ℕ) (d e : Pool) (ls : List Link) → (IsReached d → IsReached e) → SeatStays true number d.service e.service → AreSeated d ls → AreSeated e ls
 seated_stays number d e ls led k s = seated_on d e ls led (all_same number d.service e.service k) s
 
 pub seated_out : (number : ℕ) (d e : Pool) (ls : List Link) → (IsReached d → IsReached e) → SeatStays false number d.service e.service → AreSeated d ls → AreSeatedBut number false e ls
-seated_out number d e ls led k s = record { off = record { reached = led s.reached; others = λ n ne. k.others n ne ∙ s.each n }; here = k.here }
+seated_out number d e ls led k s = record { off = off_turned number d e ls led k.others (off_of number d ls s); here = k.here; new = λ e. never e }
 
-pub seated_is : (has : Bool) (number : ℕ) (d e : Pool) (ls : List Link) → (IsReached d → IsReached e) → SeatIs has number d.service e.service → AreSeated d ls → AreSeatedBut number has e ls
-seated_is has number d e ls led k s = record { off = record { reached = led s.reached; others = λ n ne. k.others n ne ∙ s.each n }; here = k.here }
+pub seated_is : (has : Bool) (number : ℕ) (d e : Pool) (ls : List Link) → (IsReached d → IsReached e) → SeatIs has number d.service e.service → is_there number ls ≡ false → AreSeated d ls → AreSeatedBut number has e ls
+seated_is has number d e ls led k new s = record { off = off_turned number d e ls led k.others (off_of number d ls s); here = k.here; new = λ is. new }
 
 -- ---- What an application does with its own
 
@@ -79,13 +116,10 @@ pub lost_at : (number : ℕ) (d e : Pool) (before after : List ℕ) → IsLed d.
 lost_at number d e before after led t =
     subst (λ (x : Pool). SeatStays false number d.service x.service) (sym t.pool_is) (lost_stays d.service (led_tidy d.service led).distinct number)
 
-pub off_of : (number : ℕ) (d : Pool) (ls : List Link) → AreSeated d ls → AreSeatedOff number d ls
-off_of number d ls s = record { reached = s.reached; others = λ n ne. s.each n }
-
 pub lost_seated : (number : ℕ) (d e : Pool) (before after : List ℕ) (ls : List Link) → Turns (pool.Loses number) d e before after → AreSeatedOff number d ls → AreSeatedBut number false e ls
 lost_seated number d e before after ls t s =
     let k : SeatStays false number d.service e.service = lost_at number d e before after (led_at d s.reached) t in
-    record { off = record { reached = turned (pool.Loses number) d e before after t s.reached; others = λ n ne. k.others n ne ∙ s.others n ne }; here = k.here }
+    record { off = off_turned number d e ls (turned (pool.Loses number) d e before after t) k.others s; here = k.here; new = λ is. never is }
 
 -- ---- One is lent
 
@@ -112,10 +146,15 @@ module _ (d e : Pool) (served : Served) (before after : List ℕ) (ls : List Lin
   pub served_again : served.had ≡ true → AreSeated e ls
   served_again was = seated_on d e ls (turned pool.Serves d e before after t) (lends_on served.had served.hold.number d.service e.service served_lends was) s
 
-  pub served_new : AreSeatedBut served.hold.number true e ls
-  served_new =
+  pub served_new : served.had ≡ false → AreSeatedBut served.hold.number true e ls
+  served_new was =
+      let number : ℕ = served.hold.number in
       let k = served_lends in
-      record { off = record { reached = turned pool.Serves d e before after t s.reached; others = λ n ne. k.others n ne ∙ s.each n }; here = k.here }
+      record {
+        off = off_turned number d e ls (turned pool.Serves d e before after t) k.others (off_of number d ls s);
+        here = k.here;
+        new = λ is. sym (s.each number) ∙ k.fresh was;
+      }
 
 -- nobody is
 serves_none : (d : Pool) (line : List ℕ) → ((key : ℕ) (others : List ℕ) → line ≡ key ∷ others → (step {T = Token} d.service calls.Lease).reply ≡ calls.AllInUse) → (pool.serves d line).pool.service ≡ d.service

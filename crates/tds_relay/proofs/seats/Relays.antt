@@ -1,6 +1,6 @@
 -- The connections of a relay and of its service, call behind call.
 use Rattle.std.proofs.lemmas.Bool.{cases_eq}
-use Rattle.std.proofs.Common.{◌≡◌, ◌≢◌, ◌∙◌, inl, inr, ℕ, Bool, true, false, List, [], Option, Some, None, refl, sym, ap, subst}
+use Rattle.std.proofs.Common.{◌≡◌, ◌≢◌, ◌∙◌, ◌≤◌, arith, length, inl, inr, ℕ, Bool, true, false, List, [], Option, Some, None, refl, sym, ap, subst}
 use Rattle.std.specs.Prelude.{Result, Ok, Err, OnOk, IfOk}
 use Rattle.tds_service.specs.declared.service.Service as services
 use Rattle.tds_service.specs.Service.{Service}
@@ -16,7 +16,7 @@ use Rattle.tds_relay.specs.Pool as pool
 use Rattle.tds_relay.specs.Pool.{Pool, Sharing, Way, new_pool}
 use Rattle.tds_relay.specs.Lent.{AllLast}
 use Rattle.tds_relay.specs.Reads.{LinksStay, reader_at, waits_on}
-use Rattle.tds_relay.specs.Few.{AreSeated, AreSeatedBut, AreSeatedOff, BringsSeat, HearsSeat, IsSeated, IsSeatedBehind, IsSeatedBut, IsSeatedIf, IsSeatedOff, KeepsSeats, LeavesSeat, RenewsSeat, SeatIs, SeatStays, has_seat, is_left}
+use Rattle.tds_relay.specs.Few.{AreSeated, AreSeatedBut, AreSeatedOff, BringsSeat, TakenOut, HearsSeat, IsSeated, IsSeatedBehind, IsSeatedBut, IsSeatedIf, IsSeatedOff, KeepsSeats, LeavesSeat, RenewsSeat, SeatIs, SeatStays, has_seat, is_left}
 use Rattle.tds_relay.specs.Told.{is_there}
 use Rattle.tds_relay.specs.Ties.{IsReached, Serving, Turns, pool_in}
 use Rattle.tds_relay.proofs.seats.Pools.{seated_is, seated_on, seated_out, seated_stays, served_again, served_new, turned}
@@ -26,7 +26,7 @@ use Rattle.tds_relay.proofs.seats.Linked.{SameThere, but_as, but_gone, gone_ther
 
 pub new_seated : (sharing : Sharing) (d : Pool) (ls : List Link) → d ≡ new_pool sharing → ls ≡ [] → AreSeated d ls
 new_seated sharing d ls is none =
-    let empty : AreSeated (new_pool sharing) [] = record { reached = (sharing, [], refl); each = λ number. refl } in
+    let empty : AreSeated (new_pool sharing) [] = record { reached = (sharing, [], refl); each = λ number. refl; few = (let t : 0 ≤ 0 = omega arith in t) } in
     subst (λ (x : Pool). AreSeated x ls) (sym is) (subst (AreSeated (new_pool sharing)) (sym none) empty)
 
 -- ---- Where the pool is as it was
@@ -73,14 +73,14 @@ lasting_seated a b same last stays s = kept_there a b same (lasting_there a.link
 
 -- ---- One is closed that the pool has no more
 
-pub closed_seated : (number : ℕ) (d : pools.Pool) (ls : List Link) (new : code.Relay) → new.pool ≡ d → reader_at number new.links.items ≡ None
+pub closed_seated : (number : ℕ) (d : pools.Pool) (ls : List Link) (new : code.Relay) → new.pool ≡ d → TakenOut number ls new.links.items → reader_at number new.links.items ≡ None
     → ((other : ℕ) → other ≢ number → waits_on other new.links.items ≡ waits_on other ls) → AreSeatedBut number false (pool_in d) ls → IsSeated new
-closed_seated number d ls new same gone others s = seated_gone number (pool_in new.pool) ls new.links.items gone others (but_pool number false d new.pool ls same s)
+closed_seated number d ls new same out gone others s = seated_gone number (pool_in new.pool) ls new.links.items out gone others (but_pool number false d new.pool ls same s)
 
-pub closed_end : {A E : Type 0} (r : Result A E) (number : ℕ) (d : pools.Pool) (ls : List Link) (new : code.Relay) → new.pool ≡ d → OnOk r (reader_at number new.links.items ≡ None)
+pub closed_end : {A E : Type 0} (r : Result A E) (number : ℕ) (d : pools.Pool) (ls : List Link) (new : code.Relay) → new.pool ≡ d → OnOk r (TakenOut number ls new.links.items) → OnOk r (reader_at number new.links.items ≡ None)
     → OnOk r ((other : ℕ) → other ≢ number → waits_on other new.links.items ≡ waits_on other ls) → AreSeatedBut number false (pool_in d) ls → OnOk r (IsSeated new)
-closed_end (Ok x) number d ls new same gone others s = closed_seated number d ls new same gone others s
-closed_end (Err e) number d ls new same gone others s = tt
+closed_end (Ok x) number d ls new same out gone others s = closed_seated number d ls new same out gone others s
+closed_end (Err e) number d ls new same out gone others s = tt
 
 -- ---- One is let go
 
@@ -120,10 +120,11 @@ module _ (gives : Bool) (way : Way) (d e : pools.Pool) (before after : List ℕ)
   pub brought_none : o ≡ None → AreSeated (pool_in e) ls
   brought_none none = seated_on (pool_in d) (pool_in e) ls brings_led (subst (λ (p : Option Left). BringsSeat p (pool_in d).service (pool_in e).service) none (seats s.reached)) s
 
-  pub brought_one : (left : Left) (has : Bool) → o ≡ Some left → left.is_there ≡ has → AreSeatedBut left.number has (pool_in e) ls
-  brought_one left has some is =
+  pub brought_one : (left : Left) (has : Bool) → ls ≡ [] → o ≡ Some left → left.is_there ≡ has → AreSeatedBut left.number has (pool_in e) ls
+  brought_one left has none some is =
       seated_is has left.number (pool_in d) (pool_in e) ls brings_led
-      (subst (λ (b : Bool). SeatIs b left.number (pool_in d).service (pool_in e).service) is (subst (λ (p : Option Left). BringsSeat p (pool_in d).service (pool_in e).service) some (seats s.reached))) s
+      (subst (λ (b : Bool). SeatIs b left.number (pool_in d).service (pool_in e).service) is (subst (λ (p : Option Left). BringsSeat p (pool_in d).service (pool_in e).service) some (seats s.reached)))
+      (ap (is_there left.number) none) s
 
 -- and given up, where there are none
 pub none_brought : (number : ℕ) (d : Pool) (ls : List Link) → ls ≡ [] → AreSeatedBut number false d ls → AreSeated d ls
@@ -133,6 +134,10 @@ none_brought number d ls none s = record {
     | inl same ↦ subst (λ (k : ℕ). has_seat k d.service ≡ is_there k ls) (sym same) (s.here ∙ sym (ap (is_there number) none))
     | inr ne ↦ s.off.others n ne
   ];
+  few =
+      let c : ℕ = length d.service.seats in
+      let empty : length ls ≡ 0 = ap (length {A = Link}) none in
+      let t : length ls ≤ c = omega (arith, empty) in t;
 }
 
 -- ---- One is lent
@@ -141,7 +146,7 @@ pub lent_if : (d e : pools.Pool) (served : Served) (had : Bool) (before after : 
     → AreSeated (pool_in d) r.links.items → IsSeatedIf had served.hold.number true r
 lent_if d e served true before after r had same t serving s = at_pool e r.pool r.links.items same (served_again (pool_in d) (pool_in e) served before after r.links.items t serving s had)
 lent_if d e served false before after r had same t serving s =
-    but_pool served.hold.number true e r.pool r.links.items same (served_new (pool_in d) (pool_in e) served before after r.links.items t serving s)
+    but_pool served.hold.number true e r.pool r.links.items same (served_new (pool_in d) (pool_in e) served before after r.links.items t serving s had)
 
 pub if_had : (b had : Bool) (number : ℕ) (r : code.Relay) → had ≡ b → IsSeatedIf had number true r → IsSeatedIf b number true r
 if_had b had number r is s = subst (λ (x : Bool). IsSeatedIf x number true r) is s
@@ -185,7 +190,10 @@ pub but_lasting : (number : ℕ) (has : Bool) (a b : code.Relay) → b.pool ≡ 
 but_lasting number has a b same last stays s = but_kept number has a b same (lasting_there a.links.items b.links.items last stays) s
 
 pub links_there : (a b : List Link) → b ≡ a → SameThere a b
-links_there a b same = λ number. ap (is_there number) same
+links_there a b same = record {
+  there = λ number. ap (is_there number) same;
+  few = (let e : length b ≡ length a = ap (length {A = Link}) same in let t : length b ≤ length a = omega (arith, e) in t);
+}
 
 pub lost_but : {A E : Type 0} (r : Result A E) (number : ℕ) (new : code.Relay) → OnOk r (reader_at number new.links.items ≡ None) → OnOk r (IsSeated new) → OnOk r (IsSeatedBut number false new)
 lost_but (Ok x) number new gone s = but_gone number (pool_in new.pool) new.links.items (gone_there number new.links.items gone) s

@@ -6,8 +6,8 @@ use Rattle.tds_client.specs.Session.{ClientSession}
 use Rattle.tds_service.specs.declared.service.Service as services
 use Rattle.tds_service.specs.Table.{client_of}
 use Rattle.tds_relay.specs.declared.application.Application.{Application}
-use Rattle.tds_relay.specs.declared.application.Asking.{Asking}
-use Rattle.tds_relay.specs.declared.application.Asking.TheVariants as asking
+use Rattle.tds_relay.specs.declared.state.Asking.{Asking}
+use Rattle.tds_relay.specs.declared.state.Asking.TheVariants as asking
 use Rattle.tds_relay.specs.declared.pool.Hold.{Hold}
 use Rattle.tds_relay.specs.declared.link.Link.{Link}
 use Rattle.tds_relay.specs.declared.relay.Relay as code
@@ -19,6 +19,7 @@ use Rattle.tds_relay.specs.Sparing.{AllGo, AllRest, IsUnkept, OthersRest}
 use Rattle.tds_relay.specs.Ties.{Connection, LedTo, IsReached, pool_in}
 use Rattle.tds_relay.proofs.lending.Resting.{go_one, rests_start}
 use Rattle.tds_relay.proofs.steps.Reaching.{reached_on}
+use Rattle.tds_relay.specs.Places.{is_closed, own_asking, own_held}
 
 -- ---- One after the other
 
@@ -48,7 +49,7 @@ is_going : (s : services.Service) (ls : List Link) (o : Option Hold) → IsGoing
 is_going s ls None = tt
 is_going s ls (Some hold) = by_going hold.number (client_of hold.lease s) (waits_on hold.number ls)
 
-goes_there : (key : ℕ) (r : code.Relay) → IsGoing (going_of key r)
+pub goes_there : (key : ℕ) (r : code.Relay) → IsGoing (going_of key r)
 goes_there key r = is_going r.pool.service r.links.items (find_key key r.pool.holds.items)
 
 unkept : (b : Body) → IsGoing b → IsUnkept b
@@ -66,7 +67,7 @@ hears_by false asking.Goes held from to h = h
 
 hears_in : (o : Option Application) (from to : Body) → HearsOn from to → HearsOn (body_in o from) (body_in o to)
 hears_in None from to h = Waits
-hears_in (Some a) from to h = hears_by a.is_over a.asking a.held.items from to h
+hears_in (Some a) from to h = hears_by (is_closed a) (own_asking a) (own_held a) from to h
 
 -- wherever it goes on
 anywhere : (key : ℕ) (old new : code.Relay) → HearsOn (body_of key old) (body_in (get old.applications key) (going_of key new))
@@ -88,6 +89,10 @@ done_along old new may = record {
 
 pub asks_along : (old new : code.Relay) → AskOn old.applications new.applications → AllAlong old new
 asks_along old new asks = done_along old new (λ key goes. inl (asks key goes))
+
+-- and then they ask on
+pub told_along : (old mid new : code.Relay) → MayBeDone old.applications mid.applications → AskOn mid.applications new.applications → IsReached (pool_in old.pool) → AllAlong old new
+told_along old mid new done asks reached = along_both old mid new (done_along old mid done) (asks_along mid new asks)
 
 pub same_along : (old new : code.Relay) → AskAsBefore old.applications new.applications → AllAlong old new
 same_along old new asks = asks_along old new (λ key goes. inl (asks key goes))

@@ -24,6 +24,7 @@ use Rattle.tds_relay.proofs.spared.Ordered.{ordered_same}
 use Rattle.tds_relay.proofs.spared.Sending.{ordered_last, ordered_or_last, taken_link}
 use Rattle.tds_relay.proofs.spared.Waits.{left_link}
 use Rattle.tds_relay.proofs.spared.Shutting.{end_is, same_names, shut_stays}
+use Rattle.tds_relay.specs.Places.{is_closed, own_fault, own_reset, took_back}
 
 -- ---- What is put for an application
 
@@ -215,16 +216,16 @@ name_of o = option_map (λ (p : Queue). p.tag) (option_map queue_of o)
 name_is : (s : Slab Application) (key : ℕ) → slice_index_or (names_in s) key None ≡ name_of (get s key)
 name_is s key = get_or-map (option_map (λ (p : Queue). p.tag)) (queues_in s) key None ∙ ap (option_map (λ (p : Queue). p.tag)) (get_or-map (option_map queue_of) s.slots key None)
 
-open_tag : (b : Bool) (a : Application) → b ≡ false → name_with (Some (if b then Over a.fault else Open a.front a.is_withdrawn a.reset)) (Some (Some a.tag)) ≡ Some a.tag
+open_tag : (b : Bool) (a : Application) → b ≡ false → name_with (Some (if b then Over (own_fault a) else Open a.front (took_back a) (own_reset a))) (Some (Some a.tag)) ≡ Some a.tag
 open_tag true a e = absurd (let u : ⊥ = cc in u)
 open_tag false a e = refl
 
 -- what it is called that isn't to be closed
-pub its_name : (r : code.Relay) (key : ℕ) (a : Application) → Some a ≡ get r.applications key → a.is_over ≡ false → open_name key (register_in r) ≡ Some a.tag
+pub its_name : (r : code.Relay) (key : ℕ) (a : Application) → Some a ≡ get r.applications key → is_closed a ≡ false → open_name key (register_in r) ≡ Some a.tag
 its_name r key a is here =
     let s = r.applications in
     ap (λ (o : Option End). name_with o (slice_index_or (names_in s) key None)) (end_is s key ∙ ap (option_map own_end) (sym is))
-    ∙ ap (λ (n : Option (Option ℕ)). name_with (Some (own_end a)) n) (name_is s key ∙ ap name_of (sym is)) ∙ open_tag a.is_over a here
+    ∙ ap (λ (n : Option (Option ℕ)). name_with (Some (own_end a)) n) (name_is s key ∙ ap name_of (sym is)) ∙ open_tag (is_closed a) a here
 
 pub its_end : (r : code.Relay) (key : ℕ) (a : Application) → Some a ≡ get r.applications key → end_at (ends_in r.applications) key ≡ None → ⊥
 its_end r key a is none =

@@ -9,8 +9,8 @@ use Rattle.tds_front.specs.declared.front.Front.{Front}
 use Rattle.tds_front.specs.declared.stage.Stage.{Stage}
 use Rattle.tds_front.specs.declared.stage.Stage.TheVariants as stages
 use Rattle.tds_relay.specs.declared.application.Application.{Application}
-use Rattle.tds_relay.specs.declared.application.Asking.{Asking}
-use Rattle.tds_relay.specs.declared.application.Asking.TheVariants as asking
+use Rattle.tds_relay.specs.declared.state.Asking.{Asking}
+use Rattle.tds_relay.specs.declared.state.Asking.TheVariants as asking
 use Rattle.tds_relay.specs.Bodies.{Body, Closed, Kept, body_in}
 use Rattle.tds_relay.specs.declared.relay.Relay as code
 use Rattle.tds_relay.specs.Pool as pool
@@ -24,6 +24,7 @@ use Rattle.tds_relay.specs.Waiting.{KeepsInLine, StandsInLine}
 use Rattle.tds_relay.specs.Waiting as waiting
 use Rattle.tds_relay.proofs.steps.Fronts.{changed_at}
 use Rattle.tds_relay.proofs.steps.Going.{waits_is}
+use Rattle.tds_relay.specs.Places.{is_closed, own_asking, own_fault, own_held, own_reset, took_back}
 
 or_last : (b : Bool) → (b || true) ≡ true
 or_last true = refl
@@ -53,12 +54,12 @@ same_key a b o e f = let u : Some a ≡ Some b = e ∙ f in cc
 
 -- ---- What is kept of a request in the line
 
-pub kept_more : (o : Option Application) (a b : Application) (g : Body) (kind k : MessageKind) (was w whole : Bool) (more : List ℕ) → o ≡ Some b → a.is_over ≡ false → a.asking ≡ asking.Waits kind was → a.asking ≡ asking.Waits k w
-    → b.asking ≡ asking.Waits kind whole → b.is_over ≡ a.is_over → b.held.items ≡ a.held.items ++ more → body_in o g ≡ Kept k (a.held.items ++ more) whole
+pub kept_more : (o : Option Application) (a b : Application) (g : Body) (kind k : MessageKind) (was w whole : Bool) (more : List ℕ) → o ≡ Some b → is_closed a ≡ false → own_asking a ≡ asking.Waits kind was → own_asking a ≡ asking.Waits k w
+    → own_asking b ≡ asking.Waits kind whole → is_closed b ≡ is_closed a → own_held b ≡ own_held a ++ more → body_in o g ≡ Kept k (own_held a ++ more) whole
 kept_more o a b g kind k was w whole more is here first second asked over held =
     let same : kind ≡ k = (let u : asking.Waits kind was ≡ asking.Waits k w = sym first ∙ second in cc) in
-    ap (λ (x : Option Application). body_in x g) is ∙ waits_is b g kind whole asked ∙ ap (λ (x : Bool). if x then Closed else Kept kind b.held.items whole) (over ∙ here)
-    ∙ ap (λ (xs : List ℕ). Kept kind xs whole) held ∙ ap (λ (m : MessageKind). Kept m (a.held.items ++ more) whole) same
+    ap (λ (x : Option Application). body_in x g) is ∙ waits_is b g kind whole asked ∙ ap (λ (x : Bool). if x then Closed else Kept kind (own_held b) whole) (over ∙ here)
+    ∙ ap (λ (xs : List ℕ). Kept kind xs whole) held ∙ ap (λ (m : MessageKind). Kept m (own_held a ++ more) whole) same
 
 pub nothing_waits : (x : Asking) (k : MessageKind) (w : Bool) → x ≡ asking.Nothing → x ≡ asking.Waits k w → ⊥
 nothing_waits x k w e f = let u : asking.Nothing ≡ asking.Waits k w = sym e ∙ f in let v : ⊥ = cc in v
@@ -85,5 +86,5 @@ open_begun : (over : Bool) (why : Option FrontFault) (front : Front) (withdrawn 
 open_begun true why front withdrawn asks here b u = let v : ⊥ = cc in v
 open_begun false why front withdrawn asks here b u = not_begun front.stage b u
 
-pub begun_not : (a : Application) → a.is_over ≡ false → IfOpen IsBegun (Some (own_end a)) → IfOpen (IsUnbegun false) (Some (own_end a)) → ⊥
-begun_not a here b u = open_begun a.is_over a.fault a.front a.is_withdrawn a.reset here b u
+pub begun_not : (a : Application) → is_closed a ≡ false → IfOpen IsBegun (Some (own_end a)) → IfOpen (IsUnbegun false) (Some (own_end a)) → ⊥
+begun_not a here b u = open_begun (is_closed a) (own_fault a) a.front (took_back a) (own_reset a) here b u

@@ -44,6 +44,7 @@ use Rattle.tds_relay.proofs.spared.Starting.{unkept_going}
 use Rattle.tds_relay.proofs.spared.Turned.{as_refl, kept_any, kept_asks, not_as}
 use Rattle.tds_relay.proofs.steps.Fed.{end_there}
 use Rattle.tds_relay.proofs.steps.Placed.{IsAt, is_at}
+use Rattle.tds_relay.specs.Places.{is_closed, own_fault, own_reset, took_back}
 
 -- ---- Who took something back
 
@@ -52,8 +53,8 @@ taken_by : (over w : Bool) (why : Option FrontFault) (front : Front) (asks : Opt
 taken_by true w why front asks e = inr tt
 taken_by false w why front asks e = inl e
 
-pub taken_or_deaf : (s : Slab Application) (key : ℕ) (a : Application) → Some a ≡ get s key → a.is_withdrawn ≡ true → IsTakenBack (end_at (ends_in s) key) ⊎ IsDeaf (end_at (ends_in s) key)
-taken_or_deaf s key a is withdrawn = subst (λ (o : Option End). IsTakenBack o ⊎ IsDeaf o) (sym (end_there s key a is)) (taken_by a.is_over a.is_withdrawn a.fault a.front a.reset withdrawn)
+pub taken_or_deaf : (s : Slab Application) (key : ℕ) (a : Application) → Some a ≡ get s key → took_back a ≡ true → IsTakenBack (end_at (ends_in s) key) ⊎ IsDeaf (end_at (ends_in s) key)
+taken_or_deaf s key a is withdrawn = subst (λ (o : Option End). IsTakenBack o ⊎ IsDeaf o) (sym (end_there s key a is)) (taken_by (is_closed a) (took_back a) (own_fault a) a.front (own_reset a) withdrawn)
 
 -- ---- A packet
 
@@ -110,11 +111,11 @@ closed_loses number o h old is what other its =
 pub nothing_loses : (number : ℕ) (o : Option Heard) (old : code.Relay) → o ≡ None → (other : ℕ) → IsWho (holder (pool_in old.pool) number) other → LosesAt number o old other
 nothing_loses number o old is other who = inl (subst (λ (x : Option Heard). LosesFor number x (pool_in old.pool) (ends_in old.applications) (queues_in old.applications) other) (sym is) who)
 
-is_closed : (what : What) → (what ≡ whats.Closed) ⊎ (what ≢ whats.Closed)
-is_closed whats.Goes = inr (λ e. (let u : whats.Goes ≡ whats.Closed = e in cc))
-is_closed whats.Finished = inr (λ e. (let u : whats.Finished ≡ whats.Closed = e in cc))
-is_closed whats.Acknowledged = inr (λ e. (let u : whats.Acknowledged ≡ whats.Closed = e in cc))
-is_closed whats.Closed = inl refl
+closed_there : (what : What) → (what ≡ whats.Closed) ⊎ (what ≢ whats.Closed)
+closed_there whats.Goes = inr (λ e. (let u : whats.Goes ≡ whats.Closed = e in cc))
+closed_there whats.Finished = inr (λ e. (let u : whats.Finished ≡ whats.Closed = e in cc))
+closed_there whats.Acknowledged = inr (λ e. (let u : whats.Acknowledged ≡ whats.Closed = e in cc))
+closed_there whats.Closed = inl refl
 
 -- what goes out doesn't fit
 unsent_loses : (number : ℕ) (o : Option Heard) (h : Heard) (old told : code.Relay) → o ≡ Some h → told.pool ≡ old.pool → told.links.items ≡ old.links.items → (h.what ≢ whats.Closed → told.outbox.items ≡ old.outbox.items) → (other : ℕ)
@@ -218,7 +219,7 @@ sent_or number left out h mid next new other s heard is who cleans sends (inr la
 by_sending : (number : ℕ) (left out : List ℕ) (o : Option Heard) (mid next : code.Relay) (new : Machine) (other : ℕ) → IsSeated mid → IsHeardAs number left o mid new → pool_in next.pool ≡ new.core.pool → IsWho (holder (pool_in next.pool) number) other
     → Cleans (whose (pool_in mid.pool) number) o [] out → (IsLeftOpen o → (out ≢ []) × HasNoRoom number out next.links.items) → LosesOn number left mid other
 by_sending number left out None mid next new other s heard is who cleans sends = OfPacket None new heard (for_before number left None mid next new (ends_in mid.applications) new.queues other heard is who)
-by_sending number left out (Some h) mid next new other s heard is who cleans sends = sent_or number left out h mid next new other s heard is who cleans sends (is_closed h.what)
+by_sending number left out (Some h) mid next new other s heard is who cleans sends = sent_or number left out h mid next new other s heard is who cleans sends (closed_there h.what)
 
 idle_left : (o : Option Heard) → HearsNothing o → IsLeftOpen o
 idle_left None none = absurd none

@@ -201,7 +201,7 @@ apart_by : (number : ℕ) (parser : Option Parser) (link next : Link) (left : Li
 apart_by number parser link next left count None old new reached h = apart_same number None old.core.pool new.core.pool (ap (λ (x : Machine). x.core.pool) h.1) refl
 apart_by number parser link next left count (Some heard) old new reached h = apart_hears number parser link next left count heard old new reached h
 
-none_key : (o : Option Heard) → HearsNothing o → heard_key o ≡ None
+pub none_key : (o : Option Heard) → HearsNothing o → heard_key o ≡ None
 none_key None none = absurd none
 none_key (Some h) none = none.0
 

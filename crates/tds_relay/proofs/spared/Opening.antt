@@ -179,6 +179,16 @@ grows_pushed number l a b more opens =
     one_there (length a.links.items) (length b.links.items) (length (opens_in a.orders.items)) (length (opens_in b.orders.items)) (one_longer l a.links.items b.links.items more)
     (one_longer number (opens_in a.orders.items) (opens_in b.orders.items) opens)
 
+brought_there : (a b c n x y z : ℕ) → n ≡ suc a → b ≤ n → y ≡ x → c + y ≤ b + z → c + x ≤ suc (a + z)
+brought_there a b c n x y z e f g h = omega (arith, e, f, g, h)
+
+-- one is brought
+pub grows_brought : (l : Link) (ls : List Link) (a b c : code.Relay) → ls ≡ a.links.items ++ l ∷ [] → length b.links.items ≤ length ls → opens_in b.orders.items ≡ opens_in a.orders.items → GrowsByOrders b c
+    → length c.links.items + length (opens_in a.orders.items) ≤ suc (length a.links.items + length (opens_in c.orders.items))
+grows_brought l ls a b c pushed few same grows =
+    brought_there (length a.links.items) (length b.links.items) (length c.links.items) (length ls) (length (opens_in a.orders.items)) (length (opens_in b.orders.items)) (length (opens_in c.orders.items))
+    (one_longer l a.links.items ls pushed) few (ap (length {A = ℕ}) same) grows
+
 pub many_on : (a b c d : ℕ) → b ≤ a → c ≡ b → d ≤ c → d ≤ a
 many_on a b c d h e k = omega (arith, h, e, k)
 

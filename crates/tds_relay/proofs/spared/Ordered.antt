@@ -6,6 +6,7 @@ use Rattle.tds_relay.specs.declared.order.Order.{Order}
 use Rattle.tds_relay.specs.declared.order.Order.TheVariants as orders
 use Rattle.tds_relay.specs.Law.{closing}
 use Rattle.tds_relay.specs.Ordering.{StayOrdered}
+use Rattle.tds_relay.specs.Places.{is_closed}
 
 pub ordered_same : (a b : List Order) → b ≡ a → StayOrdered a b
 ordered_same a b same = ([], same ∙ sym (append-nil a))
@@ -31,7 +32,7 @@ closing_by false x all = (x ∷ [], refl)
 -- who is to be closed is ordered closed
 pub closing_stays : (o : Option Application) (all : List Order) → StayOrdered all (closing o all)
 closing_stays None all = ordered_refl all
-closing_stays (Some a) all = closing_by a.is_over (orders.Close a.tag) all
+closing_stays (Some a) all = closing_by (is_closed a) (orders.Close a.tag) all
 
 pub ordered_closed : (o : Option Application) (a b : List Order) → b ≡ closing o a → StayOrdered a b
 ordered_closed o a b is =

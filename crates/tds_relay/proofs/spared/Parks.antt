@@ -4,8 +4,8 @@ use Rattle.std.specs.Prelude.{length, ◌≤◌}
 use Rattle.std.proofs.lemmas.Bool.{cases_eq}
 use Rattle.slab.specs.Slab.{get}
 use Rattle.tds_relay.specs.declared.application.Application.{Application}
-use Rattle.tds_relay.specs.declared.application.Asking.{Asking}
-use Rattle.tds_relay.specs.declared.application.Asking.TheVariants as asking
+use Rattle.tds_relay.specs.declared.state.Asking.{Asking}
+use Rattle.tds_relay.specs.declared.state.Asking.TheVariants as asking
 use Rattle.tds_relay.specs.declared.link.Link.{Link}
 use Rattle.tds_relay.specs.declared.relay.Relay as code
 use Rattle.tds_relay.specs.Apart.{UnlessServed}
@@ -20,6 +20,7 @@ use Rattle.tds_relay.proofs.spared.Lines.{waited_left}
 use Rattle.tds_relay.proofs.lending.Resting.{go_one, rests_start}
 use Rattle.tds_relay.proofs.steps.Fronts.{changed_at}
 use Rattle.tds_relay.proofs.steps.Parked.{and_first, and_second, rested}
+use Rattle.tds_relay.specs.Places.{is_closed, own_asking, own_held}
 
 pub parks : (r : code.Relay) (key : ℕ) → may_park_in r key ≡ true → may_park (core_in r) key ≡ true
 parks r key e = and_first (may_park (core_in r) key) (has_no_request (get r.applications key)) e
@@ -61,7 +62,7 @@ alike_by asking.Goes held g h e = absurd (let u : ⊥ = cc in u)
 
 alike : (o : Option Application) (g h : Body) → has_no_request o ≡ true → body_in o g ≡ body_in o h
 alike None g h e = refl
-alike (Some a) g h e = ap (λ (b : Body). if a.is_over then Closed else b) (alike_by a.asking a.held.items g h e)
+alike (Some a) g h e = ap (λ (b : Body). if is_closed a then Closed else b) (alike_by (own_asking a) (own_held a) g h e)
 
 own_rests : (key : ℕ) (old mid : code.Relay) → has_no_request (get old.applications key) ≡ true → AskOn old.applications mid.applications → Rests (body_of key old) (body_of key mid)
 own_rests key old mid none asks =

@@ -17,8 +17,8 @@ use Rattle.tds_service.specs.declared.service.Service as services
 use Rattle.tds_service.specs.Service.{Call}
 use Rattle.tds_service.specs.Table.{Denies, client_of, service_in}
 use Rattle.tds_relay.specs.declared.application.Application.{Application}
-use Rattle.tds_relay.specs.declared.application.Asking.{Asking}
-use Rattle.tds_relay.specs.declared.application.Asking.TheVariants as asking
+use Rattle.tds_relay.specs.declared.state.Asking.{Asking}
+use Rattle.tds_relay.specs.declared.state.Asking.TheVariants as asking
 use Rattle.tds_relay.specs.declared.pool.Pool as pools
 use Rattle.tds_relay.specs.declared.pool.Hold.{Hold}
 use Rattle.tds_relay.specs.declared.link.Link.{Link}
@@ -37,6 +37,7 @@ use Rattle.tds_relay.specs.Told.{room_to_keep}
 use Rattle.tds_relay.proofs.spared.Closings.{closes_more_on}
 use Rattle.tds_relay.proofs.spared.Lines.{ItselfOrWaiting, waited_or}
 use Rattle.tds_relay.proofs.steps.Queueing.{queue_is}
+use Rattle.tds_relay.specs.Places.{is_closed, own_asking, own_held}
 
 pub for_reason : {A E : Type 0} (r : Result A E) (key : ℕ) (R : Type 0) (a b : Register) → R → OnOk r (ClosesOnly (Itself key) a b) → OnOk r (ClosesOnly (ItselfFor key R) a b)
 for_reason r key R a b why h = closes_more_on r (Itself key) (ItselfFor key R) a b (λ other same. (same, why)) h
@@ -53,11 +54,11 @@ nothing_by : (over whole : Bool) (more : List ℕ) (key : ℕ) (end : Option End
 nothing_by true whole more key end room d links = tt
 nothing_by false whole more key end room d links = tt
 
-pub nothing_goes : (whole : Bool) (more : List ℕ) (key : ℕ) (end : Option End) (room : ℕ) (d : pools.Pool) (links : List Link) (o : Option Application) (a : Application) (g : Body) → Some a ≡ o → a.asking ≡ asking.Nothing
+pub nothing_goes : (whole : Bool) (more : List ℕ) (key : ℕ) (end : Option End) (room : ℕ) (d : pools.Pool) (links : List Link) (o : Option Application) (a : Application) (g : Body) → Some a ≡ o → own_asking a ≡ asking.Nothing
     → CannotGoOn whole more key end room d links (body_in o g)
 nothing_goes whole more key end room d links o a g is asks =
     subst (λ (x : Option Application). CannotGoOn whole more key end room d links (body_in x g)) is
-    (subst (λ (x : Asking). CannotGoOn whole more key end room d links (if a.is_over then Closed else body_by x a.held.items g)) (sym asks) (nothing_by a.is_over whole more key end room d links))
+    (subst (λ (x : Asking). CannotGoOn whole more key end room d links (if is_closed a then Closed else body_by x (own_held a) g)) (sym asks) (nothing_by (is_closed a) whole more key end room d links))
 
 abbrev CannotGrow : Bool → List ℕ → ℕ → Option End → ℕ → pools.Pool → List Link → MessageKind → List ℕ → Type 0
 CannotGrow whole more key end room d links kind bytes = (room < length more) ⊎ (IfOpen (IsUnbegun false) end ⊎ IsTurnedAway key end d links (Kept kind (bytes ++ more) whole))
@@ -68,19 +69,19 @@ kept_by true whole more key end room d links kind bytes was why = tt
 kept_by false whole more key end room d links kind bytes was why = why
 
 kept_goes : (whole : Bool) (more : List ℕ) (key : ℕ) (end : Option End) (room : ℕ) (d : pools.Pool) (links : List Link) (o : Option Application) (a : Application) (g : Body) (kind : MessageKind) (was : Bool) → Some a ≡ o
-    → a.asking ≡ asking.Waits kind was → CannotGrow whole more key end room d links kind a.held.items → CannotGoOn whole more key end room d links (body_in o g)
+    → own_asking a ≡ asking.Waits kind was → CannotGrow whole more key end room d links kind (own_held a) → CannotGoOn whole more key end room d links (body_in o g)
 kept_goes whole more key end room d links o a g kind was is asks why =
     subst (λ (x : Option Application). CannotGoOn whole more key end room d links (body_in x g)) is
-    (subst (λ (x : Asking). CannotGoOn whole more key end room d links (if a.is_over then Closed else body_by x a.held.items g)) (sym asks) (kept_by a.is_over whole more key end room d links kind a.held.items was why))
+    (subst (λ (x : Asking). CannotGoOn whole more key end room d links (if is_closed a then Closed else body_by x (own_held a) g)) (sym asks) (kept_by (is_closed a) whole more key end room d links kind (own_held a) was why))
 
 -- it is too long to be kept
 pub too_long : (whole : Bool) (more : List ℕ) (key : ℕ) (end : Option End) (d : pools.Pool) (links : List Link) (o : Option Application) (a : Application) (g : Body) (kind : MessageKind) (was : Bool) → Some a ≡ o
-    → a.asking ≡ asking.Waits kind was → room_to_keep a < length more → CannotGoOn whole more key end (room_left o) d links (body_in o g)
+    → own_asking a ≡ asking.Waits kind was → room_to_keep a < length more → CannotGoOn whole more key end (room_left o) d links (body_in o g)
 too_long whole more key end d links o a g kind was is asks long = kept_goes whole more key end (room_left o) d links o a g kind was is asks (inl (subst (λ (x : Option Application). room_left x < length more) is long))
 
 -- none has begun
 pub unbegun_goes : (whole : Bool) (more : List ℕ) (key : ℕ) (end : Option End) (room : ℕ) (d : pools.Pool) (links : List Link) (o : Option Application) (a : Application) (g : Body) (kind : MessageKind) (was : Bool) → Some a ≡ o
-    → a.asking ≡ asking.Waits kind was → IfOpen (IsUnbegun false) end → CannotGoOn whole more key end room d links (body_in o g)
+    → own_asking a ≡ asking.Waits kind was → IfOpen (IsUnbegun false) end → CannotGoOn whole more key end room d links (body_in o g)
 unbegun_goes whole more key end room d links o a g kind was is asks unbegun = kept_goes whole more key end room d links o a g kind was is asks (inr (inl unbegun))
 
 going_with : (whole : Bool) (more : List ℕ) (key : ℕ) (end : Option End) (room : ℕ) (d : pools.Pool) (links : List Link) (number : ℕ) (o : Option ClientSession) (w : Option (List ℕ)) → CannotPut whole more key end d links
@@ -99,13 +100,13 @@ over_or true whole more key end room d links b why = tt
 over_or false whole more key end room d links b why = why
 
 -- it isn't put where it goes on
-pub put_goes : (whole : Bool) (more : List ℕ) (key : ℕ) (end : Option End) (room : ℕ) (d : pools.Pool) (links : List Link) (o : Option Application) (a : Application) → Some a ≡ o → a.asking ≡ asking.Goes → CannotPut whole more key end d links
+pub put_goes : (whole : Bool) (more : List ℕ) (key : ℕ) (end : Option End) (room : ℕ) (d : pools.Pool) (links : List Link) (o : Option Application) (a : Application) → Some a ≡ o → own_asking a ≡ asking.Goes → CannotPut whole more key end d links
     → CannotGoOn whole more key end room d links (body_in o (going d.service links (find_key key d.holds.items)))
 put_goes whole more key end room d links o a is asks why =
     let g = going d.service links (find_key key d.holds.items) in
     subst (λ (x : Option Application). CannotGoOn whole more key end room d links (body_in x g)) is
-    (subst (λ (x : Asking). CannotGoOn whole more key end room d links (if a.is_over then Closed else body_by x a.held.items g)) (sym asks)
-    (over_or a.is_over whole more key end room d links g (going_goes whole more key end room d links (find_key key d.holds.items) why)))
+    (subst (λ (x : Asking). CannotGoOn whole more key end room d links (if is_closed a then Closed else body_by x (own_held a) g)) (sym asks)
+    (over_or (is_closed a) whole more key end room d links g (going_goes whole more key end room d links (find_key key d.holds.items) why)))
 
 pub no_room_there : (whole : Bool) (more : List ℕ) (key : ℕ) (d mid : pools.Pool) (out : List ℕ) (links : List Link) (hold : Hold) (p : ClientPuts whole more key d mid [] out) → find_key key d.holds.items ≡ Some hold → HasNoRoom hold.number out links
     → HasNoRoom p.hold.number out links
@@ -127,12 +128,12 @@ asks_by : (over : Bool) (key : ℕ) (end : Option End) (d : pools.Pool) (links :
 asks_by true key end d links message why = absurd why
 asks_by false key end d links message why = why
 
-pub begun_asks : (key : ℕ) (end : Option End) (d : pools.Pool) (links : List Link) (o : Option Application) (g : Body) (b : Application) (message : MessageKind) → o ≡ Some b → b.asking ≡ asking.Waits message false → b.held.items ≡ []
+pub begun_asks : (key : ℕ) (end : Option End) (d : pools.Pool) (links : List Link) (o : Option Application) (g : Body) (b : Application) (message : MessageKind) → o ≡ Some b → own_asking b ≡ asking.Waits message false → own_held b ≡ []
     → CannotStart key end d links (body_in o g) → CannotAskNow key end d links message
 begun_asks key end d links o g b message is asked held why =
-    asks_by b.is_over key end d links message
+    asks_by (is_closed b) key end d links message
     (subst (CannotStart key end d links)
-    (ap (λ (x : Option Application). body_in x g) is ∙ ap (λ (x : Asking). if b.is_over then Closed else body_by x b.held.items g) asked ∙ ap (λ (xs : List ℕ). if b.is_over then Closed else Kept message xs false) held) why)
+    (ap (λ (x : Option Application). body_in x g) is ∙ ap (λ (x : Asking). if is_closed b then Closed else body_by x (own_held b) g) asked ∙ ap (λ (xs : List ℕ). if is_closed b then Closed else Kept message xs false) held) why)
 
 -- ---- It can't be taken back
 
@@ -159,9 +160,9 @@ asked_by : (over : Bool) (g : Body) → Spared g (if over then Closed else g)
 asked_by true g = inr refl
 asked_by false g = inl refl
 
-pub asked_goes : (o : Option Application) (a : Application) (g : Body) → Some a ≡ o → a.asking ≡ asking.Goes → Spared g (body_in o g)
+pub asked_goes : (o : Option Application) (a : Application) (g : Body) → Some a ≡ o → own_asking a ≡ asking.Goes → Spared g (body_in o g)
 asked_goes o a g is asks =
-    subst (λ (x : Option Application). Spared g (body_in x g)) is (subst (λ (x : Asking). Spared g (if a.is_over then Closed else body_by x a.held.items g)) (sym asks) (asked_by a.is_over g))
+    subst (λ (x : Option Application). Spared g (body_in x g)) is (subst (λ (x : Asking). Spared g (if is_closed a then Closed else body_by x (own_held a) g)) (sym asks) (asked_by (is_closed a) g))
 
 astray_of : (s : services.Service) (links : List Link) (o : Option Hold) (b : Body) → o ≡ None → Spared (going s links o) b → IsAstray b
 astray_of s links o b none (inl e) = subst IsAstray (sym (e ∙ ap (going s links) none)) tt

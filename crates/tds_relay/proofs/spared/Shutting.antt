@@ -23,6 +23,7 @@ use Rattle.tds_relay.proofs.spared.Ordered.{ordered_same}
 use Rattle.tds_relay.proofs.spared.Sending.{AreKept, Comes, Pushed, Same, called_filled, ordered_last, ordered_or_last, pushed, sending_kept, sending_opened, sending_other, written_by}
 use Rattle.tds_relay.proofs.steps.Fed.{ends_written}
 use Rattle.tds_relay.proofs.steps.Staying.{at_refl}
+use Rattle.tds_relay.specs.Places.{is_closed, own_fault, own_reset, took_back}
 
 -- ---- Connections
 
@@ -133,16 +134,16 @@ set_name end zero (suc other) (e ∷ es) n same = refl
 set_name end (suc key) zero (e ∷ es) n same = refl
 set_name end (suc key) (suc other) (e ∷ es) n same = set_name end key other es n same
 
-over_by : (b : Bool) (a c : Application) (m : Option (Option ℕ)) → name_with (Some (if b then Over c.fault else Open c.front c.is_withdrawn c.reset)) m ≡ name_with (Some (if b then Over a.fault else Open a.front a.is_withdrawn a.reset)) m
+over_by : (b : Bool) (a c : Application) (m : Option (Option ℕ)) → name_with (Some (if b then Over (own_fault c) else Open c.front (took_back c) (own_reset c))) m ≡ name_with (Some (if b then Over (own_fault a) else Open a.front (took_back a) (own_reset a))) m
 over_by true a c m = refl
 over_by false a c None = refl
 over_by false a c (Some name) = refl
 
-open_as : (a c : Application) (m : Option (Option ℕ)) → c.is_over ≡ a.is_over → name_with (Some (own_end c)) m ≡ name_with (Some (own_end a)) m
+open_as : (a c : Application) (m : Option (Option ℕ)) → is_closed c ≡ is_closed a → name_with (Some (own_end c)) m ≡ name_with (Some (own_end a)) m
 open_as a c m same =
-    subst (λ (b : Bool). name_with (Some (if b then Over c.fault else Open c.front c.is_withdrawn c.reset)) m ≡ name_with (Some (own_end a)) m) (sym same) (over_by a.is_over a c m)
+    subst (λ (b : Bool). name_with (Some (if b then Over (own_fault c) else Open c.front (took_back c) (own_reset c))) m ≡ name_with (Some (own_end a)) m) (sym same) (over_by (is_closed a) a c m)
 
-pub closes_written : (May : ℕ → Type 0) (s : Slab Application) (key : ℕ) (a c : Application) (r q : Register) → Some a ≡ get s key → c.is_over ≡ a.is_over → r.ends ≡ ends_in s → q.ends ≡ ends_in (with_value s key c)
+pub closes_written : (May : ℕ → Type 0) (s : Slab Application) (key : ℕ) (a c : Application) (r q : Register) → Some a ≡ get s key → is_closed c ≡ is_closed a → r.ends ≡ ends_in s → q.ends ≡ ends_in (with_value s key c)
     → q.queues ≡ r.queues → q.kept ≡ r.kept → AreKept r.links q.links → NoneClosed r.orders q.orders → ClosesOnly May r q
 closes_written May s key a c r q is same before behind queues told links n =
     closes_as May r q (λ k.

@@ -7,8 +7,8 @@ use Rattle.tds_client.specs.Session.{ClientSession}
 use Rattle.tds_service.specs.declared.service.Service as services
 use Rattle.tds_service.specs.Table.{client_of}
 use Rattle.tds_relay.specs.declared.application.Application.{Application}
-use Rattle.tds_relay.specs.declared.application.Asking.{Asking}
-use Rattle.tds_relay.specs.declared.application.Asking.TheVariants as asking
+use Rattle.tds_relay.specs.declared.state.Asking.{Asking}
+use Rattle.tds_relay.specs.declared.state.Asking.TheVariants as asking
 use Rattle.tds_relay.specs.declared.pool.Pool as pools
 use Rattle.tds_relay.specs.declared.pool.Hold.{Hold}
 use Rattle.tds_relay.specs.declared.link.Link.{Link}
@@ -24,8 +24,9 @@ use Rattle.tds_relay.specs.Sparing.{AllGo, AllRest, AreCalls, Drains, HasGone, H
 use Rattle.tds_relay.specs.Ties.{IsReached, pool_in}
 use Rattle.tds_relay.proofs.spared.Held.{holder_is, holds}
 use Rattle.tds_relay.proofs.lending.Resting.{starts_both}
-use Rattle.tds_relay.proofs.steps.Bodied.{written_body}
+use Rattle.tds_relay.proofs.steps.Bodied.{written_body, by_asking}
 use Rattle.tds_relay.proofs.steps.Fed.{end_open, end_there}
+use Rattle.tds_relay.specs.Places.{is_closed, own_asking, own_held, took_back}
 
 -- ---- Kept no more
 
@@ -49,10 +50,10 @@ unkept_closed b e = subst IsUnkept (sym e) tt
 pub unkept_none : (s : Slab Application) (key : ℕ) (goes : Body) → get s key ≡ None → IsUnkept (body_in (get s key) goes)
 unkept_none s key goes none = subst (λ (o : Option Application). IsUnkept (body_in o goes)) (sym none) tt
 
-pub unkept_over : (s : Slab Application) (key : ℕ) (a : Application) (goes : Body) → Some a ≡ get s key → a.is_over ≡ true → IsUnkept (body_in (get s key) goes)
+pub unkept_over : (s : Slab Application) (key : ℕ) (a : Application) (goes : Body) → Some a ≡ get s key → is_closed a ≡ true → IsUnkept (body_in (get s key) goes)
 unkept_over s key a goes is over =
     subst (λ (o : Option Application). IsUnkept (body_in o goes)) is
-    (subst (λ (b : Bool). IsUnkept (if b then Closed else body_by a.asking a.held.items goes)) (sym over) tt)
+    (subst (λ (b : Bool). IsUnkept (if b then Closed else body_by (own_asking a) (own_held a) goes)) (sym over) tt)
 
 unkept_asking : (x : Asking) (held : List ℕ) (goes : Body) → waits_in x ≡ None → IsUnkept goes → IsUnkept (body_by x held goes)
 unkept_asking asking.Nothing held goes e h = tt
@@ -60,31 +61,31 @@ unkept_asking (asking.Waits kind whole) held goes e h = absurd (let u : ⊥ = cc
 unkept_asking asking.Goes held goes e h = h
 
 -- an application whose request doesn't wait
-pub unkept_there : (key : ℕ) (r : code.Relay) (a : Application) → Some a ≡ get r.applications key → waits_in a.asking ≡ None → IsUnkept (body_of key r)
+pub unkept_there : (key : ℕ) (r : code.Relay) (a : Application) → Some a ≡ get r.applications key → waits_in (own_asking a) ≡ None → IsUnkept (body_of key r)
 unkept_there key r a is none =
     subst (λ (o : Option Application). IsUnkept (body_in o (going_of key r))) is
-    (unkept_if a.is_over (body_by a.asking a.held.items (going_of key r))
-    (unkept_asking a.asking a.held.items (going_of key r) none (unkept_going r.pool.service r.links.items (find_key key r.pool.holds.items))))
+    (unkept_if (is_closed a) (body_by (own_asking a) (own_held a) (going_of key r))
+    (unkept_asking (own_asking a) (own_held a) (going_of key r) none (unkept_going r.pool.service r.links.items (find_key key r.pool.holds.items))))
 
-put_unkept : (X : Type 0) (key : ℕ) (s : Slab Application) (a b : Application) (new : code.Relay) → Some a ≡ get s key → b.asking ≡ asking.Goes
+put_unkept : (X : Type 0) (key : ℕ) (s : Slab Application) (a b : Application) (new : code.Relay) → Some a ≡ get s key → (is_closed b ≡ false → own_asking b ≡ asking.Goes)
     → (body_of key new ≡ Closed) ⊎ (((goes : Body) → body_in (get new.applications key) goes ≡ body_in (get (with_value s key b) key) goes) × X) → IsUnkept (body_of key new)
 put_unkept X key s a b new is goes (inl closed) = unkept_closed (body_of key new) closed
 put_unkept X key s a b new is goes (inr puts) =
     let g : Body = going_of key new in
     let one : body_of key new ≡ body_in (Some b) g = puts.0 g ∙ written_body s key a b g is in
     subst IsUnkept (sym one)
-    (unkept_if b.is_over (body_by b.asking b.held.items g)
-    (unkept_asking b.asking b.held.items g (ap waits_in goes) (unkept_going new.pool.service new.links.items (find_key key new.pool.holds.items))))
+    (subst IsUnkept (sym (by_asking (is_closed b) (own_asking b) asking.Goes (own_held b) g goes))
+    (unkept_if (is_closed b) g (unkept_going new.pool.service new.links.items (find_key key new.pool.holds.items))))
 
 pub put_unkept_on : {A E : Type 0} (r : Result A E) (X : Type 0) (key : ℕ) (s : Slab Application) (a b : Application) (new : code.Relay)
     → OnOk r ((body_of key new ≡ Closed) ⊎ (((goes : Body) → body_in (get new.applications key) goes ≡ body_in (get (with_value s key b) key) goes) × X)) → Some a ≡ get s key
-    → b.asking ≡ asking.Goes → OnOk r (IsUnkept (body_of key new))
+    → (is_closed b ≡ false → own_asking b ≡ asking.Goes) → OnOk r (IsUnkept (body_of key new))
 put_unkept_on (Ok x) X key s a b new puts is goes = put_unkept X key s a b new is goes puts
 put_unkept_on (Err e) X key s a b new puts is goes = tt
 
 -- ---- Held back
 
-pub taken_back : (s : Slab Application) (key : ℕ) (a : Application) → Some a ≡ get s key → a.is_over ≡ false → a.is_withdrawn ≡ true → IsTakenBack (end_at (ends_in s) key)
+pub taken_back : (s : Slab Application) (key : ℕ) (a : Application) → Some a ≡ get s key → is_closed a ≡ false → took_back a ≡ true → IsTakenBack (end_at (ends_in s) key)
 taken_back s key a is over back = subst IsTakenBack (sym (end_there s key a is ∙ ap Some (end_open a over))) back
 
 -- ---- One that has waited goes on

@@ -9,8 +9,8 @@ use Rattle.tds_packet.specs.Reading.{Reading}
 use Rattle.tds_packet.specs.declared.status.Reset.{Reset}
 use Rattle.tds_packet.specs.declared.status.Reset.TheVariants.{KeepTransaction}
 use Rattle.tds_relay.specs.declared.application.Application.{Application}
-use Rattle.tds_relay.specs.declared.application.Asking.{Asking}
-use Rattle.tds_relay.specs.declared.application.Asking.TheVariants as asking
+use Rattle.tds_relay.specs.declared.state.Asking.{Asking}
+use Rattle.tds_relay.specs.declared.state.Asking.TheVariants as asking
 use Rattle.tds_relay.specs.declared.pool.Pool as pools
 use Rattle.tds_relay.specs.declared.pool.Hold.{Hold}
 use Rattle.tds_relay.specs.declared.link.Link.{Link}
@@ -43,6 +43,7 @@ use Rattle.tds_relay.proofs.spared.Starting.{unkept_going, unkept_there}
 use Rattle.tds_relay.proofs.steps.Fed.{end_open, end_there}
 use Rattle.tds_relay.proofs.steps.Staying.{at_refl}
 use Rattle.tds_relay.proofs.visits.Unheld.{first_waits, unheld_behind}
+use Rattle.tds_relay.specs.Places.{is_closed, own_asking, own_fault, own_held, own_reset, took_back}
 
 -- ---- It waits, and its connection is ready
 
@@ -59,18 +60,18 @@ kept_if : (over : Bool) (b : Body) → over ≡ false → IsKept b → IsKept (i
 kept_if true b is k = absurd (let u : true ≡ false = is in let v : ⊥ = cc in v)
 kept_if false b is k = k
 
-pub kept_there : (key : ℕ) (r : code.Relay) (a : Application) → Some a ≡ get r.applications key → a.is_over ≡ false → IsSome (waits_in a.asking) → IsKept (body_of key r)
+pub kept_there : (key : ℕ) (r : code.Relay) (a : Application) → Some a ≡ get r.applications key → is_closed a ≡ false → IsSome (waits_in (own_asking a)) → IsKept (body_of key r)
 kept_there key r a is over some =
-    subst (λ (o : Option Application). IsKept (body_in o (going_of key r))) is (kept_if a.is_over (body_by a.asking a.held.items (going_of key r)) over (kept_some a.asking a.held.items (going_of key r) some))
+    subst (λ (o : Option Application). IsKept (body_in o (going_of key r))) is (kept_if (is_closed a) (body_by (own_asking a) (own_held a) (going_of key r)) over (kept_some (own_asking a) (own_held a) (going_of key r) some))
 
-not_back : (s : Slab Application) (key : ℕ) (a : Application) → Some a ≡ get s key → a.is_over ≡ false → a.is_withdrawn ≡ false → ¬ IsTakenBack (end_at (ends_in s) key)
+not_back : (s : Slab Application) (key : ℕ) (a : Application) → Some a ≡ get s key → is_closed a ≡ false → took_back a ≡ false → ¬ IsTakenBack (end_at (ends_in s) key)
 not_back s key a is over drained back =
-    let its : a.is_withdrawn ≡ true = subst IsTakenBack (end_there s key a is ∙ ap Some (end_open a over)) back in
+    let its : took_back a ≡ true = subst IsTakenBack (end_there s key a is ∙ ap Some (end_open a over)) back in
     let u : true ≡ false = sym its ∙ drained in
     let v : ⊥ = cc in
     v
 
-pub ready_there : (key : ℕ) (s : Slab Application) (d : pools.Pool) (links : List Link) (a : Application) (hold : Hold) → Some a ≡ get s key → a.is_over ≡ false → a.is_withdrawn ≡ false → find_key key d.holds.items ≡ Some hold
+pub ready_there : (key : ℕ) (s : Slab Application) (d : pools.Pool) (links : List Link) (a : Application) (hold : Hold) → Some a ≡ get s key → is_closed a ≡ false → took_back a ≡ false → find_key key d.holds.items ≡ Some hold
     → IsSome (open_at hold.number links) → IsReadyThere key (end_at (ends_in s) key) d links
 ready_there key s d links a hold is over drained its there = record { hold = hold; its = its; open_there = there; drained = not_back s key a is over drained }
 
@@ -91,13 +92,13 @@ grown false false whole was more key end room d links kind bytes same why = inr 
 
 -- with them it is turned away
 pub turned_goes : (whole was : Bool) (more : List ℕ) (key : ℕ) (end : Option End) (room : ℕ) (d : pools.Pool) (links : List Link) (o p : Option Application) (a b : Application) (g h : Body) (kind : MessageKind) → Some a ≡ o → p ≡ Some b
-    → a.asking ≡ asking.Waits kind was → b.is_over ≡ a.is_over → b.held.items ≡ a.held.items ++ more → b.asking ≡ asking.Waits kind whole → IsTurnedAway key end d links (body_in p h) → CannotGoOn whole more key end room d links (body_in o g)
+    → own_asking a ≡ asking.Waits kind was → is_closed b ≡ is_closed a → own_held b ≡ own_held a ++ more → own_asking b ≡ asking.Waits kind whole → IsTurnedAway key end d links (body_in p h) → CannotGoOn whole more key end room d links (body_in o g)
 turned_goes whole was more key end room d links o p a b g h kind is there asks over held keeps why =
-    let from : body_in p h ≡ (if b.is_over then Closed else Kept kind (a.held.items ++ more) whole) =
-    ap (λ (x : Option Application). body_in x h) there ∙ ap (λ (x : Asking). if b.is_over then Closed else body_by x b.held.items h) keeps ∙ ap (λ (xs : List ℕ). if b.is_over then Closed else Kept kind xs whole) held in
+    let from : body_in p h ≡ (if is_closed b then Closed else Kept kind (own_held a ++ more) whole) =
+    ap (λ (x : Option Application). body_in x h) there ∙ ap (λ (x : Asking). if is_closed b then Closed else body_by x (own_held b) h) keeps ∙ ap (λ (xs : List ℕ). if is_closed b then Closed else Kept kind xs whole) held in
     subst (λ (x : Option Application). CannotGoOn whole more key end room d links (body_in x g)) is
-    (subst (λ (x : Asking). CannotGoOn whole more key end room d links (if a.is_over then Closed else body_by x a.held.items g)) (sym asks)
-    (grown b.is_over a.is_over whole was more key end room d links kind a.held.items over (subst (IsTurnedAway key end d links) from why)))
+    (subst (λ (x : Asking). CannotGoOn whole more key end room d links (if is_closed a then Closed else body_by x (own_held a) g)) (sym asks)
+    (grown (is_closed b) (is_closed a) whole was more key end room d links kind (own_held a) over (subst (IsTurnedAway key end d links) from why)))
 
 -- ---- Who holds one
 
@@ -164,7 +165,7 @@ kept_open false x held g h un kept = kept_by x held g h un kept
 -- what is kept is so wherever it would go on
 pub kept_any : (o : Option Application) (g h : Body) → IsUnkept g → IsKept (body_in o g) → body_in o h ≡ body_in o g
 kept_any None g h un kept = refl
-kept_any (Some a) g h un kept = kept_open a.is_over a.asking a.held.items g h un kept
+kept_any (Some a) g h un kept = kept_open (is_closed a) (own_asking a) (own_held a) g h un kept
 
 fits_by : (bytes : List ℕ) (o : Option Link) → option_map (λ (l : Link). fits (queue_in l.out) bytes) o ≡ option_map (λ (p : Queue). fits p bytes) (option_map (λ (l : Link). queue_in l.out) o)
 fits_by bytes None = refl
@@ -274,23 +275,23 @@ begun_if true b kept = absurd kept
 begun_if false b kept = refl
 
 -- one that begins
-pub begun_kept : (o : Option Application) (b : Application) (message : MessageKind) (g : Body) → o ≡ Some b → b.asking ≡ asking.Waits message false → b.held.items ≡ [] → IsKept (body_in o g) → Kept message [] false ≡ body_in o g
+pub begun_kept : (o : Option Application) (b : Application) (message : MessageKind) (g : Body) → o ≡ Some b → own_asking b ≡ asking.Waits message false → own_held b ≡ [] → IsKept (body_in o g) → Kept message [] false ≡ body_in o g
 begun_kept o b message g is asks held kept =
-    let from : body_in o g ≡ (if b.is_over then Closed else Kept message [] false) =
-    ap (λ (x : Option Application). body_in x g) is ∙ ap (λ (x : Asking). if b.is_over then Closed else body_by x b.held.items g) asks ∙ ap (λ (xs : List ℕ). if b.is_over then Closed else Kept message xs false) held in
-    begun_if b.is_over (Kept message [] false) (subst IsKept from kept) ∙ sym from
+    let from : body_in o g ≡ (if is_closed b then Closed else Kept message [] false) =
+    ap (λ (x : Option Application). body_in x g) is ∙ ap (λ (x : Asking). if is_closed b then Closed else body_by x (own_held b) g) asks ∙ ap (λ (xs : List ℕ). if is_closed b then Closed else Kept message xs false) held in
+    begun_if (is_closed b) (Kept message [] false) (subst IsKept from kept) ∙ sym from
 
 asks_if : (over w : Bool) (b : Body) (why : Option FrontFault) (front : Front) (asks : Option Reset) → asks ≢ Some KeepTransaction → IsKept (if over then Closed else b) → ¬ AsksFor KeepTransaction (Some (if over then Over why else Open front w asks))
 asks_if true w b why front asks differs kept = absurd kept
 asks_if false w b why front asks differs kept = differs
 
-asks_none : (key : ℕ) (r : code.Relay) (a : Application) → Some a ≡ get r.applications key → (waits_in a.asking ≡ None) ⊎ (a.reset ≢ Some KeepTransaction) → IsKept (body_of key r) → ¬ AsksFor KeepTransaction (end_at (ends_in r.applications) key)
+asks_none : (key : ℕ) (r : code.Relay) (a : Application) → Some a ≡ get r.applications key → (waits_in (own_asking a) ≡ None) ⊎ (own_reset a ≢ Some KeepTransaction) → IsKept (body_of key r) → ¬ AsksFor KeepTransaction (end_at (ends_in r.applications) key)
 asks_none key r a is (inl none) kept = absurd (no_both (body_of key r) kept (unkept_there key r a is none))
 asks_none key r a is (inr differs) kept =
     subst (λ (o : Option End). ¬ AsksFor KeepTransaction o) (sym (end_there r.applications key a is))
-    (asks_if a.is_over a.is_withdrawn (body_by a.asking a.held.items (going_of key r)) a.fault a.front a.reset differs (subst (λ (o : Option Application). IsKept (body_in o (going_of key r))) (sym is) kept))
+    (asks_if (is_closed a) (took_back a) (body_by (own_asking a) (own_held a) (going_of key r)) (own_fault a) a.front (own_reset a) differs (subst (λ (o : Option Application). IsKept (body_in o (going_of key r))) (sym is) kept))
 
-pub asks_not : (key : ℕ) (r : code.Relay) (a : Application) → Some a ≡ get r.applications key → (waits_in a.asking ≡ None) ⊎ (a.reset ≢ Some KeepTransaction) → IsKept (body_of key r) → ¬ AsksFor KeepTransaction (end_at (ends_in r.applications) key)
+pub asks_not : (key : ℕ) (r : code.Relay) (a : Application) → Some a ≡ get r.applications key → (waits_in (own_asking a) ≡ None) ⊎ (own_reset a ≢ Some KeepTransaction) → IsKept (body_of key r) → ¬ AsksFor KeepTransaction (end_at (ends_in r.applications) key)
 asks_not key r a is why kept = asks_none key r a is why kept
 
 back_if : (over w : Bool) (why : Option FrontFault) (front : Front) (asks : Option Reset) → w ≡ false → ¬ IsTakenBack (Some (if over then Over why else Open front w asks))
@@ -298,8 +299,8 @@ back_if true w why front asks drained back = back
 back_if false w why front asks drained back = (let u : true ≡ false = sym back ∙ drained in let v : ⊥ = cc in v)
 
 -- whoever took nothing back
-pub back_not : (s : Slab Application) (key : ℕ) (a : Application) → Some a ≡ get s key → a.is_withdrawn ≡ false → ¬ IsTakenBack (end_at (ends_in s) key)
-back_not s key a is drained back = back_if a.is_over a.is_withdrawn a.fault a.front a.reset drained (subst IsTakenBack (end_there s key a is) back)
+pub back_not : (s : Slab Application) (key : ℕ) (a : Application) → Some a ≡ get s key → took_back a ≡ false → ¬ IsTakenBack (end_at (ends_in s) key)
+back_not s key a is drained back = back_if (is_closed a) (took_back a) (own_fault a) a.front (own_reset a) drained (subst IsTakenBack (end_there s key a is) back)
 
 -- with what a relay has
 abbrev pub CannotResumeAt : ℕ → code.Relay → Type 0

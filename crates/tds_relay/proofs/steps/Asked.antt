@@ -10,7 +10,7 @@ use Rattle.tds_front.specs.declared.front.Said.{Said}
 use Rattle.tds_front.specs.declared.front.Said.TheVariants as said
 use Rattle.tds_front.specs.Bytes.{fed}
 use Rattle.tds_relay.specs.declared.link.Link.{Link}
-use Rattle.tds_relay.specs.Asking.{AreObeyed, AsksByBytes, Closes, Drains, IfAsks, IsUnderway, Opens, Sends, Soon, Waits, said_of_piece, said_of}
+use Rattle.tds_relay.specs.Asking.{AreObeyed, AsksByBytes, Closes, Drains, IsObeyed, IsUnderway, Opens, Sends, Soon, Waits, said_of_piece, said_of}
 use Rattle.tds_relay.specs.Pool.{Pool}
 use Rattle.tds_relay.specs.Fronts.{ClosesInstead, FedOn, IsFed, Moved, MovedOn, TakesBetween, given_by, core_of_ends, machine_with}
 use Rattle.tds_relay.specs.Core.{End, EndList, Feeds, Core, Move, Moves, Open, change_end, closes, closes_for, end_at, moved, moved_all}
@@ -63,16 +63,7 @@ soon_weaker P Q h (Writes other count ∷ xs) f p = f h.core p
 soon_weaker P Q h (Admits other ends queues ∷ xs) f p = f h.core p
 soon_weaker P Q h (Removes other gives way ∷ xs) f p = f h.core p
 
-if_weaker : (P Q : Bool → Type 0) (answer : Said) → ((whole : Bool) → P whole → Q whole) → IfAsks P answer → IfAsks Q answer
-if_weaker P Q said.Nothing f p = tt
-if_weaker P Q (said.Begin kind reset) f p = f false p
-if_weaker P Q (said.Body count) f p = f false p
-if_weaker P Q (said.End count) f p = f true p
-if_weaker P Q (said.Forget gone) f p = tt
-if_weaker P Q said.Acknowledge f p = tt
-if_weaker P Q said.HandOn f p = tt
-
-module _ (P : Bool → Core → Type 0) (key : ℕ) where
+module _ (P : Said → Core → Type 0) (key : ℕ) where
   none_obeyed : (h : Machine) (moves : List Move) → AreObeyed P key h (makes_all moves)
   none_obeyed h [] = tt
   none_obeyed h (move ∷ moves) = none_obeyed (after h (Makes move)) moves
@@ -80,8 +71,7 @@ module _ (P : Bool → Core → Type 0) (key : ℕ) where
   obeyed_both : (h : Machine) (xs ys : List Step) → AreObeyed P key h xs → AreObeyed P key (after_all h xs) ys → AreObeyed P key h (xs ++ ys)
   obeyed_both h [] ys o p = p
   obeyed_both h (Takes other bytes ∷ xs) ys o p = (
-    if_weaker (λ whole. Soon (P whole) (after h (Takes other bytes)) xs) (λ whole. Soon (P whole) (after h (Takes other bytes)) (xs ++ ys)) (said_of bytes (end_at h.core.ends key))
-        (λ whole. soon_more (P whole) (after h (Takes other bytes)) xs ys) o.0,
+    soon_more (P (said_of bytes (end_at h.core.ends key))) (after h (Takes other bytes)) xs ys o.0,
     obeyed_both (after h (Takes other bytes)) xs ys o.1 p,
   )
   obeyed_both h (Makes move ∷ xs) ys o p = obeyed_both (after h (Makes move)) xs ys o p
@@ -90,11 +80,10 @@ module _ (P : Bool → Core → Type 0) (key : ℕ) where
   obeyed_both h (Admits other ends queues ∷ xs) ys o p = obeyed_both (after h (Admits other ends queues)) xs ys o p
   obeyed_both h (Removes other gives way ∷ xs) ys o p = obeyed_both (after h (Removes other gives way)) xs ys o p
 
-obeyed_weaker : (P Q : Bool → Core → Type 0) (key : ℕ) (h : Machine) (xs : List Step) → ((whole : Bool) (x : Core) → P whole x → Q whole x) → AreObeyed P key h xs → AreObeyed Q key h xs
+obeyed_weaker : (P Q : Said → Core → Type 0) (key : ℕ) (h : Machine) (xs : List Step) → ((answer : Said) (x : Core) → P answer x → Q answer x) → AreObeyed P key h xs → AreObeyed Q key h xs
 obeyed_weaker P Q key h [] f o = tt
 obeyed_weaker P Q key h (Takes other bytes ∷ xs) f o = (
-  if_weaker (λ whole. Soon (P whole) (after h (Takes other bytes)) xs) (λ whole. Soon (Q whole) (after h (Takes other bytes)) xs) (said_of bytes (end_at h.core.ends key))
-      (λ whole. soon_weaker (P whole) (Q whole) (after h (Takes other bytes)) xs (f whole)) o.0,
+  soon_weaker (P (said_of bytes (end_at h.core.ends key))) (Q (said_of bytes (end_at h.core.ends key))) (after h (Takes other bytes)) xs (f (said_of bytes (end_at h.core.ends key))) o.0,
   obeyed_weaker P Q key (after h (Takes other bytes)) xs f o.1,
 )
 obeyed_weaker P Q key h (Makes move ∷ xs) f o = obeyed_weaker P Q key (after h (Makes move)) xs f o
@@ -116,6 +105,15 @@ underway_on whole links next key h opens (Drains hold its back) = Drains hold it
 underway_on whole links next key h opens (Sends sends) = Sends sends
 underway_on whole links next key h opens (Closes deaf) = Closes deaf
 
+obeyed_on : (links next : List Link) (key : ℕ) (answer : Said) (h : Core) → reads.Opens links next → IsObeyed links key answer h → IsObeyed next key answer h
+obeyed_on links next key said.Nothing h opens o = tt
+obeyed_on links next key (said.Begin kind reset) h opens o = underway_on false links next key h opens o
+obeyed_on links next key (said.Body count) h opens o = underway_on false links next key h opens o
+obeyed_on links next key (said.End count) h opens o = underway_on true links next key h opens o
+obeyed_on links next key (said.Forget gone) h opens o = o
+obeyed_on links next key said.Acknowledge h opens o = o
+obeyed_on links next key said.HandOn h opens o = tt
+
 -- ---- Of a call
 
 pub asks_begin : (key : ℕ) (h : Machine) (bytes : List ℕ) (links : List Link) → AsksByBytes key h bytes bytes links h
@@ -131,7 +129,7 @@ asks_left key old new bytes left rest links is a = subst (λ (xs : List ℕ). As
 pub asks_links : (key : ℕ) (old new : Machine) (bytes left : List ℕ) (links next : List Link) → reads.Opens links next → AsksByBytes key old bytes left links new → AsksByBytes key old bytes left next new
 asks_links key old new bytes left links next opens a = record {
   tells = a.tells;
-  obeyed = obeyed_weaker (λ whole. IsUnderway whole links key) (λ whole. IsUnderway whole next key) key old a.tells.steps (λ whole h. underway_on whole links next key h opens) a.obeyed;
+  obeyed = obeyed_weaker (IsObeyed links key) (IsObeyed next key) key old a.tells.steps (λ answer h. obeyed_on links next key answer h opens) a.obeyed;
 }
 
 -- it is to be closed, so the others aren't taken
@@ -142,7 +140,7 @@ asks_deaf key old new bytes left rest links deaf a = record { tells = tells_deaf
 asks_moves : (key : ℕ) (old : Machine) (bytes left : List ℕ) (links : List Link) (h h1 : Core) (ps ps1 : Queues) → Moves (Application key) h h1 → ps1 ≡ ps
     → AsksByBytes key old bytes left links (record { core = h; queues = ps }) → AsksByBytes key old bytes left links (record { core = h1; queues = ps1 })
 asks_moves key old bytes left links h h1 ps ps1 m kept a =
-    let P : Bool → Core → Type 0 = λ whole. IsUnderway whole links key in
+    let P : Said → Core → Type 0 = IsObeyed links key in
     record {
       tells = tells_moves key old bytes left h h1 ps ps1 m kept a.tells;
       obeyed = obeyed_both P key old a.tells.steps (makes_all m.moves) a.obeyed (none_obeyed P key (after_all old a.tells.steps) m.moves);
@@ -157,27 +155,26 @@ asks_moved key old bytes left links h h1 ps ps1 m kept a = asks_moves key old by
 pub said_is : (bytes : List ℕ) (o : Option End) (front : Front) (withdrawn : Bool) (asks : Option Reset) (brings : Result Fed FrontFault) → o ≡ Some (Open front withdrawn asks) → (fed front bytes).brings ≡ brings → said_of bytes o ≡ said_of_piece brings
 said_is bytes o front withdrawn asks brings was says = ap (said_of bytes) was ∙ ap said_of_piece says
 
-module _ (P : Bool → Core → Type 0) (key : ℕ) (left : List ℕ) where
-  one_obeyed : (h : Machine) (moves : List Move) (h1 : Core) → moved_all (moved h.core (Feeds key left)) moves ≡ h1 → IfAsks (λ whole. P whole h1) (said_of left (end_at h.core.ends key))
+module _ (P : Said → Core → Type 0) (key : ℕ) (left : List ℕ) where
+  one_obeyed : (h : Machine) (moves : List Move) (h1 : Core) → moved_all (moved h.core (Feeds key left)) moves ≡ h1 → P (said_of left (end_at h.core.ends key)) h1
       → AreObeyed P key h (Takes key left ∷ makes_all moves)
   one_obeyed h moves h1 are p = (
-    if_weaker (λ whole. P whole h1) (λ whole. Soon (P whole) (after h (Takes key left)) (makes_all moves)) (said_of left (end_at h.core.ends key))
-        (λ whole q. soon_last (P whole) (after h (Takes key left)) moves (subst (P whole) (sym are) q)) p,
+    soon_last (P (said_of left (end_at h.core.ends key))) (after h (Takes key left)) moves (subst (P (said_of left (end_at h.core.ends key))) (sym are) p),
     none_obeyed P key (after h (Takes key left)) moves,
   )
 
   taken_obeyed : (old h : Machine) (xs : List Step) (moves : List Move) (h1 : Core) → after_all old xs ≡ h → moved_all (moved h.core (Feeds key left)) moves ≡ h1
-      → IfAsks (λ whole. P whole h1) (said_of left (end_at h.core.ends key)) → AreObeyed P key old xs → AreObeyed P key old ((xs ++ Takes key left ∷ []) ++ makes_all moves)
+      → P (said_of left (end_at h.core.ends key)) h1 → AreObeyed P key old xs → AreObeyed P key old ((xs ++ Takes key left ∷ []) ++ makes_all moves)
   taken_obeyed old h xs moves h1 e are p o =
       subst (AreObeyed P key old) (sym (append_assoc xs (Takes key left ∷ []) (makes_all moves)))
       (obeyed_both P key old xs (Takes key left ∷ makes_all moves) o (subst (λ (x : Machine). AreObeyed P key x (Takes key left ∷ makes_all moves)) (sym e) (one_obeyed h moves h1 are p)))
 
 asks_taken : (key : ℕ) (old : Machine) (bytes left rest : List ℕ) (links : List Link) (h : Machine) (h1 : Core) (ps1 : Queues) (front : Front) (withdrawn : Bool) (asks : Option Reset) → end_at h.core.ends key ≡ Some (Open front withdrawn asks)
     → bytes_left_by left (end_at h.core.ends key) ≡ rest → change key (put_some (owed left (end_at h.core.ends key))) h.queues ≡ ps1 → Moves (Application key) (moved h.core (Feeds key left)) h1
-    → IfAsks (λ whole. IsUnderway whole links key h1) (said_of left (end_at h.core.ends key)) → AsksByBytes key old bytes left links h → AsksByBytes key old bytes rest links (record { core = h1; queues = ps1 })
+    → IsObeyed links key (said_of left (end_at h.core.ends key)) h1 → AsksByBytes key old bytes left links h → AsksByBytes key old bytes rest links (record { core = h1; queues = ps1 })
 asks_taken key old bytes left rest links h h1 ps1 front withdrawn asks opened left_is waits m p a = record {
   tells = tells_moves key old bytes rest (moved h.core (Feeds key left)) h1 ps1 ps1 m refl (tells_takes key old bytes left rest h ps1 front withdrawn asks opened left_is waits a.tells);
-  obeyed = taken_obeyed (λ whole. IsUnderway whole links key) key left old h a.tells.steps m.moves h1 a.tells.are m.are p a.obeyed;
+  obeyed = taken_obeyed (IsObeyed links key) key left old h a.tells.steps m.moves h1 a.tells.are m.are p a.obeyed;
 }
 
 -- ---- As it is done
@@ -191,7 +188,7 @@ asks_refused key old bytes left rest links h h1 ps1 front withdrawn asks fault o
     asks_moved key old bytes rest links closed h1 h.queues ps1 m kept
     (asks_deaf key old (record { core = closed; queues = h.queues }) bytes (bytes_left_by left (end_at h.core.ends key)) rest links (deaf_for (Some fault) key h.core.ends)
     (asks_taken key old bytes left (bytes_left_by left (end_at h.core.ends key)) links h closed h.queues front withdrawn asks opened refl waits moves
-    (subst (IfAsks (λ whole. IsUnderway whole links key closed)) (sym (said_is left (end_at h.core.ends key) front withdrawn asks (Err fault) opened says)) tt) a))
+    (subst (λ (s : Said). IsObeyed links key s closed) (sym (said_is left (end_at h.core.ends key) front withdrawn asks (Err fault) opened says)) tt) a))
 
 pub asks_expelled : {A E : Type 0} (r : Result A E) (key : ℕ) (old : Machine) (bytes left rest : List ℕ) (links next : List Link) (d : Pool) (es : EndList) (ps ps1 : Queues) (h1 : Core) → AsksByBytes key old bytes left links (machine_with d es ps)
     → OnOk r (Moved (Application key) (core_of_ends d (change_end key closes es)) h1) → OnOk r (ps1 ≡ ps) → OnOk r (reads.LinksStay links next) → OnOk r (AsksByBytes key old bytes rest next (record { core = h1; queues = ps1 }))
@@ -203,7 +200,7 @@ asks_expelled (Ok x) key old bytes left rest links next d es ps ps1 h1 a m kept 
 asks_expelled (Err e) key old bytes left rest links next d es ps ps1 h1 a m kept stays = tt
 
 asks_between : (key : ℕ) (old : Machine) (bytes left rest : List ℕ) (links : List Link) (d : Pool) (before now : EndList) (ps ps1 : Queues) (h1 : Core) (answer : Said) → (f : IsFed key before now left answer)
-    → TakesBetween key (core_of_ends d before) left h1 ⊎ ClosesInstead key answer (core_of_ends d before) h1 → IfAsks (λ whole. IsUnderway whole links key h1) answer → rest ≡ drop f.count left → ps1 ≡ given_by key answer ps
+    → TakesBetween key (core_of_ends d before) left h1 ⊎ ClosesInstead key answer (core_of_ends d before) h1 → IsObeyed links key answer h1 → rest ≡ drop f.count left → ps1 ≡ given_by key answer ps
     → AsksByBytes key old bytes left links (machine_with d before ps) → AsksByBytes key old bytes rest links (record { core = h1; queues = ps1 })
 asks_between key old bytes left rest links d before now ps ps1 h1 answer f (inl b) p is given a =
     let same : end_at b.mid.ends key ≡ end_at before key = ap (λ (es : EndList). end_at es key) b.same in
@@ -211,14 +208,14 @@ asks_between key old bytes left rest links d before now ps ps1 h1 answer f (inl 
     (ap (bytes_left_by left) same ∙ left_fed key before now left answer f ∙ sym is)
     (ap (λ (o : Option End). change key (put_some (owed left o)) ps) same ∙ waits_fed key before now left answer ps f ∙ sym given)
     b.next
-    (subst (IfAsks (λ whole. IsUnderway whole links key h1)) (sym (said_is left (end_at b.mid.ends key) f.front f.withdrawn f.asks (Ok (record { count = f.count; said = answer })) (same ∙ f.was) f.says)) p)
+    (subst (λ (s : Said). IsObeyed links key s h1) (sym (said_is left (end_at b.mid.ends key) f.front f.withdrawn f.asks (Ok (record { count = f.count; said = answer })) (same ∙ f.was) f.says)) p)
     (asks_moves key old bytes left links (core_of_ends d before) b.mid ps ps b.first refl a)
 asks_between key old bytes left rest links d before now ps ps1 h1 answer f (inr k) p is given a =
     asks_deaf key old (record { core = h1; queues = ps1 }) bytes left rest links k.deaf
     (asks_moves key old bytes left links (core_of_ends d before) h1 ps ps1 k.moves (given ∙ k.nothing ps) a)
 
 pub asks_fed : (key : ℕ) (old : Machine) (bytes left rest : List ℕ) (links next : List Link) (d : Pool) (before now : EndList) (ps ps1 : Queues) (h1 : Core) (answer : Said) → FedOn key answer d now h1 → (f : IsFed key before now left answer)
-    → IfAsks (λ whole. IsUnderway whole next key h1) answer → reads.LinksStay links next → rest ≡ drop f.count left → ps1 ≡ given_by key answer ps → AsksByBytes key old bytes left links (machine_with d before ps)
+    → IsObeyed next key answer h1 → reads.LinksStay links next → rest ≡ drop f.count left → ps1 ≡ given_by key answer ps → AsksByBytes key old bytes left links (machine_with d before ps)
     → AsksByBytes key old bytes rest next (record { core = h1; queues = ps1 })
 asks_fed key old bytes left rest links next d before now ps ps1 h1 answer on f p stays is given a =
     asks_between key old bytes left rest next d before now ps ps1 h1 answer f (on before left f) p is given (asks_links key old (machine_with d before ps) bytes left links next (stays_opens links next stays) a)

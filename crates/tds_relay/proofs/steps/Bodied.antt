@@ -6,8 +6,8 @@ use Rattle.std.specs.Prelude.{Result, Ok, Err, OnOk}
 use Rattle.tds_front.specs.declared.fault.FrontFault.{FrontFault}
 use Rattle.slab.specs.Slab.{Slab, get, with_value}
 use Rattle.tds_relay.specs.declared.application.Application.{Application}
-use Rattle.tds_relay.specs.declared.application.Asking.{Asking}
-use Rattle.tds_relay.specs.declared.application.Asking.TheVariants as asking
+use Rattle.tds_relay.specs.declared.state.Asking.{Asking}
+use Rattle.tds_relay.specs.declared.state.Asking.TheVariants as asking
 use Rattle.tds_relay.specs.Bodies.{AskAsBefore, AskOn, Body, Closed, Closes, Grows, Nowhere, Shuts, Spared, Starts, Stays, body_by, body_in}
 use Rattle.tds_relay.specs.Fronts.{own_end, ends_in}
 use Rattle.tds_relay.specs.Core.{End, EndList, Open, Over, change_end, closes, end_at}
@@ -15,6 +15,7 @@ use Rattle.tds_relay.specs.Taking.{IsDeaf}
 use Rattle.tds_relay.proofs.steps.Fronts.{end_is}
 use Rattle.tds_relay.proofs.steps.Told.{deaf_closed}
 use Rattle.tds_relay.proofs.steps.Underway.{written_there}
+use Rattle.tds_relay.specs.Places.{is_closed, own_asking, own_fault, own_held, own_reset, took_back}
 
 -- ---- One is written back
 
@@ -38,9 +39,9 @@ asks_spared s key a b is same =
     let P : Option Application → Option Application → Type 0 = λ old new. (goes : Body) → Spared (body_in old goes) (body_in new goes) in
     each_written P (λ o goes. inl refl) s key a b is same
 
-pub asks_closed : (s : Slab Application) (key : ℕ) (a b : Application) → Some a ≡ get s key → b.is_over ≡ true → AskOn s (with_value s key b)
+pub asks_closed : (s : Slab Application) (key : ℕ) (a b : Application) → Some a ≡ get s key → is_closed b ≡ true → AskOn s (with_value s key b)
 asks_closed s key a b is over =
-    let shuts : (goes : Body) → body_in (Some b) goes ≡ Closed = λ goes. ap (λ (o : Bool). if o then Closed else body_in (Some (record b { is_over = false })) goes) over in
+    let shuts : (goes : Body) → body_in (Some b) goes ≡ Closed = λ goes. ap (λ (o : Bool). if o then Closed else body_by (own_asking b) (own_held b) goes) over in
     asks_spared s key a b is (λ goes. inr (shuts goes))
 
 pub there_body : (s : Slab Application) (key : ℕ) (a : Application) (goes : Body) → Some a ≡ get s key → body_in (get s key) goes ≡ body_in (Some a) goes
@@ -92,7 +93,7 @@ shut_by why false end x deaf not = absurd (not deaf)
 
 shut_in : (o : Option Application) (goes : Body) → IsDeaf (option_map own_end o) → body_in o goes ≡ Closed
 shut_in None goes deaf = refl
-shut_in (Some a) goes deaf = shut_by a.fault a.is_over (Open a.front a.is_withdrawn a.reset) (body_in (Some (record a { is_over = false })) goes) deaf (λ none. none)
+shut_in (Some a) goes deaf = shut_by (own_fault a) (is_closed a) (Open a.front (took_back a) (own_reset a)) (body_by (own_asking a) (own_held a) goes) deaf (λ none. none)
 
 pub shut : (s : Slab Application) (key : ℕ) (goes : Body) → IsDeaf (end_at (ends_in s) key) → body_in (get s key) goes ≡ Closed
 shut s key goes deaf = shut_in (get s key) goes (subst IsDeaf (end_is s key) deaf)
@@ -112,9 +113,14 @@ nothing_by : (over : Bool) → Starts Nowhere (if over then Closed else Nowhere)
 nothing_by true = Closes
 nothing_by false = Stays
 
-pub nothing_starts : (s : Slab Application) (key : ℕ) (a b : Application) (goes : Body) → Some a ≡ get s key → b.asking ≡ asking.Nothing → Starts Nowhere (body_in (get (with_value s key b) key) goes)
+-- by what it asks, where it isn't to be closed
+pub by_asking : (over : Bool) (x y : Asking) (held : List ℕ) (goes : Body) → (over ≡ false → x ≡ y) → (if over then Closed else body_by x held goes) ≡ (if over then Closed else body_by y held goes)
+by_asking true x y held goes same = refl
+by_asking false x y held goes same = ap (λ (z : Asking). body_by z held goes) (same refl)
+
+pub nothing_starts : (s : Slab Application) (key : ℕ) (a b : Application) (goes : Body) → Some a ≡ get s key → (is_closed b ≡ false → own_asking b ≡ asking.Nothing) → Starts Nowhere (body_in (get (with_value s key b) key) goes)
 nothing_starts s key a b goes is nothing =
-    subst (Starts Nowhere) (sym (written_body s key a b goes is ∙ ap (λ (x : Asking). if b.is_over then Closed else body_by x b.held.items goes) nothing)) (nothing_by b.is_over)
+    subst (Starts Nowhere) (sym (written_body s key a b goes is ∙ by_asking (is_closed b) (own_asking b) asking.Nothing (own_held b) goes nothing)) (nothing_by (is_closed b))
 
 forgot_by : (a b : Body) → Starts Nowhere a → Spared a b → Starts Nowhere b
 forgot_by a b s (inl e) = subst (Starts Nowhere) (sym e) s

@@ -22,6 +22,7 @@ use Rattle.tds_relay.specs.Ties.{Turns}
 use Rattle.tds_relay.specs.Taking.{count_by, bytes_left_by}
 use Rattle.tds_relay.proofs.steps.Fronts.{changed_both, end_is, same_core}
 use Rattle.tds_relay.proofs.steps.Handed.{nothing_put}
+use Rattle.tds_relay.specs.Places.{is_closed, own_fault, own_reset, took_back}
 
 -- ---- The move
 
@@ -132,22 +133,22 @@ end_there s key a is = end_is s key ∙ ap (option_map own_end) (sym is)
 pub ends_written : (s : Slab Application) (key : ℕ) (a : Application) → ends_in (with_value s key a) ≡ slice_set (ends_in s) key (Some (own_end a))
 ends_written s key a = map-set (option_map own_end) s.slots key (Some a)
 
-pub end_open : (a : Application) → a.is_over ≡ false → own_end a ≡ Open a.front a.is_withdrawn a.reset
-end_open a over = ap (λ (b : Bool). if b then Over a.fault else Open a.front a.is_withdrawn a.reset) over
+pub end_open : (a : Application) → is_closed a ≡ false → own_end a ≡ Open a.front (took_back a) (own_reset a)
+end_open a over = ap (λ (b : Bool). if b then Over (own_fault a) else Open a.front (took_back a) (own_reset a)) over
 
-abbrev pub is_fed : (key : ℕ) (s : Slab Application) (a b : Application) (bytes : List ℕ) (count : ℕ) (answer : Said) → Some a ≡ get s key → a.is_over ≡ false → b.is_over ≡ false
-    → b.is_withdrawn ≡ a.is_withdrawn → b.reset ≡ asks_by answer a.reset → b.front ≡ (fed a.front bytes).front → Ok (record { count = count; said = answer }) ≡ (fed a.front bytes).brings → IsFed key (ends_in s) (ends_in (with_value s key b)) bytes answer
+abbrev pub is_fed : (key : ℕ) (s : Slab Application) (a b : Application) (bytes : List ℕ) (count : ℕ) (answer : Said) → Some a ≡ get s key → is_closed a ≡ false → is_closed b ≡ false
+    → took_back b ≡ took_back a → own_reset b ≡ asks_by answer (own_reset a) → b.front ≡ (fed a.front bytes).front → Ok (record { count = count; said = answer }) ≡ (fed a.front bytes).brings → IsFed key (ends_in s) (ends_in (with_value s key b)) bytes answer
 is_fed key s a b bytes count answer is begins still withdrawn asks front says = record {
   front = a.front;
-  withdrawn = a.is_withdrawn;
-  asks = a.reset;
+  withdrawn = took_back a;
+  asks = own_reset a;
   count = count;
   was = end_there s key a is ∙ ap Some (end_open a begins);
   says = sym says;
   is =
       ends_written s key b
-      ∙ ap (λ (e : End). slice_set (ends_in s) key (Some e)) (end_open b still ∙ ap (λ (f : Front). Open f b.is_withdrawn b.reset) front
-      ∙ ap (λ (w : Bool). Open (fed a.front bytes).front w b.reset) withdrawn ∙ ap (λ (x : Option Reset). Open (fed a.front bytes).front a.is_withdrawn x) asks);
+      ∙ ap (λ (e : End). slice_set (ends_in s) key (Some e)) (end_open b still ∙ ap (λ (f : Front). Open f (took_back b) (own_reset b)) front
+      ∙ ap (λ (w : Bool). Open (fed a.front bytes).front w (own_reset b)) withdrawn ∙ ap (λ (x : Option Reset). Open (fed a.front bytes).front (took_back a) x) asks);
 }
 
 pub is_there : (s : Slab Application) (key : ℕ) (a : Application) → Some a ≡ get s key → IsEndThere (end_at (ends_in s) key)

@@ -27,6 +27,7 @@ use Rattle.tds_relay.specs.Promises.{Each}
 use Rattle.tds_relay.specs.Ties as causes
 use Rattle.tds_relay.specs.Ties.{Cause, Causes, Turns}
 use Rattle.tds_relay.proofs.steps.Seen.{seen_changed, seen_is, seen_kept, seen_new, seen_nobody, seen_others, seen_quit}
+use Rattle.tds_relay.specs.Places.{is_closed, own_fault, own_reset, took_back}
 
 -- ---- The ends of all, where one of them changes
 
@@ -157,8 +158,8 @@ asked_if : (b : Bool) (why : Option FrontFault) (front : Front) (withdrawn : Boo
 asked_if true why front withdrawn asks = tt
 asked_if false why front withdrawn asks = refl
 
-pub asked_there : (s : Slab Application) (key : ℕ) (a : Application) → Some a ≡ get s key → IfAsked a.reset (end_at (ends_in s) key)
-asked_there s key a is = subst (IfAsked a.reset) (sym (end_is s key ∙ ap (option_map own_end) (sym is))) (asked_if a.is_over a.fault a.front a.is_withdrawn a.reset)
+pub asked_there : (s : Slab Application) (key : ℕ) (a : Application) → Some a ≡ get s key → IfAsked (own_reset a) (end_at (ends_in s) key)
+asked_there s key a is = subst (IfAsked (own_reset a)) (sym (end_is s key ∙ ap (option_map own_end) (sym is))) (asked_if (is_closed a) (own_fault a) a.front (took_back a) (own_reset a))
 
 -- ---- Moves, one behind the other
 

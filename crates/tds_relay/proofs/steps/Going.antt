@@ -8,8 +8,8 @@ use Rattle.tds_client.specs.Streams.{finished, opened, packets_are, put}
 use Rattle.tds_service.specs.Table.{DoesAt, BeginsMessage}
 use Rattle.tds_relay.specs.Reads.{waits_on}
 use Rattle.tds_relay.specs.declared.application.Application.{Application}
-use Rattle.tds_relay.specs.declared.application.Asking.{Asking}
-use Rattle.tds_relay.specs.declared.application.Asking.TheVariants as asking
+use Rattle.tds_relay.specs.declared.state.Asking.{Asking}
+use Rattle.tds_relay.specs.declared.state.Asking.TheVariants as asking
 use Rattle.tds_relay.specs.declared.pool.Pool as pools
 use Rattle.tds_relay.specs.declared.pool.Hold.{Hold}
 use Rattle.tds_relay.specs.declared.link.Link.{Link}
@@ -20,6 +20,8 @@ use Rattle.tds_relay.specs.Pool.{Pool, Action, holder_does, find_key}
 use Rattle.tds_relay.specs.Sparing as sparing
 use Rattle.tds_relay.specs.Sparing.{StartsBehind}
 use Rattle.tds_relay.specs.Ties.{Turns}
+use Rattle.tds_relay.specs.Places.{is_closed, own_asking, own_held}
+use Rattle.tds_relay.proofs.steps.Bodied.{by_asking}
 
 -- ---- At the pool
 
@@ -97,26 +99,26 @@ both_by : (whole : Bool) (more : List ℕ) (over : Bool) (a b : Body) → Grows 
 both_by whole more true a b g = Shuts
 both_by whole more false a b g = g
 
-asked_is : (a : Application) (goes : Body) → a.asking ≡ asking.Goes → body_in (Some a) goes ≡ (if a.is_over then Closed else goes)
-asked_is a goes is = ap (λ (x : Asking). if a.is_over then Closed else body_by x a.held.items goes) is
+asked_is : (a : Application) (goes : Body) → (is_closed a ≡ false → own_asking a ≡ asking.Goes) → body_in (Some a) goes ≡ (if is_closed a then Closed else goes)
+asked_is a goes is = by_asking (is_closed a) (own_asking a) asking.Goes (own_held a) goes is
 
 -- it was asked just before
-pub grows_asked : (whole : Bool) (more : List ℕ) (o n : Option Application) (g h : Body) (b : Application) → o ≡ Some b → b.asking ≡ asking.Goes
+pub grows_asked : (whole : Bool) (more : List ℕ) (o n : Option Application) (g h : Body) (b : Application) → o ≡ Some b → (is_closed b ≡ false → own_asking b ≡ asking.Goes)
     → (body_in n h ≡ Closed) ⊎ (((goes : Body) → body_in n goes ≡ body_in o goes) × Grows whole more g h) → Grows whole more g (body_in n h)
 grows_asked whole more o n g h b is asked (inl shut) = subst (Grows whole more g) (sym shut) Shuts
 grows_asked whole more o n g h b is asked (inr (same, grows)) =
-    subst (Grows whole more g) (sym (same h ∙ ap (λ (x : Option Application). body_in x h) is ∙ asked_is b h asked)) (asked_by whole more b.is_over g h grows)
+    subst (Grows whole more g) (sym (same h ∙ ap (λ (x : Option Application). body_in x h) is ∙ asked_is b h asked)) (asked_by whole more (is_closed b) g h grows)
 
 -- it goes on
-pub grows_going : (whole : Bool) (more : List ℕ) (o m n : Option Application) (f g h : Body) (a b : Application) → Some a ≡ m → o ≡ Some b → a.asking ≡ asking.Goes → b.asking ≡ asking.Goes → b.is_over ≡ a.is_over → f ≡ g
+pub grows_going : (whole : Bool) (more : List ℕ) (o m n : Option Application) (f g h : Body) (a b : Application) → Some a ≡ m → o ≡ Some b → own_asking a ≡ asking.Goes → own_asking b ≡ asking.Goes → is_closed b ≡ is_closed a → f ≡ g
     → (body_in n h ≡ Closed) ⊎ (((goes : Body) → body_in n goes ≡ body_in o goes) × Grows whole more g h) → Grows whole more (body_in m f) (body_in n h)
 grows_going whole more o m n f g h a b there is asks asked over same_goes (inl shut) = subst (Grows whole more (body_in m f)) (sym shut) Shuts
 grows_going whole more o m n f g h a b there is asks asked over same_goes (inr (same, grows)) =
-    let was : body_in m f ≡ (if b.is_over then Closed else g) =
-    ap (λ (x : Option Application). body_in x f) (sym there) ∙ asked_is a f asks ∙ ap (λ (x : Body). if a.is_over then Closed else x) same_goes ∙ ap (λ (x : Bool). if x then Closed else g) (sym over) in
-    let now : body_in n h ≡ (if b.is_over then Closed else h) = same h ∙ ap (λ (x : Option Application). body_in x h) is ∙ asked_is b h asked in
+    let was : body_in m f ≡ (if is_closed b then Closed else g) =
+    ap (λ (x : Option Application). body_in x f) (sym there) ∙ asked_is a f (λ here. asks) ∙ ap (λ (x : Body). if is_closed a then Closed else x) same_goes ∙ ap (λ (x : Bool). if x then Closed else g) (sym over) in
+    let now : body_in n h ≡ (if is_closed b then Closed else h) = same h ∙ ap (λ (x : Option Application). body_in x h) is ∙ asked_is b h (λ here. asked) in
     subst (λ (x : Body). Grows whole more x (body_in n h)) (sym was)
-    (subst (Grows whole more (if b.is_over then Closed else g)) (sym now) (both_by whole more b.is_over g h grows))
+    (subst (Grows whole more (if is_closed b then Closed else g)) (sym now) (both_by whole more (is_closed b) g h grows))
 
 -- ---- It waits
 
@@ -124,28 +126,28 @@ kept_by : (over : Bool) (kind : MessageKind) (bytes more : List ℕ) (was whole 
 kept_by true kind bytes more was whole = Shuts
 kept_by false kind bytes more was whole = Keeps
 
-pub waits_is : (a : Application) (goes : Body) (kind : MessageKind) (whole : Bool) → a.asking ≡ asking.Waits kind whole → body_in (Some a) goes ≡ (if a.is_over then Closed else Kept kind a.held.items whole)
-waits_is a goes kind whole is = ap (λ (x : Asking). if a.is_over then Closed else body_by x a.held.items goes) is
+pub waits_is : (a : Application) (goes : Body) (kind : MessageKind) (whole : Bool) → own_asking a ≡ asking.Waits kind whole → body_in (Some a) goes ≡ (if is_closed a then Closed else Kept kind (own_held a) whole)
+waits_is a goes kind whole is = ap (λ (x : Asking). if is_closed a then Closed else body_by x (own_held a) goes) is
 
 -- with these bytes behind the others
-pub grows_kept : (whole : Bool) (more : List ℕ) (m n : Option Application) (g h : Body) (a b : Application) (kind : MessageKind) (was : Bool) → Some a ≡ m → n ≡ Some b → a.asking ≡ asking.Waits kind was → b.asking ≡ asking.Waits kind whole
-    → b.is_over ≡ a.is_over → b.held.items ≡ a.held.items ++ more → Grows whole more (body_in m g) (body_in n h)
+pub grows_kept : (whole : Bool) (more : List ℕ) (m n : Option Application) (g h : Body) (a b : Application) (kind : MessageKind) (was : Bool) → Some a ≡ m → n ≡ Some b → own_asking a ≡ asking.Waits kind was → own_asking b ≡ asking.Waits kind whole
+    → is_closed b ≡ is_closed a → own_held b ≡ own_held a ++ more → Grows whole more (body_in m g) (body_in n h)
 grows_kept whole more m n g h a b kind was there is asks asked over held =
-    let from : body_in m g ≡ (if a.is_over then Closed else Kept kind a.held.items was) = ap (λ (x : Option Application). body_in x g) (sym there) ∙ waits_is a g kind was asks in
-    let to : body_in n h ≡ (if a.is_over then Closed else Kept kind (a.held.items ++ more) whole) =
-    ap (λ (x : Option Application). body_in x h) is ∙ waits_is b h kind whole asked ∙ ap (λ (x : Bool). if x then Closed else Kept kind b.held.items whole) over
-    ∙ ap (λ (xs : List ℕ). if a.is_over then Closed else Kept kind xs whole) held in
+    let from : body_in m g ≡ (if is_closed a then Closed else Kept kind (own_held a) was) = ap (λ (x : Option Application). body_in x g) (sym there) ∙ waits_is a g kind was asks in
+    let to : body_in n h ≡ (if is_closed a then Closed else Kept kind (own_held a ++ more) whole) =
+    ap (λ (x : Option Application). body_in x h) is ∙ waits_is b h kind whole asked ∙ ap (λ (x : Bool). if x then Closed else Kept kind (own_held b) whole) over
+    ∙ ap (λ (xs : List ℕ). if is_closed a then Closed else Kept kind xs whole) held in
     subst (λ (x : Body). Grows whole more x (body_in n h)) (sym from)
-    (subst (Grows whole more (if a.is_over then Closed else Kept kind a.held.items was)) (sym to) (kept_by a.is_over kind a.held.items more was whole))
+    (subst (Grows whole more (if is_closed a then Closed else Kept kind (own_held a) was)) (sym to) (kept_by (is_closed a) kind (own_held a) more was whole))
 
 begun_by : (over : Bool) (kind : Kind) (message : MessageKind) → packets_are message ≡ kind → BeginsBody kind (if over then Closed else Kept message [] false)
 begun_by true kind message is = Refuses
 begun_by false kind message is = Asks message is
 
 -- with nothing of it yet
-pub begun : (n : Option Application) (h : Body) (b : Application) (kind : Kind) (message : MessageKind) → n ≡ Some b → b.asking ≡ asking.Waits message false → b.held.items ≡ [] → packets_are message ≡ kind → BeginsBody kind (body_in n h)
+pub begun : (n : Option Application) (h : Body) (b : Application) (kind : Kind) (message : MessageKind) → n ≡ Some b → own_asking b ≡ asking.Waits message false → own_held b ≡ [] → packets_are message ≡ kind → BeginsBody kind (body_in n h)
 begun n h b kind message is asked held packets =
-    subst (BeginsBody kind) (sym (ap (λ (x : Option Application). body_in x h) is ∙ waits_is b h message false asked ∙ ap (λ (xs : List ℕ). if b.is_over then Closed else Kept message xs false) held)) (begun_by b.is_over kind message packets)
+    subst (BeginsBody kind) (sym (ap (λ (x : Option Application). body_in x h) is ∙ waits_is b h message false asked ∙ ap (λ (xs : List ℕ). if is_closed b then Closed else Kept message xs false) held)) (begun_by (is_closed b) kind message packets)
 
 -- wherever it would go on
 waits_by : (x : Asking) (whole : Bool) (held : List ℕ) (g h : Body) → waits_in x ≡ Some whole → body_by x held g ≡ body_by x held h
@@ -155,7 +157,7 @@ waits_by asking.Goes whole held g h e = absurd (let u : ⊥ = cc in u)
 
 pub waits_any : (o : Option Application) (whole : Bool) (g h : Body) → waits_of o ≡ Some whole → body_in o g ≡ body_in o h
 waits_any None whole g h e = refl
-waits_any (Some a) whole g h e = ap (λ (x : Body). if a.is_over then Closed else x) (waits_by a.asking whole a.held.items g h e)
+waits_any (Some a) whole g h e = ap (λ (x : Body). if is_closed a then Closed else x) (waits_by (own_asking a) whole (own_held a) g h e)
 
 pub waits_spared : (m n : Option Application) (whole : Bool) (g h x : Body) → waits_of m ≡ Some whole → Spared (body_in m h) (body_in n h) → x ≡ body_in n h → Spared (body_in m g) x
 waits_spared m n whole g h x e spared is = subst (λ (b : Body). Spared b x) (waits_any m whole h g e) (subst (Spared (body_in m h)) (sym is) spared)
@@ -164,9 +166,9 @@ pub waits_from : (m n : Option Application) (whole : Bool) (g h x : Body) → wa
 waits_from m n whole g h x e same s = subst (λ (b : Body). Starts b x) (ap (λ (o : Option Application). body_in o h) same ∙ waits_any m whole h g e) s
 
 -- as it is kept
-pub kept_at : (m : Option Application) (g : Body) (a : Application) (kind : MessageKind) (whole : Bool) → Some a ≡ m → a.is_over ≡ false → a.asking ≡ asking.Waits kind whole → body_in m g ≡ Kept kind (held_of m) whole
+pub kept_at : (m : Option Application) (g : Body) (a : Application) (kind : MessageKind) (whole : Bool) → Some a ≡ m → is_closed a ≡ false → own_asking a ≡ asking.Waits kind whole → body_in m g ≡ Kept kind (held_of m) whole
 kept_at m g a kind whole there here asks =
-    ap (λ (x : Option Application). body_in x g) (sym there) ∙ waits_is a g kind whole asks ∙ ap (λ (x : Bool). if x then Closed else Kept kind a.held.items whole) here
+    ap (λ (x : Option Application). body_in x g) (sym there) ∙ waits_is a g kind whole asks ∙ ap (λ (x : Bool). if x then Closed else Kept kind (own_held a) whole) here
     ∙ ap (λ (x : Option Application). Kept kind (held_of x) whole) there
 
 -- ---- It starts

@@ -16,8 +16,8 @@ use Rattle.tds_service.specs.Service.{Did, Seat, Service, acts, acts_unless, fin
 use Rattle.tds_service.specs.Table.{CancelsOut, client_by, seat_in, seats_in, service_in}
 use Rattle.tds_service.specs.Ties.{cancel_out}
 use Rattle.tds_relay.specs.declared.application.Application.{Application}
-use Rattle.tds_relay.specs.declared.application.Asking.{Asking}
-use Rattle.tds_relay.specs.declared.application.Asking.TheVariants as asking
+use Rattle.tds_relay.specs.declared.state.Asking.{Asking}
+use Rattle.tds_relay.specs.declared.state.Asking.TheVariants as asking
 use Rattle.tds_relay.specs.declared.pool.Pool as pools
 use Rattle.tds_relay.specs.declared.pool.Hold.{Hold}
 use Rattle.tds_relay.specs.declared.link.Link.{Link}
@@ -32,6 +32,7 @@ use Rattle.tds_relay.proofs.steps.Bodied.{shut}
 use Rattle.tds_relay.proofs.steps.Going.{waits_behind}
 use Rattle.tds_relay.proofs.steps.Sent.{found_changed}
 use Rattle.tds_relay.proofs.steps.Tied.{spared_closed, stays_closed}
+use Rattle.tds_relay.specs.Places.{is_closed, own_asking, own_held}
 
 -- ---- The client is there behind a cancel
 
@@ -102,7 +103,7 @@ halts_asked false asking.Goes held g h s = s
 
 halts_in : (o : Option Application) (g h : Body) → Halts g h → Halts (body_in o g) (body_in o h)
 halts_in None g h s = ByClosing
-halts_in (Some a) g h s = halts_asked a.is_over a.asking a.held.items g h s
+halts_in (Some a) g h s = halts_asked (is_closed a) (own_asking a) (own_held a) g h s
 
 pub halted : (key number : ℕ) (old mid new : code.Relay) → IsHalting number key old mid → mid.links.items ≡ old.links.items → AskAsBefore old.applications mid.applications → StopsOn number key mid new
     → Halts (body_of key old) (body_of key new)
@@ -147,7 +148,7 @@ cancelled_asked false asking.Goes held g new shut s = s
 
 pub cancelled_in : (o : Option Application) (g : Body) (new : BodyAndWaits) → (body_in o g ≡ Closed → new.0 ≡ Closed) → IsStoppedOnce g new → IsStoppedOnce (body_in o g) new
 cancelled_in None g new shut s = shut refl
-cancelled_in (Some a) g new shut s = cancelled_asked a.is_over a.asking a.held.items g new shut s
+cancelled_in (Some a) g new shut s = cancelled_asked (is_closed a) (own_asking a) (own_held a) g new shut s
 
 going_same : (key : ℕ) (d e : pools.Pool) (ls ms : List Link) → e.holds ≡ d.holds → e.service ≡ d.service → ms ≡ ls → going e.service ms (find_key key e.holds.items) ≡ going d.service ls (find_key key d.holds.items)
 going_same key d e ls ms holds service links =

@@ -1,5 +1,5 @@
 -- What an application takes back is cancelled: so it is of pieces one behind the other.
-use Rattle.std.proofs.Common.{Bool, true, false, ◌≡◌, ◌∙◌, ◌⊎◌, ◌++◌, ℕ, List, [], ◌∷◌, Option, Some, None, refl, sym, ap, subst, inl, inr, drop, append_assoc}
+use Rattle.std.proofs.Common.{Bool, true, false, ◌≡◌, ◌∙◌, ◌⊎◌, ◌++◌, ◌≤◌, arith, ℕ, List, [], ◌∷◌, Option, Some, None, refl, sym, ap, subst, inl, inr, drop, append_assoc}
 use Rattle.std.specs.Prelude.{Result, Ok, Err, OnOk, take}
 use Rattle.tds_packet.specs.declared.status.Reset.{Reset}
 use Rattle.tds_front.specs.declared.fault.FrontFault.{FrontFault}
@@ -9,18 +9,17 @@ use Rattle.tds_front.specs.declared.front.Said.{Said}
 use Rattle.tds_front.specs.declared.front.Said.TheVariants as said
 use Rattle.tds_front.specs.Bytes.{fed}
 use Rattle.tds_relay.specs.Asking.{said_of}
-use Rattle.tds_relay.specs.Bodies.{AreHeeded, BodyAndWaits, Heeds, HeedsAll, HeedsServed, IsClosedAsEnd, RestsFrom, Starts, Stays, body_of, standing_in, standing_open, taken_of}
+use Rattle.tds_relay.specs.Bodies.{AreHeeded, BodyAndWaits, Heeds, HeedsAll, HeedsServed, IsClosedAsEnd, RestsFrom, Starts, Stays, body_of, standing_in, taken_of}
 use Rattle.tds_relay.specs.declared.pool.Hold.{Hold}
 use Rattle.tds_relay.specs.declared.relay.Relay as code
 use Rattle.tds_relay.specs.Pool.{Pool, find_number, key_of}
-use Rattle.tds_relay.specs.Lent.{Keeps, KeepsWaits, Lends, LendsInLine, MayBeLent, OfWaiting}
+use Rattle.tds_relay.specs.Lent.{Keeps, KeepsGiven, KeepsWaits, Lends, LendsInLine, MayBeLent, OfWaiting}
 use Rattle.tds_relay.specs.Fronts.{ClosesInstead, FedOn, IsFed, Moved, MovedOn, TakesBetween, core_in, core_of_ends, given_by, machine_in, machine_with}
 use Rattle.tds_relay.specs.Core.{End, EndList, Feeds, Core, Move, Moves, Open, change_end, closes_for, end_at, is_in, moved}
 use Rattle.tds_relay.specs.Machine.{Machine, Step, Admits, Hands, Makes, Removes, Takes, Writes, after, after_all, owed, put_some}
 use Rattle.tds_relay.specs.Queues.{Queues, change, queues_in}
-use Rattle.tds_packet.specs.Reading.{Reading}
 use Rattle.tds_relay.specs.declared.link.Link.{Link}
-use Rattle.tds_relay.specs.Reads.{FillsAt, Opens as LinksOpen, StaysAt, if_open, open_at, open_waits, waits_on}
+use Rattle.tds_relay.specs.Reads.{FillsAt, StaysAt, waits_on}
 use Rattle.tds_relay.specs.Taking.{IsDeaf, count_by, bytes_left_by}
 use Rattle.tds_relay.specs.Ties.{Application}
 use Rattle.tds_relay.specs.Sparing.{AwayRest}
@@ -168,17 +167,11 @@ pub cancels_fed : (key : ℕ) (old : Machine) (bytes left rest : List ℕ) (a b 
 cancels_fed key old bytes left rest a b c d before now ps ps1 h1 answer on f o is given shut closed t =
     cancels_between key old bytes left rest a b c d before now ps ps1 h1 answer f (on before left f) o is given shut closed t
 
--- ---- And those who wait are served, of which what is open is looked at
+-- ---- And those who wait are served
 
-open_before : (o : Option Reading) (w v : Option (List ℕ)) → FillsAt (if_open o w) v → FillsAt w v
-open_before None w None h = tt
-open_before None w (Some new) h = absurd h
-open_before (Some r) w v h = h
-
-open_same : (o : Option Reading) (w v : Option (List ℕ)) → (v ≡ None) ⊎ (v ≡ w) → StaysAt w (if_open o v)
-open_same None w v h = tt
-open_same (Some r) w v (inl none) = subst (λ (x : Option (List ℕ)). StaysAt w x) (sym none) tt
-open_same (Some r) w v (inr same) = subst (λ (x : Option (List ℕ)). StaysAt w x) (sym same) (same_at w)
+waits_same : (w v : Option (List ℕ)) → (v ≡ None) ⊎ (v ≡ w) → StaysAt w v
+waits_same w v (inl none) = subst (λ (x : Option (List ℕ)). StaysAt w x) (sym none) tt
+waits_same w v (inr same) = subst (λ (x : Option (List ℕ)). StaysAt w x) (sym same) (same_at w)
 
 -- who holds it waits for none
 held_lent : (key number : ℕ) (line : List ℕ) (had : List Hold) (old : List Link) (holds : List Hold) (new : List Link) → is_in key line ≡ false → key_of (find_number number had) ≡ Some key
@@ -189,10 +182,10 @@ held_lent key number line had old holds new away its (OfWaiting hold is waits) =
 held_lent key number line had old holds new away its (Keeps held kept) = kept
 held_lent key number line had old holds new away its (Lends none some) = absurd (let u : None ≡ Some key = sym (ap key_of none) ∙ its in let v : ⊥ = cc in v)
 
-pub cancels_served : {A E : Type 0} (r : Result A E) (key : ℕ) (old : Machine) (bytes : List ℕ) (a : BodyAndWaits) (mid new : code.Relay) → HeedsAll key old bytes [] a (standing_in key mid) (machine_in mid)
-    → OnOk r (MovedOn (core_in mid) (core_in new)) → OnOk r (queues_in new.applications ≡ queues_in mid.applications) → OnOk r (Starts (body_of key mid) (body_of key new)) → OnOk r (AwayRest mid new) → OnOk r (LinksOpen mid.links.items new.links.items)
-    → OnOk r (LendsInLine mid new) → OnOk r (HeedsServed key old bytes a (standing_open key new) (machine_in new))
-cancels_served (Ok x) key old bytes a mid new heeds moves kept starts rest opens lends = record {
+pub cancels_served : {A E : Type 0} (r : Result A E) (key last : ℕ) (old : Machine) (bytes : List ℕ) (a : BodyAndWaits) (mid new : code.Relay) → HeedsAll key old bytes [] a (standing_in key mid) (machine_in mid)
+    → OnOk r (MovedOn (core_in mid) (core_in new)) → OnOk r (queues_in new.applications ≡ queues_in mid.applications) → OnOk r (Starts (body_of key mid) (body_of key new)) → OnOk r (AwayRest mid new) → last ≤ mid.pool.service.last → OnOk r (KeepsGiven mid new)
+    → OnOk r (LendsInLine mid new) → OnOk r (HeedsServed key last old bytes a (standing_in key new) (machine_in new))
+cancels_served (Ok x) key last old bytes a mid new heeds moves kept starts rest rises given lends = record {
   at = machine_in mid;
   mid = standing_in key mid;
   heeds = heeds;
@@ -200,11 +193,14 @@ cancels_served (Ok x) key old bytes a mid new heeds moves kept starts rest opens
   kept = kept;
   starts = starts;
   rests = λ away. rest.rest key away;
-  fills = λ number. open_before (open_at number mid.links.items) (waits_on number mid.links.items) (open_waits number new.links.items) (opens.fills number);
+  fills = λ number le.
+      let low : number ≤ last = le in
+      let top : last ≤ mid.pool.service.last = rises in
+      given.fills number (omega (arith, low, top));
   keeps = λ away number its.
-      open_same (open_at number new.links.items) (waits_on number mid.links.items) (waits_on number new.links.items)
+      waits_same (waits_on number mid.links.items) (waits_on number new.links.items)
       (waits_queued number mid.links.items new.links.items
       (held_lent key number mid.pool.line.items mid.pool.holds.items mid.links.items new.pool.holds.items new.links.items away its (lends number)));
   closed = relay_tied key new;
 }
-cancels_served (Err e) key old bytes a mid new heeds moves kept starts rest opens lends = tt
+cancels_served (Err e) key last old bytes a mid new heeds moves kept starts rest rises given lends = tt

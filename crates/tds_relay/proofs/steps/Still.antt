@@ -11,8 +11,8 @@ use Rattle.tds_client.specs.Streams.{opened}
 use Rattle.tds_service.specs.declared.service.Service as services
 use Rattle.tds_service.specs.Table.{BeginsMessage, client_of}
 use Rattle.tds_relay.specs.declared.application.Application.{Application}
-use Rattle.tds_relay.specs.declared.application.Asking.{Asking}
-use Rattle.tds_relay.specs.declared.application.Asking.TheVariants as asking
+use Rattle.tds_relay.specs.declared.state.Asking.{Asking}
+use Rattle.tds_relay.specs.declared.state.Asking.TheVariants as asking
 use Rattle.tds_relay.specs.declared.pool.Pool as pools
 use Rattle.tds_relay.specs.declared.pool.Hold.{Hold}
 use Rattle.tds_relay.specs.declared.link.Link.{Link}
@@ -23,6 +23,7 @@ use Rattle.tds_relay.specs.Pool.{find_key}
 use Rattle.tds_relay.specs.Reads.{StaysAt, waits_on}
 use Rattle.tds_relay.proofs.steps.Bodied.{written_body}
 use Rattle.tds_relay.proofs.steps.Going.{waits_any}
+use Rattle.tds_relay.specs.Places.{is_closed, own_asking, own_held}
 
 pub same_at : (o : Option (List ℕ)) → StaysAt o o
 same_at None = tt
@@ -88,12 +89,12 @@ pub moves : (s : services.Service) (ls : List Link) (o : Option Hold) → ¬ IsS
 moves s ls None = λ s. s
 moves s ls (Some h) = going_moves h.number (client_of h.lease s) (waits_on h.number ls)
 
-moves_asked : (over : Bool) (a : Asking) (held : List ℕ) (goes : Body) → a ≡ asking.Goes → ¬ IsStill goes → ¬ IsStill (if over then Closed else body_by a held goes)
+moves_asked : (over : Bool) (a : Asking) (held : List ℕ) (goes : Body) → (over ≡ false → a ≡ asking.Goes) → ¬ IsStill goes → ¬ IsStill (if over then Closed else body_by a held goes)
 moves_asked true a held goes e m = λ s. s
-moves_asked false a held goes e m = λ s. m (subst (λ (x : Asking). IsStill (body_by x held goes)) e s)
+moves_asked false a held goes e m = λ s. m (subst (λ (x : Asking). IsStill (body_by x held goes)) (e refl) s)
 
 -- behind what is put of a request that goes on
-pub put_going : (X : Type 0) (waits : ℕ → Option (List ℕ)) (key : ℕ) (s : Slab Application) (a b : Application) (new : code.Relay) → Some a ≡ get s key → b.asking ≡ asking.Goes
+pub put_going : (X : Type 0) (waits : ℕ → Option (List ℕ)) (key : ℕ) (s : Slab Application) (a b : Application) (new : code.Relay) → Some a ≡ get s key → (is_closed b ≡ false → own_asking b ≡ asking.Goes)
     → (body_of key new ≡ Closed) ⊎ (((goes : Body) → body_in (get new.applications key) goes ≡ body_in (get (with_value s key b) key) goes) × X)
     → PutsFrom waits (body_of key new) (standing_in key new)
 put_going X waits key s a b new is goes (inl closed) = put_shut waits (body_of key new) (standing_in key new) closed
@@ -102,7 +103,7 @@ put_going X waits key s a b new is goes (inr puts) =
     let one : body_of key new ≡ body_in (Some b) g = puts.0 g ∙ written_body s key a b g is in
     record {
       starts = Remains;
-      still = λ was still number. absurd (moves_asked b.is_over b.asking b.held.items g goes (moves new.pool.service new.links.items (find_key key new.pool.holds.items)) (subst IsStill one still));
+      still = λ was still number. absurd (moves_asked (is_closed b) (own_asking b) (own_held b) g goes (moves new.pool.service new.links.items (find_key key new.pool.holds.items)) (subst IsStill one still));
     }
 
 -- ---- It begins

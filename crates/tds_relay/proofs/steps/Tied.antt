@@ -6,8 +6,8 @@ use Rattle.tds_front.specs.declared.fault.FrontFault.{FrontFault}
 use Rattle.tds_service.specs.declared.service.Service as services
 use Rattle.tds_service.specs.Table.{client_of}
 use Rattle.tds_relay.specs.declared.application.Application.{Application}
-use Rattle.tds_relay.specs.declared.application.Asking.{Asking}
-use Rattle.tds_relay.specs.declared.application.Asking.TheVariants as asking
+use Rattle.tds_relay.specs.declared.state.Asking.{Asking}
+use Rattle.tds_relay.specs.declared.state.Asking.TheVariants as asking
 use Rattle.tds_relay.specs.declared.pool.Hold.{Hold}
 use Rattle.tds_relay.specs.declared.link.Link.{Link}
 use Rattle.tds_relay.specs.declared.relay.Relay as code
@@ -19,6 +19,7 @@ use Rattle.tds_relay.specs.Reads.{waits_on}
 use Rattle.tds_relay.specs.Taking.{IsDeaf}
 use Rattle.tds_relay.proofs.steps.Bodied.{shut}
 use Rattle.tds_relay.proofs.steps.Fronts.{end_is}
+use Rattle.tds_relay.specs.Places.{is_closed, own_asking, own_fault, own_held, own_reset, took_back}
 
 -- where it is over it may be
 pub closed_deaf : (end : Option End) (b : Body) → IsDeaf end → IsClosedAsEnd end b
@@ -52,8 +53,8 @@ over_tied why false end x t = t
 in_tied : (o : Option Application) (goes : Body) → ((end : Option End) → IsClosedAsEnd end goes) → IsClosedAsEnd (option_map own_end o) (body_in o goes)
 in_tied None goes t = tt
 in_tied (Some a) goes t =
-    let end : End = Open a.front a.is_withdrawn a.reset in
-    over_tied a.fault a.is_over end (body_by a.asking a.held.items goes) (asked_tied (Some end) a.asking a.held.items goes (t (Some end)))
+    let end : End = Open a.front (took_back a) (own_reset a) in
+    over_tied (own_fault a) (is_closed a) end (body_by (own_asking a) (own_held a) goes) (asked_tied (Some end) (own_asking a) (own_held a) goes (t (Some end)))
 
 pub slab_tied : (s : Slab Application) (key : ℕ) (goes : Body) → ((end : Option End) → IsClosedAsEnd end goes) → IsClosedAsEnd (end_at (ends_in s) key) (body_in (get s key) goes)
 slab_tied s key goes t = subst (λ (o : Option End). IsClosedAsEnd o (body_in (get s key) goes)) (sym (end_is s key)) (in_tied (get s key) goes t)

@@ -3,10 +3,10 @@ ghost use Rattle.std.specs.Prelude.{◌≡◌, ◌≤◌, [], Bool, None, IfOk, 
 ghost use Rattle.std.specs.Prelude.{drop, false, length, true};
 ghost use Rattle.slab.specs.Slab.{get};
 ghost use Rattle.tds_relay.specs.Lent.{AnewIfLent, DialsNewAt, KeepsGiven};
-ghost use Rattle.tds_relay.specs.Asking.{AsksByBytes, AsksOn, IfAsks, IsUnderway, waits_of};
+ghost use Rattle.tds_relay.specs.Asking.{AsksByBytes, AsksOn, IsObeyed, IsUnderway, waits_of};
 ghost use Rattle.tds_relay.specs.Bodies.{Body, HeedsAll, HeedsOn, HeedsServed, CancelsSaid, Carries};
 ghost use Rattle.tds_relay.specs.Bodies.{CarriesOn, Grows, GrowsFrom, Obeys, PutsSaid, Starts, GoesFrom, body_of};
-ghost use Rattle.tds_relay.specs.Bodies.{last_of, standing_in, standing_open};
+ghost use Rattle.tds_relay.specs.Bodies.{last_of, standing_in};
 ghost use Rattle.tds_relay.specs.Closings.{ClosesOnly, register_in};
 ghost use Rattle.tds_relay.specs.Pool.{find_key};
 ghost use Rattle.tds_relay.specs.Few.{Few, IsSeated, NobodyWaits};
@@ -26,7 +26,7 @@ ghost use Rattle.tds_relay.specs.Sparing.{OthersGo, OthersRest};
 
 use super::Relay;
 use crate::NoMemory;
-use crate::application::Asking;
+use crate::state::Asking;
 use tds_front::Said;
 use tds_front::laws::bytes_are_packets;
 
@@ -57,8 +57,8 @@ impl Relay {
         ensures seated { IsSeated self.old → OnOk result (IsSeated self.new) }
         ensures others { OnOk result (OthersGo key self.old self.new) }
         ensures cancels { IsReached (pool_in self.old.pool) → OnOk result (HeedsServed key
-            (machine_in self.old) piece.now (standing_in key self.old)
-            (standing_open key self.new) (machine_in self.new)) }
+            self.old.pool.service.last (machine_in self.old) piece.now (standing_in key self.old)
+            (standing_in key self.new) (machine_in self.new)) }
         ensures opening { OnOk result (OpensNew self.old self.new) }
         ensures many { OnOk result (GrowsByOrders self.old self.new) }
         ensures puts { IsReached (pool_in self.old.pool) → OnOk result (PutsOnly
@@ -148,7 +148,7 @@ impl Relay {
         let Some(application) = self.applications.get_mut(key) else {
             return Ok(piece.len());
         };
-        if application.is_over {
+        if application.state.is_over() {
             return Ok(piece.len());
         }
         let fed = match application.feed(piece) {
@@ -171,8 +171,8 @@ impl Relay {
             ≡ given_by key said (queues_in self.old.applications)) }
         ensures moves { OnOk result (FedOn key said (pool_in self.old.pool)
             (ends_in self.old.applications) (core_in self.new)) }
-        ensures underway { OnOk result (IfAsks (λ whole. IsUnderway whole
-            self.new.links.items key (core_in self.new)) said) }
+        ensures underway { OnOk result (IsObeyed self.new.links.items key said
+            (core_in self.new)) }
         ensures read { OnOk result (LinksStay self.old.links.items self.new.links.items) }
         ensures stand { OnOk result (AllStand self.old.pool.service
             self.new.pool.service) }
@@ -287,13 +287,13 @@ impl Relay {
         let Some(application) = self.applications.get_mut(key) else {
             return Ok(());
         };
-        match application.asking {
+        match application.state.asking() {
             Asking::Nothing => self.expel(key),
-            Asking::Waits { kind, .. } => {
+            Asking::Waits { .. } => {
                 if !application.may_put(false) {
                     return self.expel(key);
                 }
-                if !application.keep(kind, bytes, whole)? {
+                if !application.keep(bytes, whole)? {
                     return self.expel(key);
                 }
                 self.seek(key)

@@ -25,8 +25,8 @@ ghost use Rattle.tds_relay.specs.Sparing.{OthersRest};
 
 use super::Relay;
 use crate::NoMemory;
-use crate::application::Asking;
 use crate::pool::Renewed;
+use crate::state::Asking;
 use tds_client::MessageKind;
 use tds_packet::{Kind, Reset};
 
@@ -73,6 +73,9 @@ impl Relay {
         let Some(application) = self.applications.get_mut(key) else {
             return Ok(());
         };
+        if application.state.is_over() {
+            return Ok(());
+        }
         let Some(kind) = message_kind(kind) else {
             return self.expel(key);
         };
@@ -109,7 +112,7 @@ impl Relay {
         let Some(application) = self.applications.get(key) else {
             return false;
         };
-        if !application.is_withdrawn {
+        if !application.state.is_withdrawn() {
             return false;
         }
         self.pool.is_open_on(hold.number) == Some(true)

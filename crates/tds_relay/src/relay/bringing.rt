@@ -13,7 +13,7 @@ ghost use Rattle.tds_relay.specs.Queues.{names_in, queues_in};
 ghost use Rattle.tds_relay.specs.Lent.{FirstStays};
 ghost use Rattle.tds_relay.specs.Reads.{IsCalled, OpensFirst};
 ghost use Rattle.tds_relay.specs.Reads.{open_waits, seen_at};
-ghost use Rattle.tds_relay.specs.Ordering.{OpensAbove, OpensNew, StayOrdered};
+ghost use Rattle.tds_relay.specs.Ordering.{GrowsBrought, OpensAbove, OpensNew, StayOrdered};
 ghost use Rattle.tds_relay.specs.Sparing.{AllGo};
 ghost use Rattle.tds_relay.specs.Ties.{LedTo, IsReached, Neither};
 ghost use Rattle.tds_relay.specs.Ties.{pool_in};
@@ -61,6 +61,7 @@ impl Relay {
             (LosesWaiting (register_in self.old) self.old self.new) number (cleaned_in self.old)
             (cleaned_in self.new) self.new.links.items)) }
         ensures opening { OnOk result (OpensNew self.old self.new) }
+        ensures many { IfOk result (λ brought. GrowsBrought brought self.old self.new) }
         ensures dials { IsReached (pool_in self.old.pool) → IfOk result (λ brought.
             IfSome brought (λ number. OpensAbove number self.old self.new)) }
         ensures cleans { IsReached (pool_in self.old.pool) → IfOk result (λ brought. IfSome brought

@@ -2,14 +2,15 @@
 ghost use Rattle.std.specs.Prelude.{◌≡◌, ◌⊎◌, ◌≤◌, ◌+◌, ◌&&◌, [], ℕ, not, None, Some, drop, false};
 ghost use Rattle.std.specs.Prelude.{IfOk, IsSome, OnOk, length, true};
 ghost use Rattle.tds_service.specs.Table.{reading_on};
-ghost use Rattle.tds_relay.specs.Lent.{DialsNewAt, HearsAny, HearsGiven, ShutElse, ShutGivenElse};
+ghost use Rattle.tds_relay.specs.Lent.{Any, DialsNewAt, HearsAny, HearsGiven, ShutGiven, ShutStay};
 ghost use Rattle.tds_relay.specs.Apart.{LosesOnly, SparesOthers};
 ghost use Rattle.tds_relay.specs.Bodies.{AskAsBefore, Body, body_in};
 ghost use Rattle.tds_relay.specs.Cleaning.{CleansAlone, CleansOn, CountsGone, CountsLost, PutsByLease};
 ghost use Rattle.tds_relay.specs.Cleaning.{cleaned_in};
 ghost use Rattle.tds_relay.specs.Closings.{ClosesOnly, but_told, is_shut};
 ghost use Rattle.tds_relay.specs.Closings.{register_in, settings_in};
-ghost use Rattle.tds_relay.specs.Coming.{AllAlong, ComesAnew, ContinuesAnew, StreamsAnew};
+ghost use Rattle.tds_relay.specs.Coming.{AllAlong, ComesAnew, ComesTold, ContinuesAnew, ContinuesTold};
+ghost use Rattle.tds_relay.specs.Coming.{StreamsAnew, StreamsTold, asking_in};
 ghost use Rattle.tds_relay.specs.Pool.{whose};
 ghost use Rattle.tds_relay.specs.Faults.{IsHeaderOf, IsRefusedOn};
 ghost use Rattle.tds_relay.specs.Few.{Few, HearsSeat, IsSeated, IsSeatedBehind, NobodyWaits, NoneNew};
@@ -62,6 +63,7 @@ impl Relay {
             (machine_in self.old) self.old.pool.service piece.now
             (open_at number self.new.links.items) (machine_in self.new) self.new.pool.service) }
         ensures anew { OnOk result (ComesAnew number piece.now self.old self.new) }
+        ensures told { OnOk result (ComesTold number piece.now self.old self.new) }
         ensures others { OnOk result (OpensOthers number
             self.old.links.items self.new.links.items) }
         ensures bodies { IsReached (pool_in self.old.pool)
@@ -88,7 +90,7 @@ impl Relay {
             → OnOk result (PutsOnly (IsItsHolders number self.old) self.old self.new) }
         ensures given { OnOk result (HearsGiven number self.old self.new) }
         ensures fresh { OnOk result (DialsNewAt self.old self.new) }
-        ensures still { OnOk result (ShutGivenElse number self.old self.new) }
+        ensures still { OnOk result (ShutGiven self.old self.new) }
     {
         self.hear_all(number, piece)?;
         self.serve_line()
@@ -107,6 +109,10 @@ impl Relay {
         ensures anew { OnOk result (StreamsAnew number (answer_at number self.old.links.items)
             (open_at number self.old.links.items) (machine_in self.old) self.old.pool.service
             piece.now [] (answer_at number self.new.links.items)
+            (open_at number self.new.links.items) (machine_in self.new) self.new.pool.service) }
+        ensures told { OnOk result (StreamsTold number (asking_in self.old.applications)
+            (open_at number self.old.links.items) (machine_in self.old) self.old.pool.service
+            piece.now [] (asking_in self.new.applications)
             (open_at number self.new.links.items) (machine_in self.new) self.new.pool.service) }
         ensures others { OnOk result (OpensOthers number
             self.old.links.items self.new.links.items) }
@@ -134,8 +140,7 @@ impl Relay {
         ensures rests { IsSeated self.old → OnOk result
             ((key : ℕ) → KeepsWaiting number self.old self.new key) }
         ensures given { OnOk result (HearsAny number self.old.links.items self.new.links.items) }
-        ensures still { OnOk result (ShutElse number self.old.links.items
-            self.new.links.items) }
+        ensures still { OnOk result (ShutStay Any self.old.links.items self.new.links.items) }
     {
         let mut rest = piece;
         'taking: for _ in 0..piece.len() + 1 {
@@ -162,6 +167,12 @@ impl Relay {
         ensures continues { IfOk result (λ heard. ContinuesAnew number piece.now
             (drop heard.0 piece.now) heard.1 (answer_at number self.old.links.items)
             (open_at number self.old.links.items) (answer_at number self.new.links.items)
+            (if_heard heard.1 (open_at number self.new.links.items)) (machine_in self.old)
+            self.old.pool.service (machine_with (pool_in self.new.pool)
+            (told_by heard.1 (ends_in self.old.applications)) (queues_in self.new.applications))
+            self.new.pool.service) }
+        ensures told { IfOk result (λ heard. ContinuesTold number piece.now
+            (drop heard.0 piece.now) heard.1 (open_at number self.old.links.items)
             (if_heard heard.1 (open_at number self.new.links.items)) (machine_in self.old)
             self.old.pool.service (machine_with (pool_in self.new.pool)
             (told_by heard.1 (ends_in self.old.applications)) (queues_in self.new.applications))
@@ -198,8 +209,7 @@ impl Relay {
         ensures leases { IfOk result (λ heard. IsLeftOpen heard.1 → PutsByLease []
             self.new.outbox.items self.old.pool.service.given self.new.pool.service.given) }
         ensures given { OnOk result (HearsAny number self.old.links.items self.new.links.items) }
-        ensures still { OnOk result (ShutElse number self.old.links.items
-            self.new.links.items) }
+        ensures still { OnOk result (ShutStay Any self.old.links.items self.new.links.items) }
     {
         let Relay {
             pool,

@@ -1,10 +1,10 @@
 //! Applications of which nothing more is taken.
-ghost use Rattle.std.specs.Prelude.{◌≡◌, None, OnOk};
+ghost use Rattle.std.specs.Prelude.{◌≡◌, None, OnOk, false};
 ghost use Rattle.tds_relay.specs.Bodies.{AskOn};
 ghost use Rattle.tds_relay.specs.Lent.{KeepsAnswers, OthersKeepAt};
 ghost use Rattle.tds_relay.specs.Few.{IsSeated};
 ghost use Rattle.tds_relay.specs.Fronts.{Moved, ends_in, core_in, core_of_ends};
-ghost use Rattle.tds_relay.specs.Core.{change_end, closes, closes_for, end_at};
+ghost use Rattle.tds_relay.specs.Core.{change_end, closes, closes_for, end_at, is_in};
 ghost use Rattle.tds_relay.specs.Closings.{ClosesOnly, Itself, register_in};
 ghost use Rattle.tds_relay.specs.Queues.{queues_in};
 ghost use Rattle.tds_relay.specs.Ordering.{opens_in};
@@ -28,6 +28,7 @@ impl Relay {
         ensures moves { OnOk result (Moved (Application key) (core_of_ends (pool_in self.old.pool)
             (change_end key closes (ends_in self.old.applications))) (core_in self.new)) }
         ensures over { OnOk result (IsDeaf (end_at (ends_in self.new.applications) key)) }
+        ensures away { OnOk result (is_in key (pool_in self.new.pool).line ≡ false) }
         ensures read { OnOk result (LinksStay self.old.links.items self.new.links.items) }
         ensures stand { OnOk result (AllStand self.old.pool.service
             self.new.pool.service) }
@@ -56,6 +57,7 @@ impl Relay {
             (change_end key (closes_for why) (ends_in self.old.applications)))
             (core_in self.new)) }
         ensures over { OnOk result (IsDeaf (end_at (ends_in self.new.applications) key)) }
+        ensures away { OnOk result (is_in key (pool_in self.new.pool).line ≡ false) }
         ensures read { OnOk result (LinksStay self.old.links.items self.new.links.items) }
         ensures stand { OnOk result (AllStand self.old.pool.service
             self.new.pool.service) }

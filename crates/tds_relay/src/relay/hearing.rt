@@ -6,7 +6,7 @@ ghost use Rattle.tds_relay.specs.Apart.{SparesOthers};
 ghost use Rattle.tds_relay.specs.Cleaning.{CountsHeard};
 ghost use Rattle.tds_relay.specs.Closings.{ClosesOnly};
 ghost use Rattle.tds_relay.specs.Closings.{register_in};
-ghost use Rattle.tds_relay.specs.Coming.{AllAlong, BeginAnyIf, acknowledged_in};
+ghost use Rattle.tds_relay.specs.Coming.{AllAlong, AskAsTold, BeginAnyIf, acknowledged_in, asking_in};
 ghost use Rattle.tds_relay.specs.Few.{IsSeated, IsSeatedBehind};
 ghost use Rattle.tds_relay.specs.Fronts.{Moved, ends_in, core_in, core_of_ends, told_by};
 ghost use Rattle.tds_relay.specs.Handing.{heard_key};
@@ -40,6 +40,9 @@ impl Relay {
             self.new.pool.service) }
         ensures bodies { IsReached (pool_in self.old.pool)
             → OnOk result (AllAlong self.old self.new) }
+        ensures told { OnOk result (AskAsTold (acknowledged_in heard) heard
+            (ends_in self.old.applications) (asking_in self.old.applications)
+            (asking_in self.new.applications)) }
         ensures ordered { OnOk result (StayOrdered self.old.orders.items self.new.orders.items) }
         ensures wakes { OnOk result ((key : ℕ) → HandsTo heard key (ends_in self.old.applications)
             → IsWoken key self.new.applications self.new.orders.items) }
@@ -68,7 +71,7 @@ impl Relay {
     }
 
     /// What came of a packet is done.
-    #[tactic(auto, using(crate::proofs::steps::Staying::stays_both, crate::proofs::bytes::Calls::stand_back, crate::proofs::spared::Ordered::ordered_both, crate::proofs::seats::Relays::kept_seated))]
+    #[tactic(auto, using(crate::proofs::steps::Staying::stays_both, crate::proofs::bytes::Calls::stand_back, crate::proofs::spared::Ordered::ordered_both, crate::proofs::seats::Relays::kept_seated, crate::proofs::spared::Coming::told_along, crate::proofs::steps::Answering::told_on, crate::proofs::steps::Answering::told_more, crate::proofs::steps::Answering::told_same))]
     fn heard_packet(&mut self, number: u64, heard: Heard) -> Result<(), NoMemory>
         ensures goes { OnOk result (LedTo (Connection number)
             (pool_in self.old.pool) (pool_in self.new.pool)) }
@@ -82,6 +85,9 @@ impl Relay {
             self.new.pool.service) }
         ensures bodies { IsReached (pool_in self.old.pool)
             → OnOk result (AllAlong self.old self.new) }
+        ensures told { OnOk result (AskAsTold (acknowledged_in (Some heard)) (Some heard)
+            (ends_in self.old.applications) (asking_in self.old.applications)
+            (asking_in self.new.applications)) }
         ensures ordered { OnOk result (StayOrdered self.old.orders.items self.new.orders.items) }
         ensures wakes { OnOk result ((key : ℕ)
             → HandsTo (Some heard) key (ends_in self.old.applications)

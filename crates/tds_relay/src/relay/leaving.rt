@@ -7,7 +7,7 @@ ghost use Rattle.tds_relay.specs.Bodies.{AskAsBefore, AskOn, Body, Closed, body_
 ghost use Rattle.tds_relay.specs.Cleaning.{CountsAtEnd, CountsHold, CountsSinceEnd, OfItsHold, WaitsAtEnd, WaitsSinceEnd, cleaned_in};
 ghost use Rattle.tds_relay.specs.Pool.{Loses, find_key, find_number, key_of, turn, without, without_number};
 ghost use Rattle.tds_relay.specs.Lent.{IsLetGo, IsOnItsOwn, OthersKeepAt, PutsOnly, AllLastBut, KeepsAnswers, LastBesides};
-ghost use Rattle.tds_relay.specs.Few.{Few, IsSeated, IsSeatedOff, NobodyWaits};
+ghost use Rattle.tds_relay.specs.Few.{Few, IsSeated, IsSeatedOff, NobodyWaits, TakenOut};
 ghost use Rattle.tds_relay.specs.Fronts.{LetsGoFirst, MovedOn, ends_in, core_in, machine_in};
 ghost use Rattle.tds_relay.specs.Core.{change_end, change_whose, closes, closes_for, holder, lets_go};
 ghost use Rattle.tds_relay.specs.Machine.{Steps, StepsOn};
@@ -153,7 +153,7 @@ impl Relay {
     {
         match self.applications.get_mut(key) {
             Some(application) => {
-                if application.is_over {
+                if application.state.is_over() {
                     return Ok(());
                 }
                 application.close(why);
@@ -302,6 +302,8 @@ impl Relay {
             ≡ ends_in self.old.applications) }
         ensures read { OnOk result (LinksStay self.old.links.items self.new.links.items) }
         ensures gone { OnOk result (reader_at number self.new.links.items ≡ None) }
+        ensures fewer { OnOk result (TakenOut number self.old.links.items
+            self.new.links.items) }
         ensures asks { OnOk result (AskAsBefore self.old.applications self.new.applications) }
         ensures others { OnOk result ((other : ℕ) → other ≢ number
             → waits_on other self.new.links.items ≡ waits_on other self.old.links.items) }
@@ -334,6 +336,8 @@ impl Relay {
             ≡ change_whose key closes (ends_in self.old.applications)) }
         ensures read { OnOk result (LinksStay self.old.links.items self.new.links.items) }
         ensures gone { OnOk result (reader_at number self.new.links.items ≡ None) }
+        ensures fewer { OnOk result (TakenOut number self.old.links.items
+            self.new.links.items) }
         ensures asks { OnOk result (AskOn self.old.applications self.new.applications) }
         ensures others { OnOk result ((other : ℕ) → other ≢ number
             → waits_on other self.new.links.items ≡ waits_on other self.old.links.items) }

@@ -18,7 +18,7 @@ ghost use Rattle.tds_relay.specs.Reads.{Opens, OpensOne, LinksStay, StaysAt, ans
 ghost use Rattle.tds_relay.specs.Ordering.{GrowsByOrders, OpensNew, StayOrdered, opens_if, opens_in};
 ghost use Rattle.tds_relay.specs.Reasons.{CannotPut, CannotStartAt, HasNoRoom, IsTurnedAwayAt, IsUnheld, ItselfFor};
 ghost use Rattle.tds_relay.specs.Sending.{IsToWrite, called_at};
-ghost use Rattle.tds_relay.specs.Coming.{MayBeginAny};
+ghost use Rattle.tds_relay.specs.Coming.{AskOrGo, MayBeginAny};
 ghost use Rattle.tds_relay.specs.Sparing.{AllGo, AllRest, AwayRest, IsHeldBack, IsKept, IsUnkept, OthersRest, StartsOn, StartsThere};
 ghost use Rattle.tds_relay.specs.Taking.{IsDeaf};
 ghost use Rattle.tds_relay.specs.Ties.{LedTo, LedOn, IsReached, pool_in};
@@ -29,11 +29,11 @@ ghost use Rattle.tds_relay.specs.Cleaning.{cleaned_in};
 use super::Relay;
 use super::putting::unless_memory;
 use crate::NoMemory;
-use crate::application::Asking;
 use crate::link::Link;
 use crate::links::{restart, set_open, set_tag};
 use crate::order::Order;
 use crate::pool::Served;
+use crate::state::Asking;
 
 impl Relay {
     pub(super) fn new_link(&self, number: u64) -> Result<Link, NoMemory>
@@ -73,8 +73,7 @@ impl Relay {
         ensures goes { OnOk result (LedOn (pool_in self.old.pool) (pool_in self.new.pool)) }
         ensures steps { OnOk result (StepsOn (machine_in self.old) (machine_in self.new)) }
         ensures served { OnOk result (NobodyWaits self.new) }
-        ensures few { OnOk result (Few self.old.most self.old.links.items
-            self.new.links.items) }
+        ensures few { OnOk result (Few self.old.most self.old.links.items self.new.links.items) }
         ensures opens { OnOk result (OpensOne number self.old.links.items self.new.links.items) }
         ensures names { OnOk result (names_in self.new.applications
             ≡ names_in self.old.applications) }
@@ -175,11 +174,11 @@ impl Relay {
             ≡ queues_in self.old.applications) }
         ensures moves { OnOk result (MovedOn (core_in self.old) (core_in self.new)) }
         ensures served { OnOk result (NobodyWaits self.new) }
-        ensures few { OnOk result (Few self.old.most self.old.links.items
-            self.new.links.items) }
+        ensures few { OnOk result (Few self.old.most self.old.links.items self.new.links.items) }
         ensures opens { OnOk result (Opens self.old.links.items self.new.links.items) }
         ensures stand { OnOk result (AllStand self.old.pool.service self.new.pool.service) }
         ensures goes_on { OnOk result (AllGo self.old self.new) }
+        ensures asks { OnOk result (AskOrGo self.old.applications self.new.applications) }
         ensures apart { OnOk result (UnlessServed (core_in self.old) (core_in self.new)) }
         ensures lends { OnOk result (LendsInTurn (pool_in self.old.pool).line
             (ends_in self.old.applications) (core_in self.new)) }
@@ -218,7 +217,7 @@ impl Relay {
     }
 
     /// A connection is lent to an application. One that nobody had is opened.
-    #[tactic(auto, using(crate::proofs::steps::Reaching::reaches_turn, crate::proofs::steps::Reaching::reaches_turned))]
+    #[tactic(auto, using(crate::proofs::steps::Reaching::reaches_turn, crate::proofs::steps::Reaching::reaches_turned, crate::proofs::steps::Answering::ask_refl))]
     fn lend(&mut self, served: Served) -> Result<(), NoMemory>
         ensures goes { OnOk result (LedOn (pool_in self.old.pool) (pool_in self.new.pool)) }
         ensures kept { OnOk result (queues_in self.new.applications
@@ -232,6 +231,7 @@ impl Relay {
             (core_in self.new)) }
         ensures stand { OnOk result (AllStand self.old.pool.service self.new.pool.service) }
         ensures goes_on { OnOk result (AllGo self.old self.new) }
+        ensures asks { OnOk result (AskOrGo self.old.applications self.new.applications) }
         ensures alone { OnOk result (Alone served.hold.key (core_in self.old)
             (core_in self.new)) }
         ensures ordered { OnOk result (StayOrdered self.old.orders.items self.new.orders.items) }
@@ -304,7 +304,7 @@ impl Relay {
 
     /// Asks what an application asks, where its connection is open, and the server has acknowledged there
     /// what it took back.
-    #[tactic(auto, using(crate::proofs::steps::Reaching::reaches_turn, crate::proofs::steps::Reaching::reaches_turned, crate::proofs::steps::Underway::of_none, crate::proofs::steps::Underway::of_over, crate::proofs::steps::Underway::drains, crate::proofs::bytes::Calls::stand_on, crate::proofs::lending::Resting::others_refl, crate::proofs::spared::Ordered::ordered_refl, crate::proofs::spared::Apart::alone_refl))]
+    #[tactic(auto, using(crate::proofs::steps::Reaching::reaches_turn, crate::proofs::steps::Reaching::reaches_turned, crate::proofs::steps::Underway::of_none, crate::proofs::steps::Underway::of_over, crate::proofs::steps::Underway::drains, crate::proofs::bytes::Calls::stand_on, crate::proofs::lending::Resting::others_refl, crate::proofs::spared::Ordered::ordered_refl, crate::proofs::spared::Apart::alone_refl, crate::proofs::steps::Answering::ask_refl))]
     pub(super) fn start(&mut self, key: usize) -> Result<(), NoMemory>
         ensures goes { OnOk result (LedOn (pool_in self.old.pool) (pool_in self.new.pool)) }
         ensures kept { OnOk result (queues_in self.new.applications
@@ -318,10 +318,10 @@ impl Relay {
         ensures read { OnOk result (LinksStay self.old.links.items self.new.links.items) }
         ensures stand { OnOk result (AllStand self.old.pool.service self.new.pool.service) }
         ensures body { OnOk result (Starts (body_of key self.old) (body_of key self.new)) }
+        ensures asks { OnOk result (AskOrGo self.old.applications self.new.applications) }
         ensures others { IsReached (pool_in self.old.pool)
             → OnOk result (OthersRest key self.old self.new) }
-        ensures waits { OnOk result (IsUnkept (body_of key self.new)
-            ⊎ IsHeldBack key self.old) }
+        ensures waits { OnOk result (IsUnkept (body_of key self.new) ⊎ IsHeldBack key self.old) }
         ensures alone { OnOk result (Alone key (core_in self.old) (core_in self.new)) }
         ensures ordered { OnOk result (StayOrdered self.old.orders.items self.new.orders.items) }
         ensures placed { OnOk result (GoesOrWaits key self.new) }
@@ -345,16 +345,16 @@ impl Relay {
         let Some(application) = self.applications.get(key) else {
             return Ok(());
         };
-        if application.is_over {
+        if application.state.is_over() {
             return Ok(());
         }
-        let Asking::Waits { kind, whole } = application.asking else {
+        let Asking::Waits { kind, whole } = application.state.asking() else {
             return Ok(());
         };
         let Some(hold) = self.pool.hold_of(key) else {
             return self.end(key);
         };
-        if application.is_withdrawn {
+        if application.state.is_withdrawn() {
             return Ok(());
         }
         if !self.is_open(hold.number) {

@@ -10,7 +10,8 @@ ghost use Rattle.tds_relay.specs.Told.{counts_in, has_cancelled, held_name, held
 ghost use Rattle.tds_relay.specs.Told.{place_on, place_with, told_place, unheld_place};
 
 use super::Relay;
-use crate::application::{Application, Asking};
+use crate::application::Application;
+use crate::state::Asking;
 use tds_front::{FrontFault, Stage};
 use tds_listen::ListenFault;
 use tds_packet::PacketFault;
@@ -189,12 +190,16 @@ impl Relay {
 fn where_is(application: &Application, number: Option<u64>) -> Place
     ensures { result ≡ place_with number application.now }
 {
-    if application.is_over {
+    if application.state.is_over() {
         return Place::Over;
     }
     match number {
-        Some(number) => held(number, stops(application.front.stage()), application.asking),
-        None => unheld(application.asking),
+        Some(number) => held(
+            number,
+            stops(application.front.stage()),
+            application.state.asking(),
+        ),
+        None => unheld(application.state.asking()),
     }
 }
 

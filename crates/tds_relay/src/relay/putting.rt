@@ -3,7 +3,7 @@ ghost use Rattle.std.specs.Prelude.{◌≡◌, IfOk, OnOk, Some, false, true};
 ghost use Rattle.tds_relay.specs.Lent.{OffHoldRests};
 ghost use Rattle.tds_relay.specs.Apart.{Alone};
 ghost use Rattle.tds_relay.specs.Asking.{IsUnderway, SendsOn};
-ghost use Rattle.tds_relay.specs.Bodies.{AskAsBefore, ClientPuts, Grows, PutsOn, body_of, going_of, held_of};
+ghost use Rattle.tds_relay.specs.Bodies.{AskAsBefore, AskOn, ClientPuts, Grows, PutsOn, body_of, going_of, held_of};
 ghost use Rattle.tds_relay.specs.Closings.{ClosesOnly, NoKey, register_in};
 ghost use Rattle.tds_relay.specs.Pool.{find_key};
 ghost use Rattle.tds_relay.specs.declared.pool.Hold.{Hold};
@@ -14,16 +14,16 @@ ghost use Rattle.tds_relay.specs.Ordering.{StayOrdered, opens_in};
 ghost use Rattle.tds_relay.specs.Queues.{queues_in};
 ghost use Rattle.tds_relay.specs.Reads.{LinksStay};
 ghost use Rattle.tds_relay.specs.Reasons.{CannotPut, IsReason, IsUnbegun, IsUntaken, ItselfFor};
-ghost use Rattle.tds_relay.specs.Sparing.{IsUnkept, OthersHold, OthersRest};
+ghost use Rattle.tds_relay.specs.Sparing.{IsKept, IsUnkept, OthersHold, OthersRest};
 ghost use Rattle.tds_relay.specs.Ties.{LedOn, IsReached, pool_in};
 ghost use Rattle.tds_relay.specs.TokenParsers.{AllStand};
 ghost use Rattle.tds_relay.specs.Few.{IsSeated, KeepsSeats};
 ghost use Rattle.tds_relay.specs.Cleaning.{cleaned_in};
+ghost use Rattle.tds_relay.specs.Coming.{AskOrGo};
 ghost use Rattle.slab.specs.Slab.{get};
 
 use super::Relay;
 use crate::NoMemory;
-use crate::application::Asking;
 use crate::pool::Pool;
 use std::alloc::AllocError;
 use tds_service::Refusal;
@@ -42,6 +42,7 @@ impl Relay {
         ensures stand { OnOk result (AllStand self.old.pool.service
             self.new.pool.service) }
         ensures body { OnOk result (PutsOn whole bytes.now key self.old self.new) }
+        ensures asks { OnOk result (AskOn self.old.applications self.new.applications) }
         ensures others { IsReached (pool_in self.old.pool)
             → OnOk result (OthersRest key self.old self.new) }
         ensures alone { OnOk result (Alone key (core_in self.old) (core_in self.new)) }
@@ -79,7 +80,7 @@ impl Relay {
     }
 
     /// Puts what is kept of a request on its connection.
-    #[tactic(auto, using(crate::proofs::steps::Queueing::kept_more, crate::proofs::steps::Queueing::queues_kept, crate::proofs::steps::Fronts::ends_more, crate::proofs::steps::Fronts::ends_kept, crate::proofs::steps::Underway::of_none, crate::proofs::lending::Resting::others_refl, crate::proofs::spared::Ordered::ordered_refl, crate::proofs::spared::Apart::alone_refl))]
+    #[tactic(auto, using(crate::proofs::steps::Queueing::kept_more, crate::proofs::steps::Queueing::queues_kept, crate::proofs::steps::Fronts::ends_more, crate::proofs::steps::Fronts::ends_kept, crate::proofs::steps::Underway::of_none, crate::proofs::lending::Resting::others_refl, crate::proofs::spared::Ordered::ordered_refl, crate::proofs::spared::Apart::alone_refl, crate::proofs::steps::Answering::ask_refl))]
     pub(super) fn put_held(&mut self, key: usize, whole: bool) -> Result<(), NoMemory>
         ensures goes { OnOk result (LedOn (pool_in self.old.pool) (pool_in self.new.pool)) }
         ensures kept { OnOk result (queues_in self.new.applications
@@ -95,6 +96,8 @@ impl Relay {
         ensures others { IsReached (pool_in self.old.pool)
             → OnOk result (OthersRest key self.old self.new) }
         ensures gone { OnOk result (IsUnkept (body_of key self.new)) }
+        ensures asks { IsKept (body_of key self.old)
+            → OnOk result (AskOrGo self.old.applications self.new.applications) }
         ensures alone { OnOk result (Alone key (core_in self.old) (core_in self.new)) }
         ensures ordered { OnOk result (StayOrdered self.old.orders.items self.new.orders.items) }
         ensures answers { OnOk result (KeepsAnswers self.old.links.items self.new.links.items) }
@@ -113,7 +116,7 @@ impl Relay {
         let Some(application) = self.applications.get_mut(key) else {
             return Ok(());
         };
-        let held = application.take_held(Asking::Goes);
+        let held = application.take_held();
         self.put(key, &held, whole)
     }
 

@@ -6,7 +6,7 @@ ghost use Rattle.tds_relay.specs.Apart.{SparesOthers};
 ghost use Rattle.tds_relay.specs.Bodies.{body_of};
 ghost use Rattle.tds_relay.specs.Cleaning.{cleaned_in};
 ghost use Rattle.tds_relay.specs.Closings.{ClosesOnly, IsWho, register_in};
-ghost use Rattle.tds_relay.specs.Coming.{AllAlong, MayBeginAny};
+ghost use Rattle.tds_relay.specs.Coming.{AllAlong, AskOrGo, MayBeginAny};
 ghost use Rattle.tds_relay.specs.Fronts.{Moved, ends_in, core_in};
 ghost use Rattle.tds_relay.specs.Core.{AsksFor, IfOpen, IfWhose, IsBegun, MayPart, end_at, holder};
 ghost use Rattle.tds_relay.specs.Lent.{FirstKeeps};
@@ -38,6 +38,7 @@ impl Relay {
             self.new.pool.service) }
         ensures bodies { IsReached (pool_in self.old.pool)
             → OnOk result (AllAlong self.old self.new) }
+        ensures asks { OnOk result (AskOrGo self.old.applications self.new.applications) }
         ensures ordered { OnOk result (StayOrdered self.old.orders.items self.new.orders.items) }
         ensures resumes { OnOk result (Resumes key self.old self.new) }
         ensures begins { OnOk result (MayBeginAny self.old.links.items self.new.links.items) }
@@ -91,6 +92,7 @@ impl Relay {
             self.new.pool.service) }
         ensures bodies { IsReached (pool_in self.old.pool)
             → OnOk result (AllAlong self.old self.new) }
+        ensures asks { OnOk result (AskOrGo self.old.applications self.new.applications) }
         ensures ordered { OnOk result (StayOrdered self.old.orders.items self.new.orders.items) }
         ensures begins { OnOk result (MayBeginAny self.old.links.items self.new.links.items) }
         ensures spares { IsReached (pool_in self.old.pool) → OnOk result (SparesOthers number
@@ -133,6 +135,7 @@ impl Relay {
             self.new.pool.service) }
         ensures bodies { IsReached (pool_in self.old.pool)
             → OnOk result (AllAlong self.old self.new) }
+        ensures asks { OnOk result (AskOrGo self.old.applications self.new.applications) }
         ensures ordered { OnOk result (StayOrdered self.old.orders.items self.new.orders.items) }
         ensures lines { OnOk result ((key : ℕ)
             → holder (pool_in self.old.pool) number ≡ Some key → StandsInLine key self.new) }

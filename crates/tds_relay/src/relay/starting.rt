@@ -21,6 +21,7 @@ ghost use Rattle.tds_relay.specs.Waiting.{GoesOrWaits, IsUnheldOrTurnedAway};
 ghost use Rattle.tds_relay.specs.TokenParsers.{AllStand};
 ghost use Rattle.tds_relay.specs.Few.{IsSeated};
 ghost use Rattle.tds_relay.specs.Cleaning.{cleaned_in};
+ghost use Rattle.tds_relay.specs.Coming.{AskOrGo};
 
 use super::Relay;
 use crate::NoMemory;
@@ -30,7 +31,7 @@ use crate::pool::Hold;
 impl Relay {
     /// Asks what was kept of an application's request. Where its connection is open, and what it took back is
     /// acknowledged, the reset that it asks for must be done there with it; else both are closed.
-    #[tactic(auto, using(crate::proofs::spared::Ordered::ordered_refl))]
+    #[tactic(auto, using(crate::proofs::spared::Ordered::ordered_refl, crate::proofs::steps::Answering::ask_refl))]
     pub(super) fn start_kept(&mut self, key: usize) -> Result<(), NoMemory>
         ensures goes { OnOk result (LedOn (pool_in self.old.pool) (pool_in self.new.pool)) }
         ensures kept { OnOk result (queues_in self.new.applications
@@ -42,6 +43,7 @@ impl Relay {
         ensures stand { OnOk result (AllStand self.old.pool.service
             self.new.pool.service) }
         ensures body { OnOk result (Starts (body_of key self.old) (body_of key self.new)) }
+        ensures asks { OnOk result (AskOrGo self.old.applications self.new.applications) }
         ensures others { IsReached (pool_in self.old.pool)
             → OnOk result (OthersRest key self.old self.new) }
         ensures waits { OnOk result (IsUnkept (body_of key self.new)
@@ -98,13 +100,13 @@ impl Relay {
         let Some(application) = self.applications.get(key) else {
             return true;
         };
-        if application.is_over {
+        if application.state.is_over() {
             return true;
         }
         if !application.waits() {
             return true;
         }
-        if application.is_withdrawn {
+        if application.state.is_withdrawn() {
             return true;
         }
         !self.is_open(hold.number)
@@ -140,7 +142,7 @@ impl Relay {
         let Some(application) = self.applications.get(key) else {
             return true;
         };
-        match application.reset {
+        match application.state.reset() {
             Some(reset) => self.pool.resets_on(hold.number, reset),
             None => true,
         }

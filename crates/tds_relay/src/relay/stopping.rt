@@ -11,7 +11,7 @@ ghost use Rattle.tds_relay.specs.Closings.{ClosesOnly, NoKey, register_in};
 ghost use Rattle.tds_relay.specs.Pool.{Does, Stops, Unwaits, find_key};
 ghost use Rattle.tds_relay.specs.declared.pool.Hold.{Hold};
 ghost use Rattle.tds_relay.specs.Fronts.{FedOn, Moved, MovedOn, ends_in, core_in, core_of_ends, withdraws};
-ghost use Rattle.tds_relay.specs.Core.{EndList, IfOpen, change_end, end_at};
+ghost use Rattle.tds_relay.specs.Core.{EndList, IfOpen, change_end, end_at, is_in};
 ghost use Rattle.tds_relay.specs.Lent.{KeepsAnswers, OthersKeepAt};
 ghost use Rattle.tds_relay.specs.Waiting.{IsRightlyKept};
 ghost use Rattle.tds_relay.specs.Queues.{acknowledgement, give, queue_at, queues_in};
@@ -27,7 +27,7 @@ ghost use Rattle.tds_relay.specs.Ordering.{opens_in};
 use super::Relay;
 use super::putting::unless_memory;
 use crate::NoMemory;
-use crate::application::Asking;
+use crate::state::Asking;
 use tds_client::Cancelled;
 
 /// The acknowledgement of an attention: a message of one DONE with bit 0020 (MS-TDS 2.2.7.6).
@@ -57,6 +57,7 @@ impl Relay {
         ensures seated { IsSeated self.old → OnOk result (IsSeated self.new) }
         ensures cancels { OnOk result (IsStoppedOnce (body_of key self.old)
             (standing_in key self.new)) }
+        ensures away { OnOk result (is_in key (pool_in self.new.pool).line ≡ false) }
         ensures opening { opens_in self.new.orders.items ≡ opens_in self.old.orders.items }
         ensures aside { IsReached (pool_in self.old.pool)
             → OnOk result (OthersKeepAt key self.old self.new) }
@@ -74,6 +75,7 @@ impl Relay {
         ensures kept { queues_in self.new.applications ≡ queues_in self.old.applications }
         ensures ends { ends_in self.new.applications ≡ ends_in self.old.applications }
         ensures turns { Turns (Unwaits key) (pool_in self.old.pool) (pool_in self.new.pool) [] [] }
+        ensures away { is_in key (pool_in self.new.pool).line ≡ false }
         ensures holds { self.new.pool.holds ≡ self.old.pool.holds }
         ensures service { self.new.pool.service ≡ self.old.pool.service }
         ensures links { self.new.links.items ≡ self.old.links.items }
@@ -92,7 +94,7 @@ impl Relay {
         let Some(application) = self.applications.get_mut(key) else {
             return false;
         };
-        let was_asked = matches!(application.asking, Asking::Goes);
+        let was_asked = matches!(application.state.asking(), Asking::Goes);
         application.forget(Asking::Nothing);
         was_asked
     }
@@ -117,6 +119,8 @@ impl Relay {
         ensures seated { IsSeated self.old → OnOk result (IsSeated self.new) }
         ensures cancels { OnOk result (IsStoppedOnce (going_of key self.old)
             (standing_in key self.new)) }
+        ensures away { is_in key (pool_in self.old.pool).line ≡ false
+            → OnOk result (is_in key (pool_in self.new.pool).line ≡ false) }
         ensures opening { opens_in self.new.orders.items ≡ opens_in self.old.orders.items }
         ensures aside { IsReached (pool_in self.old.pool)
             → OnOk result (OthersKeepAt key self.old self.new) }
@@ -158,6 +162,7 @@ impl Relay {
         ensures seated { IsSeated self.old → OnOk result (IsSeated self.new) }
         ensures cancels { OnOk result (IsStoppedOnce (body_of key self.old)
             (standing_in key self.new)) }
+        ensures away { OnOk result (is_in key (pool_in self.new.pool).line ≡ false) }
         ensures opening { opens_in self.new.orders.items ≡ opens_in self.old.orders.items }
         ensures aside { IsReached (pool_in self.old.pool)
             → OnOk result (OthersKeepAt key self.old self.new) }
@@ -303,6 +308,8 @@ impl Relay {
             → OnOk result (OthersRest key self.old self.new) }
         ensures seated { IsSeated self.old → OnOk result (IsSeated self.new) }
         ensures asks { OnOk result (AskOn self.old.applications self.new.applications) }
+        ensures away { is_in key (pool_in self.old.pool).line ≡ false
+            → OnOk result (is_in key (pool_in self.new.pool).line ≡ false) }
         ensures opening { opens_in self.new.orders.items ≡ opens_in self.old.orders.items }
         ensures aside { IsReached (pool_in self.old.pool) → (hold : Hold)
             → find_key key (pool_in self.old.pool).holds ≡ Some hold → hold.number ≡ number

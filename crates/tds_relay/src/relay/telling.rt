@@ -5,7 +5,7 @@ ghost use Rattle.slab.specs.Slab.{get};
 ghost use Rattle.tds_relay.specs.Bodies.{AskAsBefore, Body, Spared, body_in};
 ghost use Rattle.tds_relay.specs.Closings.{ClosesOnly, NoKey, register_in};
 ghost use Rattle.tds_relay.specs.Cleaning.{cleaned_in};
-ghost use Rattle.tds_relay.specs.Coming.{MayBeDone};
+ghost use Rattle.tds_relay.specs.Coming.{AskAsTold, MayBeDone, asking_in};
 ghost use Rattle.tds_relay.specs.Fronts.{ends_in};
 ghost use Rattle.tds_relay.specs.Core.{change_end, change_whose, end_at, end_told};
 ghost use Rattle.tds_relay.specs.Machine.{is_said};
@@ -31,6 +31,8 @@ impl Relay {
             ≡ change_whose heard.key (end_told heard.what) (ends_in self.old.applications)) }
         ensures read { OnOk result (LinksStay self.old.links.items self.new.links.items) }
         ensures asks { OnOk result (MayBeDone self.old.applications self.new.applications) }
+        ensures told { OnOk result (AskAsTold false (Some heard) (ends_in self.old.applications)
+            (asking_in self.old.applications) (asking_in self.new.applications)) }
         ensures ordered { OnOk result (StayOrdered self.old.orders.items self.new.orders.items) }
         ensures silent { IfOk result (λ resumes. resumes ≡ true → (key : ℕ)
             → ¬ HandsTo (Some heard) key (ends_in self.old.applications)) }
@@ -96,6 +98,9 @@ impl Relay {
         ensures orders { self.new.orders.items ≡ self.old.orders.items }
         ensures outbox { self.new.outbox.items ≡ self.old.outbox.items }
         ensures asks { MayBeDone self.old.applications self.new.applications }
+        ensures told { AskAsTold false (Some (record { key = Some key; what = whats.Finished }))
+            (ends_in self.old.applications) (asking_in self.old.applications)
+            (asking_in self.new.applications) }
         ensures counts { cleaned_in self.new ≡ cleaned_in self.old }
         ensures closes { ClosesOnly NoKey (register_in self.old) (register_in self.new) }
         ensures others { (other : ℕ) → other ≢ key
@@ -117,6 +122,9 @@ impl Relay {
         ensures orders { self.new.orders.items ≡ self.old.orders.items }
         ensures outbox { self.new.outbox.items ≡ self.old.outbox.items }
         ensures asks { MayBeDone self.old.applications self.new.applications }
+        ensures told { AskAsTold false (Some (record { key = Some key; what = whats.Acknowledged }))
+            (ends_in self.old.applications) (asking_in self.old.applications)
+            (asking_in self.new.applications) }
         ensures silent { result ≡ true
             → is_said whats.Acknowledged (end_at (ends_in self.old.applications) key) ≡ false }
         ensures resumes { result ≡ true

@@ -1,4 +1,4 @@
-use Rattle.std.proofs.Common.{Option, ap, drop, sym, ◌∙◌}
+use Rattle.std.proofs.Common.{Option, ap, drop, sym, ◌∙◌, length-set}
 use Rattle.std.specs.Prelude.{is_some}
 use Rattle.tds_relay.specs.declared.link.Link.{Link}
 use Rattle.tds_relay.specs.Linking.{Linked}
@@ -70,3 +70,6 @@ returns-clause-keeps c = rw (← c.links.view_is) (
     others_queue c.args.number c.links.inside.list.items c.in-Some.place c.index_mut-link.result.now _
     (ap (λ (v : Linked). place_of c.args.number v.items) c.links.view_is ∙ sym c.place_in.ensures.is ∙ c.in-Some.is)
     (ap (λ (l : Link). l.number) c.index_mut-link.ensures.value))
+
+pub returns-clause-many : goal.returns-clause-many
+returns-clause-many c = rw (← c.links.view_is) (length-set c.links.inside.list.items c.in-Some.place _)

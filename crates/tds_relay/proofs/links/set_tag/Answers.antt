@@ -1,4 +1,4 @@
-use Rattle.std.proofs.Common.{Some, ap, sym, ◌∙◌}
+use Rattle.std.proofs.Common.{Some, ap, sym, ◌∙◌, length-set}
 use Rattle.tds_relay.specs.declared.link.Link.{Link}
 use Rattle.tds_relay.specs.Linking.{Linked}
 use Rattle.tds_relay.specs.Queues.{queue_in}
@@ -39,3 +39,6 @@ pub returns-clause-queues : goal.returns-clause-queues
 returns-clause-queues c = rw (← c.links.view_is) (
     written_as (λ (l : Link). queue_in l.out) c.links.inside.list.items c.in-Some.place c.index_mut-link.result.now _
     (ap (λ (l : Link). l.number) c.index_mut-link.ensures.value) (ap (λ (l : Link). queue_in l.out) c.index_mut-link.ensures.value))
+
+pub returns-clause-many : goal.returns-clause-many
+returns-clause-many c = rw (← c.links.view_is) (length-set c.links.inside.list.items c.in-Some.place _)

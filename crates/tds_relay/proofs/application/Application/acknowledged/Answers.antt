@@ -1,11 +1,13 @@
 use Rattle.std.proofs.Common.{◌≡◌, ◌∙◌, None, ap, false, if◌then◌else◌, rules}
 use Rattle.tds_front.specs.declared.front.Front.{Front}
 use Rattle.tds_relay.specs.Core.{End, Open, Over}
-use Rattle.tds_relay.proofs.steps.Fed.{acked_if}
+use Rattle.tds_front.specs.Rules as fronts
+use Rattle.tds_relay.proofs.steps.States.{acknowledged_end, end_with}
 use Rattle.tds_relay.proofs.application.Application.acknowledged.Goals as goal
+use Rattle.tds_relay.specs.Places.{is_closed, own_fault, own_reset, took_back}
 
 pub returns-clause-end : goal.returns-clause-end
 returns-clause-end c =
     let a = c.args.self.now in
-    let stays : a.is_withdrawn ≡ false = search rules in
-    c.end_request.ensures.end ∙ ap (λ (f : Front). let e : End = if a.is_over then Over a.fault else Open f a.is_withdrawn None in e) c.acknowledged.ensures ∙ acked_if a.fault a.is_over a.front a.is_withdrawn a.reset stays
+    let stays : took_back a ≡ false = search rules in
+    c.end_request.ensures.end ∙ ap (λ (f : Front). end_with f c.set_reset.new.self) c.acknowledged.ensures ∙ ap (end_with (record a.front { stage = fronts.acknowledged a.front.stage })) c.set_reset.ensures ∙ acknowledged_end a.front a.state stays

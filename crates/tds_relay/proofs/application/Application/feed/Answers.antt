@@ -5,25 +5,21 @@ use Rattle.tds_relay.proofs.application.Application.feed.Goals as goal
 
 pub invariant_of-self : goal.invariant_of-self
 invariant_of-self c = record {
-  bounded = c.args.self.now.bounded;
   lively = subst TakesSome (sym c.feed.ensures.front) (stays_lively c.takes_some.ensures.each c.takes_some.ensures.none c.args.self.now.front c.args.piece.now c.args.self.now.lively);
 }
 
 pub invariant_of-self-in-Begin : goal.invariant_of-self-in-Begin
 invariant_of-self-in-Begin c = record {
-  bounded = c.args.self.now.bounded;
   lively = subst TakesSome (sym c.feed.ensures.front) (stays_lively c.takes_some.ensures.each c.takes_some.ensures.none c.args.self.now.front c.args.piece.now c.args.self.now.lively);
 }
 
 pub invariant_of-self-in-Forget : goal.invariant_of-self-in-Forget
 invariant_of-self-in-Forget c = record {
-  bounded = c.args.self.now.bounded;
   lively = subst TakesSome (sym c.feed.ensures.front) (stays_lively c.takes_some.ensures.each c.takes_some.ensures.none c.args.self.now.front c.args.piece.now c.args.self.now.lively);
 }
 
 pub invariant_of-self-in_default : goal.invariant_of-self-in_default
 invariant_of-self-in_default c = record {
-  bounded = c.args.self.now.bounded;
   lively = subst TakesSome (sym c.feed.ensures.front) (stays_lively c.takes_some.ensures.each c.takes_some.ensures.none c.args.self.now.front c.args.piece.now c.args.self.now.lively);
 }
 

@@ -2,12 +2,13 @@ use Rattle.tds_relay.specs.declared.pool.coming.What.TheVariants as whats
 use Rattle.tds_relay.specs.Core.{end_told}
 use Rattle.tds_relay.proofs.steps.Fronts.{ends_moved}
 use Rattle.tds_relay.proofs.steps.Queueing.{queues_kept}
-use Rattle.std.proofs.Common.{refl}
+use Rattle.std.proofs.Common.{refl, rules}
 use Rattle.tds_relay.specs.Closings.{NoKey}
 use Rattle.tds_relay.proofs.spared.Sending.{kept_refl}
 use Rattle.tds_relay.proofs.spared.Shutting.{closes_moved, keeps_acknowledged, unclosed}
 use Rattle.tds_relay.proofs.spared.Losing.{taken_or_deaf}
 use Rattle.tds_relay.proofs.steps.Doing.{done_kept}
+use Rattle.tds_relay.proofs.steps.Answering.{told_absent, told_there}
 use Rattle.tds_relay.proofs.relay.Relay.acknowledged.Goals as goal
 
 pub returns-in-Some-clause-kept : goal.returns-in-Some-clause-kept
@@ -27,4 +28,10 @@ pub returns-in-Some-clause-resumes : goal.returns-in-Some-clause-resumes
 returns-in-Some-clause-resumes c = λ resumes. (c.args.key, refl, taken_or_deaf c.args.self.now.applications c.args.key c.in-Some.application.now c.in-Some.ensures.value (c.acknowledged.ensures.resumes resumes))
 
 pub returns-in-Some-clause-asks : goal.returns-in-Some-clause-asks
-returns-in-Some-clause-asks c = done_kept c.args.self.now.applications c.args.key c.in-Some.application.now c.acknowledged.new.self c.in-Some.ensures.value c.acknowledged.ensures.body
+returns-in-Some-clause-asks c = done_kept c.args.self.now.applications c.args.key c.in-Some.application.now c.acknowledged.new.self c.in-Some.ensures.value c.acknowledged.ensures.body.0
+
+pub returns-in-Some-clause-told : goal.returns-in-Some-clause-told
+returns-in-Some-clause-told c = told_there c.args.self.now.applications c.args.key whats.Acknowledged c.in-Some.application.now c.acknowledged.new.self c.in-Some.ensures.value c.acknowledged.ensures.body.1
+
+pub returns-in-None-clause-told : goal.returns-in-None-clause-told
+returns-in-None-clause-told c = told_absent c.args.self.now.applications c.args.key whats.Acknowledged (search rules)

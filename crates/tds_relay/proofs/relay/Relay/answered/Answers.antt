@@ -2,11 +2,12 @@ use Rattle.tds_relay.specs.declared.pool.coming.What.TheVariants as whats
 use Rattle.tds_relay.specs.Core.{end_told}
 use Rattle.tds_relay.proofs.steps.Fronts.{ends_moved}
 use Rattle.tds_relay.proofs.steps.Queueing.{queues_kept}
-use Rattle.std.proofs.Common.{refl}
+use Rattle.std.proofs.Common.{refl, rules}
 use Rattle.tds_relay.specs.Closings.{NoKey}
 use Rattle.tds_relay.proofs.spared.Sending.{kept_refl}
 use Rattle.tds_relay.proofs.spared.Shutting.{closes_moved, keeps_finished, unclosed}
 use Rattle.tds_relay.proofs.steps.Doing.{done_kept}
+use Rattle.tds_relay.proofs.steps.Answering.{told_absent, told_there}
 use Rattle.tds_relay.proofs.relay.Relay.answered.Goals as goal
 
 pub returns-in-Some-clause-kept : goal.returns-in-Some-clause-kept
@@ -23,4 +24,10 @@ returns-in-Some-clause-closes c =
     (queues_kept s c.args.key a c.answered.new.self c.in-Some.ensures.value c.answered.ensures.queue) refl (kept_refl c.args.self.now.links.items) (unclosed _ _ refl)
 
 pub returns-in-Some-clause-asks : goal.returns-in-Some-clause-asks
-returns-in-Some-clause-asks c = done_kept c.args.self.now.applications c.args.key c.in-Some.application.now c.answered.new.self c.in-Some.ensures.value c.answered.ensures.body
+returns-in-Some-clause-asks c = done_kept c.args.self.now.applications c.args.key c.in-Some.application.now c.answered.new.self c.in-Some.ensures.value c.answered.ensures.body.0
+
+pub returns-in-Some-clause-told : goal.returns-in-Some-clause-told
+returns-in-Some-clause-told c = told_there c.args.self.now.applications c.args.key whats.Finished c.in-Some.application.now c.answered.new.self c.in-Some.ensures.value c.answered.ensures.body.1
+
+pub returns-in-None-clause-told : goal.returns-in-None-clause-told
+returns-in-None-clause-told c = told_absent c.args.self.now.applications c.args.key whats.Finished (search rules)

@@ -11,7 +11,7 @@ use Rattle.tds_relay.specs.Bodies.{Closed, Refuses, Stays, body_of, going_of, Ke
 use Rattle.slab.specs.Slab.{get, with_value}
 use Rattle.tds_relay.proofs.steps.Bodied.{none_closed, same_starts, shut_starts, shut, spared_starts}
 use Rattle.tds_relay.proofs.steps.Going.{begun}
-use Rattle.tds_relay.proofs.steps.Underway.{waits_written, written_there}
+use Rattle.tds_relay.proofs.steps.Underway.{of_over, over_deaf, waits_written, written_there}
 use Rattle.tds_relay.proofs.steps.Queueing.{queues_kept}
 use Rattle.std.specs.Prelude.{IsSome}
 use Rattle.tds_relay.specs.Closings.{IsNoRequest}
@@ -30,9 +30,10 @@ use Rattle.tds_relay.proofs.spared.Elsewhere.{aside_refl, keeps_own, keeps_waite
 use Rattle.tds_relay.specs.Reads.{waits_on}
 use Rattle.tds_relay.proofs.steps.Still.{begins_put, begins_shut, none_shut, put_refl, put_same, spared_place}
 use Rattle.tds_relay.proofs.spared.Rightly.{deaf_right_on, held_right_on, unkept_right, waits_right_on}
-use Rattle.tds_relay.proofs.spared.Starting.{unkept_none}
+use Rattle.tds_relay.proofs.spared.Starting.{unkept_none, unkept_over}
 use Rattle.tds_relay.proofs.lending.Earlier.{anew_kept, anew_refl}
 use Rattle.tds_relay.proofs.spared.Begun.{answers_unchanged}
+use Rattle.tds_relay.specs.declared.relay.Relay as code
 use Rattle.tds_relay.proofs.relay.Relay.begin.Goals as goal
 
 pub returns-in-false-default-clause-goes : goal.returns-in-false-default-clause-goes
@@ -92,22 +93,22 @@ pub returns-in_default-message_kind-clause-body : goal.returns-in_default-messag
 returns-in_default-message_kind-clause-body c = ok_more c.expel.result _ _ (λ d. (Closed, Refuses, shut_starts c.expel.new.self.applications c.args.key Closed (going_of c.args.key c.expel.new.self) d)) c.expel.ensures.over
 
 pub returns-in-true-None-clause-underway : goal.returns-in-true-None-clause-underway
-returns-in-true-None-clause-underway c = c.start.ensures.underway false (waits_written c.args.self.now.applications c.args.key c.in-Some.application.now c.forget.new.self _ false c.in-Some.ensures.value c.forget.ensures.asking)
+returns-in-true-None-clause-underway c = c.start.ensures.underway false (waits_written c.args.self.now.applications c.args.key c.in-Some.application.now c.forget.new.self _ false c.in-Some.ensures.value (c.forget.ensures.asking (c.forget.ensures.body.0 ∙ sym c.is_over.ensures ∙ c.if-is_over.false)))
 
 pub returns-in-true-None-clause-body : goal.returns-in-true-None-clause-body
-returns-in-true-None-clause-body c = ok_more c.start.result _ _ (λ s. (_, begun (get (with_value c.args.self.now.applications c.args.key c.forget.new.self) c.args.key) _ c.forget.new.self c.args.kind c.in-Some-message_kind.kind (written_there c.args.self.now.applications c.args.key c.in-Some.application.now c.forget.new.self c.in-Some.ensures.value) c.forget.ensures.asking c.forget.ensures.body.1 (search rules), s)) c.start.ensures.body
+returns-in-true-None-clause-body c = ok_more c.start.result _ _ (λ s. (_, begun (get (with_value c.args.self.now.applications c.args.key c.forget.new.self) c.args.key) _ c.forget.new.self c.args.kind c.in-Some-message_kind.kind (written_there c.args.self.now.applications c.args.key c.in-Some.application.now c.forget.new.self c.in-Some.ensures.value) (c.forget.ensures.asking (c.forget.ensures.body.0 ∙ sym c.is_over.ensures ∙ c.if-is_over.false)) c.forget.ensures.body.1 (search rules), s)) c.start.ensures.body
 
 pub returns-then-may_keep_later-clause-body : goal.returns-then-may_keep_later-clause-body
-returns-then-may_keep_later-clause-body c = (_, begun (get (with_value c.args.self.now.applications c.args.key c.forget.new.self) c.args.key) _ c.forget.new.self c.args.kind c.in-Some-message_kind.kind (written_there c.args.self.now.applications c.args.key c.in-Some.application.now c.forget.new.self c.in-Some.ensures.value) c.forget.ensures.asking c.forget.ensures.body.1 (search rules), Stays)
+returns-then-may_keep_later-clause-body c = (_, begun (get (with_value c.args.self.now.applications c.args.key c.forget.new.self) c.args.key) _ c.forget.new.self c.args.kind c.in-Some-message_kind.kind (written_there c.args.self.now.applications c.args.key c.in-Some.application.now c.forget.new.self c.in-Some.ensures.value) (c.forget.ensures.asking (c.forget.ensures.body.0 ∙ sym c.is_over.ensures ∙ c.if-is_over.false)) c.forget.ensures.body.1 (search rules), Stays)
 
 pub returns-else-may_keep_later-clause-body : goal.returns-else-may_keep_later-clause-body
-returns-else-may_keep_later-clause-body c = ok_more c.renew.result _ _ (λ s. (_, begun (get (with_value c.args.self.now.applications c.args.key c.forget.new.self) c.args.key) _ c.forget.new.self c.args.kind c.in-Some-message_kind.kind (written_there c.args.self.now.applications c.args.key c.in-Some.application.now c.forget.new.self c.in-Some.ensures.value) c.forget.ensures.asking c.forget.ensures.body.1 (search rules), s)) (c.renew.ensures.body false (waits_written c.args.self.now.applications c.args.key c.in-Some.application.now c.forget.new.self _ false c.in-Some.ensures.value c.forget.ensures.asking))
+returns-else-may_keep_later-clause-body c = ok_more c.renew.result _ _ (λ s. (_, begun (get (with_value c.args.self.now.applications c.args.key c.forget.new.self) c.args.key) _ c.forget.new.self c.args.kind c.in-Some-message_kind.kind (written_there c.args.self.now.applications c.args.key c.in-Some.application.now c.forget.new.self c.in-Some.ensures.value) (c.forget.ensures.asking (c.forget.ensures.body.0 ∙ sym c.is_over.ensures ∙ c.if-is_over.false)) c.forget.ensures.body.1 (search rules), s)) (c.renew.ensures.body false (waits_written c.args.self.now.applications c.args.key c.in-Some.application.now c.forget.new.self _ false c.in-Some.ensures.value (c.forget.ensures.asking (c.forget.ensures.body.0 ∙ sym c.is_over.ensures ∙ c.if-is_over.false))))
 
 pub returns-in-true-Some-Full-clause-body : goal.returns-in-true-Some-Full-clause-body
-returns-in-true-Some-Full-clause-body c = ok_more c.change.result _ _ (λ s. (_, begun (get (with_value c.args.self.now.applications c.args.key c.forget.new.self) c.args.key) _ c.forget.new.self c.args.kind c.in-Some-message_kind.kind (written_there c.args.self.now.applications c.args.key c.in-Some.application.now c.forget.new.self c.in-Some.ensures.value) c.forget.ensures.asking c.forget.ensures.body.1 (search rules), spared_starts _ (body_of c.args.key c.change.new.self) s)) (c.change.ensures.body false (waits_written c.args.self.now.applications c.args.key c.in-Some.application.now c.forget.new.self _ false c.in-Some.ensures.value c.forget.ensures.asking))
+returns-in-true-Some-Full-clause-body c = ok_more c.change.result _ _ (λ s. (_, begun (get (with_value c.args.self.now.applications c.args.key c.forget.new.self) c.args.key) _ c.forget.new.self c.args.kind c.in-Some-message_kind.kind (written_there c.args.self.now.applications c.args.key c.in-Some.application.now c.forget.new.self c.in-Some.ensures.value) (c.forget.ensures.asking (c.forget.ensures.body.0 ∙ sym c.is_over.ensures ∙ c.if-is_over.false)) c.forget.ensures.body.1 (search rules), spared_starts _ (body_of c.args.key c.change.new.self) s)) (c.change.ensures.body false (waits_written c.args.self.now.applications c.args.key c.in-Some.application.now c.forget.new.self _ false c.in-Some.ensures.value (c.forget.ensures.asking (c.forget.ensures.body.0 ∙ sym c.is_over.ensures ∙ c.if-is_over.false))))
 
 pub returns-in-false-default-clause-body : goal.returns-in-false-default-clause-body
-returns-in-false-default-clause-body c = ok_if c.wait.result _ (_, begun (get (with_value c.args.self.now.applications c.args.key c.forget.new.self) c.args.key) _ c.forget.new.self c.args.kind c.in-Some-message_kind.kind (written_there c.args.self.now.applications c.args.key c.in-Some.application.now c.forget.new.self c.in-Some.ensures.value) c.forget.ensures.asking c.forget.ensures.body.1 (search rules), same_starts _ (body_of c.args.key c.wait.new.self) (c.wait.ensures.body c.args.key))
+returns-in-false-default-clause-body c = ok_if c.wait.result _ (_, begun (get (with_value c.args.self.now.applications c.args.key c.forget.new.self) c.args.key) _ c.forget.new.self c.args.kind c.in-Some-message_kind.kind (written_there c.args.self.now.applications c.args.key c.in-Some.application.now c.forget.new.self c.in-Some.ensures.value) (c.forget.ensures.asking (c.forget.ensures.body.0 ∙ sym c.is_over.ensures ∙ c.if-is_over.false)) c.forget.ensures.body.1 (search rules), same_starts _ (body_of c.args.key c.wait.new.self) (c.wait.ensures.body c.args.key))
 
 pub returns-in_default-message_kind-clause-closes : goal.returns-in_default-message_kind-clause-closes
 returns-in_default-message_kind-clause-closes c =
@@ -143,7 +144,7 @@ returns-else-may_keep_later-clause-closes c =
       search rules,
       subst (λ (es : EndList). IsUnrenewed (HasTransaction (pool_in d) key ⊎ CannotPart key (end_at es key) d) key (end_at es key) d r.links.items (Kept c.in-Some-message_kind.kind [] false)) same
           (renewed_as _ key _ d r.links.items r.links.items _ (Kept c.in-Some-message_kind.kind [] false) (as_refl r.links.items)
-          (begun_kept (get (with_value s key b) key) b c.in-Some-message_kind.kind _ (written_there s key a b c.in-Some.ensures.value) c.forget.ensures.asking c.forget.ensures.body.1) why),
+          (begun_kept (get (with_value s key b) key) b c.in-Some-message_kind.kind _ (written_there s key a b c.in-Some.ensures.value) (c.forget.ensures.asking (c.forget.ensures.body.0 ∙ sym c.is_over.ensures ∙ c.if-is_over.false)) c.forget.ensures.body.1) why),
     ))) c.renew.ensures.closes)
     (closes_kept _ _ _ same (queues_kept s key a b c.in-Some.ensures.value c.forget.ensures.queue) refl (kept_refl r.links.items) (unclosed _ _ refl))
 
@@ -194,7 +195,7 @@ returns-in-true-None-clause-closes c =
     let held : IsSome (find_key key (pool_in d).holds) = search rules in
     let asked : IsReadyThere key (end_at (ends_in s) key) d links × CannotAsk m [] false key (end_at (ends_in s) key) d links =
     subst (λ (es : EndList). IsReadyThere key (end_at es key) d links × CannotAsk m [] false key (end_at es key) d links) same
-    (begun_asks key end d links (get (with_value s key b) key) _ b m (written_there s key a b c.in-Some.ensures.value) c.forget.ensures.asking c.forget.ensures.body.1 (held_asks key d _ held why)) in
+    (begun_asks key end d links (get (with_value s key b) key) _ b m (written_there s key a b c.in-Some.ensures.value) (c.forget.ensures.asking (c.forget.ensures.body.0 ∙ sym c.is_over.ensures ∙ c.if-is_over.false)) c.forget.ensures.body.1 (held_asks key d _ held why)) in
     inr (asked.0, c.in-Some-message_kind.kind, search rules, asked.1))) c.start.ensures.closes)
     (closes_kept _ _ _ same (queues_kept s c.args.key a b c.in-Some.ensures.value c.forget.ensures.queue) refl (kept_refl c.args.self.now.links.items) (unclosed _ _ refl))
 
@@ -232,13 +233,13 @@ pub returns-in-true-None-clause-puts : goal.returns-in-true-None-clause-puts
 returns-in-true-None-clause-puts c =
     let none : c.args.reset ≡ None = search rules in
     ok_more c.start.result _ _
-    (λ s. begins_put c.args.kind c.args.reset _ (standing_in c.args.key c.args.self.now) (standing_in c.args.key c.start.new.self) (begun (get (with_value c.args.self.now.applications c.args.key c.forget.new.self) c.args.key) _ c.forget.new.self c.args.kind c.in-Some-message_kind.kind (written_there c.args.self.now.applications c.args.key c.in-Some.application.now c.forget.new.self c.in-Some.ensures.value) c.forget.ensures.asking c.forget.ensures.body.1 (search rules))
+    (λ s. begins_put c.args.kind c.args.reset _ (standing_in c.args.key c.args.self.now) (standing_in c.args.key c.start.new.self) (begun (get (with_value c.args.self.now.applications c.args.key c.forget.new.self) c.args.key) _ c.forget.new.self c.args.kind c.in-Some-message_kind.kind (written_there c.args.self.now.applications c.args.key c.in-Some.application.now c.forget.new.self c.in-Some.ensures.value) (c.forget.ensures.asking (c.forget.ensures.body.0 ∙ sym c.is_over.ensures ∙ c.if-is_over.false)) c.forget.ensures.body.1 (search rules))
     (λ full. absurd (let u : None ≡ Some Full = sym none ∙ full in let v : ⊥ = cc in v)) s)
     c.start.ensures.puts
 
 pub returns-then-may_keep_later-clause-puts : goal.returns-then-may_keep_later-clause-puts
 returns-then-may_keep_later-clause-puts c =
-    begins_put c.args.kind c.args.reset _ (standing_in c.args.key c.args.self.now) (body_in (get (with_value c.args.self.now.applications c.args.key c.forget.new.self) c.args.key) (going_of c.args.key c.args.self.now), λ (number : ℕ). waits_on number c.args.self.now.links.items) (begun (get (with_value c.args.self.now.applications c.args.key c.forget.new.self) c.args.key) _ c.forget.new.self c.args.kind c.in-Some-message_kind.kind (written_there c.args.self.now.applications c.args.key c.in-Some.application.now c.forget.new.self c.in-Some.ensures.value) c.forget.ensures.asking c.forget.ensures.body.1 (search rules))
+    begins_put c.args.kind c.args.reset _ (standing_in c.args.key c.args.self.now) (body_in (get (with_value c.args.self.now.applications c.args.key c.forget.new.self) c.args.key) (going_of c.args.key c.args.self.now), λ (number : ℕ). waits_on number c.args.self.now.links.items) (begun (get (with_value c.args.self.now.applications c.args.key c.forget.new.self) c.args.key) _ c.forget.new.self c.args.kind c.in-Some-message_kind.kind (written_there c.args.self.now.applications c.args.key c.in-Some.application.now c.forget.new.self c.in-Some.ensures.value) (c.forget.ensures.asking (c.forget.ensures.body.0 ∙ sym c.is_over.ensures ∙ c.if-is_over.false)) c.forget.ensures.body.1 (search rules))
     (λ full. inl refl) (put_refl (body_in (get (with_value c.args.self.now.applications c.args.key c.forget.new.self) c.args.key) (going_of c.args.key c.args.self.now), λ (number : ℕ). waits_on number c.args.self.now.links.items))
 
 pub returns-else-may_keep_later-clause-puts : goal.returns-else-may_keep_later-clause-puts
@@ -247,12 +248,12 @@ returns-else-may_keep_later-clause-puts c =
     ok_more c.renew.result _ _
     (λ s. record {
       mid = _;
-      begins = (begun (get (with_value c.args.self.now.applications c.args.key c.forget.new.self) c.args.key) _ c.forget.new.self c.args.kind c.in-Some-message_kind.kind (written_there c.args.self.now.applications c.args.key c.in-Some.application.now c.forget.new.self c.in-Some.ensures.value) c.forget.ensures.asking c.forget.ensures.body.1 (search rules));
+      begins = (begun (get (with_value c.args.self.now.applications c.args.key c.forget.new.self) c.args.key) _ c.forget.new.self c.args.kind c.in-Some-message_kind.kind (written_there c.args.self.now.applications c.args.key c.in-Some.application.now c.forget.new.self c.in-Some.ensures.value) (c.forget.ensures.asking (c.forget.ensures.body.0 ∙ sym c.is_over.ensures ∙ c.if-is_over.false)) c.forget.ensures.body.1 (search rules));
       starts = s;
       still = λ none. absurd (let u : Some KeepTransaction ≡ None = sym keeps ∙ none in let v : ⊥ = cc in v);
       parts = λ full. absurd (let u : Some KeepTransaction ≡ Some Full = sym keeps ∙ full in let v : ⊥ = cc in v);
     })
-    (c.renew.ensures.puts false (waits_written c.args.self.now.applications c.args.key c.in-Some.application.now c.forget.new.self _ false c.in-Some.ensures.value c.forget.ensures.asking))
+    (c.renew.ensures.puts false (waits_written c.args.self.now.applications c.args.key c.in-Some.application.now c.forget.new.self _ false c.in-Some.ensures.value (c.forget.ensures.asking (c.forget.ensures.body.0 ∙ sym c.is_over.ensures ∙ c.if-is_over.false))))
 
 pub returns-in-true-Some-Full-clause-puts : goal.returns-in-true-Some-Full-clause-puts
 returns-in-true-Some-Full-clause-puts c =
@@ -260,17 +261,17 @@ returns-in-true-Some-Full-clause-puts c =
     ok_more c.change.result _ _
     (λ s. record {
       mid = _;
-      begins = (begun (get (with_value c.args.self.now.applications c.args.key c.forget.new.self) c.args.key) _ c.forget.new.self c.args.kind c.in-Some-message_kind.kind (written_there c.args.self.now.applications c.args.key c.in-Some.application.now c.forget.new.self c.in-Some.ensures.value) c.forget.ensures.asking c.forget.ensures.body.1 (search rules));
+      begins = (begun (get (with_value c.args.self.now.applications c.args.key c.forget.new.self) c.args.key) _ c.forget.new.self c.args.kind c.in-Some-message_kind.kind (written_there c.args.self.now.applications c.args.key c.in-Some.application.now c.forget.new.self c.in-Some.ensures.value) (c.forget.ensures.asking (c.forget.ensures.body.0 ∙ sym c.is_over.ensures ∙ c.if-is_over.false)) c.forget.ensures.body.1 (search rules));
       starts = spared_place (λ (number : ℕ). waits_on number c.args.self.now.links.items) _ (body_of c.args.key c.change.new.self) s;
       still = λ none. absurd (let u : Some Full ≡ None = sym full ∙ none in let v : ⊥ = cc in v);
       parts = λ is. s;
     })
-    (c.change.ensures.body false (waits_written c.args.self.now.applications c.args.key c.in-Some.application.now c.forget.new.self _ false c.in-Some.ensures.value c.forget.ensures.asking))
+    (c.change.ensures.body false (waits_written c.args.self.now.applications c.args.key c.in-Some.application.now c.forget.new.self _ false c.in-Some.ensures.value (c.forget.ensures.asking (c.forget.ensures.body.0 ∙ sym c.is_over.ensures ∙ c.if-is_over.false))))
 
 pub returns-in-false-default-clause-puts : goal.returns-in-false-default-clause-puts
 returns-in-false-default-clause-puts c =
     ok_if c.wait.result _
-    (begins_put c.args.kind c.args.reset _ (standing_in c.args.key c.args.self.now) (standing_in c.args.key c.wait.new.self) (begun (get (with_value c.args.self.now.applications c.args.key c.forget.new.self) c.args.key) _ c.forget.new.self c.args.kind c.in-Some-message_kind.kind (written_there c.args.self.now.applications c.args.key c.in-Some.application.now c.forget.new.self c.in-Some.ensures.value) c.forget.ensures.asking c.forget.ensures.body.1 (search rules))
+    (begins_put c.args.kind c.args.reset _ (standing_in c.args.key c.args.self.now) (standing_in c.args.key c.wait.new.self) (begun (get (with_value c.args.self.now.applications c.args.key c.forget.new.self) c.args.key) _ c.forget.new.self c.args.kind c.in-Some-message_kind.kind (written_there c.args.self.now.applications c.args.key c.in-Some.application.now c.forget.new.self c.in-Some.ensures.value) (c.forget.ensures.asking (c.forget.ensures.body.0 ∙ sym c.is_over.ensures ∙ c.if-is_over.false)) c.forget.ensures.body.1 (search rules))
     (λ full. inl (c.wait.ensures.body c.args.key))
     (put_same (body_in (get (with_value c.args.self.now.applications c.args.key c.forget.new.self) c.args.key) (going_of c.args.key c.args.self.now), λ (number : ℕ). waits_on number c.args.self.now.links.items) (standing_in c.args.key c.wait.new.self)
     (c.wait.ensures.body c.args.key) (λ number. ap (waits_on number) c.wait.ensures.links)))
@@ -310,3 +311,63 @@ returns-in-true-Some-Full-clause-anew c = λ reached. anew_kept c.change.result 
 
 pub returns-in-false-default-clause-anew : goal.returns-in-false-default-clause-anew
 returns-in-false-default-clause-anew c = λ reached. anew_kept c.wait.result c.args.self.now c.wait.new.self (answers_unchanged c.wait.result c.args.self.now.links.items c.wait.new.self.links.items (ok_if c.wait.result _ c.wait.ensures.links))
+-- ---- It is to be closed already
+
+pub returns-then-is_over-clause-kept : goal.returns-then-is_over-clause-kept
+returns-then-is_over-clause-kept c = queues_kept c.args.self.now.applications c.args.key c.in-Some.application.now c.in-Some.application.now c.in-Some.ensures.value refl
+
+pub returns-then-is_over-clause-moves : goal.returns-then-is_over-clause-moves
+returns-then-is_over-clause-moves c = λ asks begun from h. moves_same (Application c.args.key) from _ _ _ _ refl (ends_kept c.args.self.now.applications c.args.key c.in-Some.application.now c.in-Some.application.now c.in-Some.ensures.value refl) h
+
+pub returns-then-is_over-clause-underway : goal.returns-then-is_over-clause-underway
+returns-then-is_over-clause-underway c =
+    let r = c.args.self.now in
+    let key = c.args.key in
+    let a = c.in-Some.application.now in
+    let there = c.in-Some.ensures.value in
+    let s = with_value r.applications key a in
+    let back : code.Relay = record r { applications = s } in
+    let its : Some a ≡ get s key = sym (written_there r.applications key a a there) in
+    of_over false _ key (pool_in r.pool) s a its (sym c.is_over.ensures ∙ c.if-is_over.true)
+
+pub returns-then-is_over-clause-body : goal.returns-then-is_over-clause-body
+returns-then-is_over-clause-body c =
+    let r = c.args.self.now in
+    let key = c.args.key in
+    let a = c.in-Some.application.now in
+    let there = c.in-Some.ensures.value in
+    let s = with_value r.applications key a in
+    let back : code.Relay = record r { applications = s } in
+    let its : Some a ≡ get s key = sym (written_there r.applications key a a there) in
+    (Closed, Refuses, shut_starts s key Closed (going_of key back) (over_deaf key s a its (sym c.is_over.ensures ∙ c.if-is_over.true)))
+
+pub returns-then-is_over-clause-closes : goal.returns-then-is_over-clause-closes
+returns-then-is_over-clause-closes c = closes_kept _ _ _ (ends_kept c.args.self.now.applications c.args.key c.in-Some.application.now c.in-Some.application.now c.in-Some.ensures.value refl) (queues_kept c.args.self.now.applications c.args.key c.in-Some.application.now c.in-Some.application.now c.in-Some.ensures.value refl) refl (kept_refl c.args.self.now.links.items) (unclosed _ _ refl)
+
+pub returns-then-is_over-clause-others : goal.returns-then-is_over-clause-others
+returns-then-is_over-clause-others c = λ reached. written_rest c.args.key _ c.args.self.now _ refl refl refl
+
+pub returns-then-is_over-clause-aside : goal.returns-then-is_over-clause-aside
+returns-then-is_over-clause-aside c = λ reached. aside_refl c.args.key c.args.self.now
+
+pub returns-then-is_over-clause-puts : goal.returns-then-is_over-clause-puts
+returns-then-is_over-clause-puts c =
+    let r = c.args.self.now in
+    let key = c.args.key in
+    let a = c.in-Some.application.now in
+    let there = c.in-Some.ensures.value in
+    let s = with_value r.applications key a in
+    let back : code.Relay = record r { applications = s } in
+    let its : Some a ≡ get s key = sym (written_there r.applications key a a there) in
+    begins_shut c.args.kind c.args.reset (standing_in key r) (standing_in key back) (shut s key (going_of key back) (over_deaf key s a its (sym c.is_over.ensures ∙ c.if-is_over.true)))
+
+pub returns-then-is_over-clause-right : goal.returns-then-is_over-clause-right
+returns-then-is_over-clause-right c =
+    let r = c.args.self.now in
+    let key = c.args.key in
+    let a = c.in-Some.application.now in
+    let there = c.in-Some.ensures.value in
+    let s = with_value r.applications key a in
+    let back : code.Relay = record r { applications = s } in
+    let its : Some a ≡ get s key = sym (written_there r.applications key a a there) in
+    unkept_right key back (unkept_over s key a (going_of key back) its (sym c.is_over.ensures ∙ c.if-is_over.true))

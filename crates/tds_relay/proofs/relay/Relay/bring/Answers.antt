@@ -16,7 +16,7 @@ use Rattle.tds_relay.specs.Closings.{IsWaiting, register_in}
 use Rattle.tds_relay.proofs.spared.Closings.{closes_both, closes_more, closes_nobody, closes_refl}
 use Rattle.tds_relay.proofs.seats.Linked.{seated_pushed}
 use Rattle.tds_relay.proofs.seats.Relays.{brought_none, brought_one, none_brought}
-use Rattle.tds_relay.proofs.spared.Opening.{brought_low, on_last, opens_above, opens_new_both, opens_none, opens_same, turn_last}
+use Rattle.tds_relay.proofs.spared.Opening.{grows_brought, grows_refl, brought_low, on_last, opens_above, opens_new_both, opens_none, opens_same, turn_last}
 use Rattle.std.specs.Prelude.{IfSome, IsSome, None, Option}
 use Rattle.tds_relay.specs.Cleaning.{IsLentBy, IsTooLong, CountsOnce, cleaned_in}
 use Rattle.tds_relay.specs.Pool.{find_number}
@@ -150,13 +150,14 @@ pub returns-then-not-left-clause-seated : goal.returns-then-not-left-clause-seat
 returns-then-not-left-clause-seated c = λ s.
     let empty : c.is_empty.result ≡ true = search rules in
     none_brought c.in-Some.left.number (pool_in c.bring.new.self) c.args.self.now.links.items (none_there c.args.self.now.links.items (sym c.is_empty.ensures ∙ empty))
-    (brought_one c.in_ok-left.ensures.turns.0 c.in_ok-left.ensures.turns.1 c.args.self.now.pool c.bring.new.self _ _ c.args.self.now.links.items c.in_ok-left.field-0 c.in_ok-left.ensures.turns.2 c.in_ok-left.ensures.seats s c.in-Some.left false c.in-Some.is (search rules))
+    (brought_one c.in_ok-left.ensures.turns.0 c.in_ok-left.ensures.turns.1 c.args.self.now.pool c.bring.new.self _ _ c.args.self.now.links.items c.in_ok-left.field-0 c.in_ok-left.ensures.turns.2 c.in_ok-left.ensures.seats s c.in-Some.left false (none_there c.args.self.now.links.items (sym c.is_empty.ensures ∙ empty)) c.in-Some.is (search rules))
 
 pub returns-clause-seated : goal.returns-clause-seated
 returns-clause-seated c = λ s.
+    let empty : c.is_empty.result ≡ true = search rules in
     c.in_ok-serve_line.ensures.seated (c.in_ok-send_unheld.ensures.seated
     (seated_pushed c.in-Some.left.number (pool_in c.bring.new.self) _ c.args.self.now.links.items c.push.new.self.items c.in_ok-push.ensures.items c.in_ok-link.ensures.number
-    (brought_one c.in_ok-left.ensures.turns.0 c.in_ok-left.ensures.turns.1 c.args.self.now.pool c.bring.new.self _ _ c.args.self.now.links.items c.in_ok-left.field-0 c.in_ok-left.ensures.turns.2 c.in_ok-left.ensures.seats s c.in-Some.left true c.in-Some.is (search rules))))
+    (brought_one c.in_ok-left.ensures.turns.0 c.in_ok-left.ensures.turns.1 c.args.self.now.pool c.bring.new.self _ _ c.args.self.now.links.items c.in_ok-left.field-0 c.in_ok-left.ensures.turns.2 c.in_ok-left.ensures.seats s c.in-Some.left true (none_there c.args.self.now.links.items (sym c.is_empty.ensures ∙ empty)) c.in-Some.is (search rules))))
 
 pub returns-then-not-is_empty-clause-opening : goal.returns-then-not-is_empty-clause-opening
 returns-then-not-is_empty-clause-opening c = opens_none c.args.self.now
@@ -251,3 +252,15 @@ returns-clause-dials c = λ reached.
     let one : left.number ≤ (pool_in c.bring.new.self).service.last = brought_low (pool_in old.pool) (pool_in c.bring.new.self) c.in_ok-left.ensures.turns.0 c.in_ok-left.ensures.turns.1 left.number _ _ reached lent c.in_ok-left.ensures.turns.2 in
     let two : (pool_in c.bring.new.self).service.last ≤ (pool_in mid.pool).service.last = on_last (pool_in c.bring.new.self) (pool_in mid.pool) c.in_ok-send_unheld.ensures.goes in
     opens_above left.number old mid c.serve_line.new.self c.send_unheld.ensures.opening (omega (arith, one, two)) c.in_ok-serve_line.ensures.opening
+
+pub returns-then-not-is_empty-clause-many : goal.returns-then-not-is_empty-clause-many
+returns-then-not-is_empty-clause-many c = grows_refl c.args.self.now
+
+pub returns-in_default-clause-many : goal.returns-in_default-clause-many
+returns-in_default-clause-many c = grows_refl c.args.self.now
+
+pub returns-then-not-left-clause-many : goal.returns-then-not-left-clause-many
+returns-then-not-left-clause-many c = grows_refl c.args.self.now
+
+pub returns-clause-many : goal.returns-clause-many
+returns-clause-many c = grows_brought _ c.push.new.self.items c.args.self.now c.send_unheld.new.self c.serve_line.new.self c.in_ok-push.ensures.items c.in_ok-send_unheld.ensures.read.few c.send_unheld.ensures.opening c.in_ok-serve_line.ensures.many

@@ -27,6 +27,7 @@ use Rattle.tds_relay.proofs.lending.Firsts.{came_puts}
 use Rattle.tds_relay.proofs.lending.Dialled.{hears_served}
 use Rattle.tds_relay.proofs.lending.Fresh.{features_kept, new_behind, size_kept}
 use Rattle.tds_relay.proofs.lending.Stilled.{still_served}
+use Rattle.tds_relay.proofs.bytes.Telling.{comes_told}
 use Rattle.tds_relay.proofs.relay.Relay.came.Goals as goal
 
 pub returns-clause-steps : goal.returns-clause-steps
@@ -130,3 +131,8 @@ pub returns-clause-still : goal.returns-clause-still
 returns-clause-still c =
     still_served c.serve_line.result c.args.number c.args.self.now c.hear_all.new.self c.serve_line.new.self c.in_ok-hear_all.ensures.given c.in_ok-hear_all.ensures.still
     (goes_last (Connection c.args.number) (pool_in c.args.self.now.pool) (pool_in c.hear_all.new.self.pool) c.in_ok-hear_all.ensures.goes) c.serve_line.ensures.still
+
+pub returns-clause-told : goal.returns-clause-told
+returns-clause-told c =
+    comes_told c.serve_line.result c.args.number c.args.piece.now c.args.self.now c.hear_all.new.self c.serve_line.new.self c.in_ok-hear_all.ensures.told c.serve_line.ensures.moves c.serve_line.ensures.kept
+    c.serve_line.ensures.opens c.serve_line.ensures.stand c.serve_line.ensures.asks

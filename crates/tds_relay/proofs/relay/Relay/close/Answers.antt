@@ -4,6 +4,7 @@ use Rattle.tds_relay.specs.Closings.{IsWho, Itself}
 use Rattle.std.proofs.Common.{◌∙◌, ap, sym, ℕ, Some}
 use Rattle.tds_relay.proofs.spared.Closings.{closes_next, closes_nobody}
 use Rattle.tds_relay.proofs.spared.Begun.{answers_then}
+use Rattle.tds_relay.proofs.seats.Linked.{out_then}
 use Rattle.tds_relay.proofs.relay.Relay.close.Goals as goal
 
 pub returns-in-Some-clause-read : goal.returns-in-Some-clause-read
@@ -20,3 +21,9 @@ returns-in-None-clause-closes c = closes_nobody (IsWho c.args.key) _ _ c.in_ok-c
 
 pub returns-in-Some-clause-answers : goal.returns-in-Some-clause-answers
 returns-in-Some-clause-answers c = answers_then c.end.result _ _ _ c.in_ok-close_link.ensures.answers c.end.ensures.links
+
+pub returns-in-Some-clause-fewer : goal.returns-in-Some-clause-fewer
+returns-in-Some-clause-fewer c = out_then c.end.result c.args.number c.args.self.now.links.items c.close_link.new.self.links.items c.end.new.self.links.items c.in_ok-close_link.ensures.fewer c.end.ensures.links
+
+pub returns-in-None-clause-fewer : goal.returns-in-None-clause-fewer
+returns-in-None-clause-fewer c = c.in_ok-close_link.ensures.fewer

@@ -9,6 +9,7 @@ use Rattle.tds_relay.proofs.spared.Ended.{closes_removed, cutting}
 use Rattle.tds_relay.proofs.spared.Begun.{answers_without}
 use Rattle.tds_relay.proofs.spared.Opening.{opens_pushed}
 use Rattle.tds_relay.specs.declared.order.Order.TheVariants as orders
+use Rattle.tds_relay.proofs.seats.Linked.{out_without}
 use Rattle.tds_relay.proofs.relay.Relay.close_link.Goals as goal
 
 pub returns-in_ok-push-in-Some-clause-read : goal.returns-in_ok-push-in-Some-clause-read
@@ -53,3 +54,9 @@ returns-in_ok-push-in-Some-clause-queues c = λ other differs. ap (queue_on othe
 
 pub returns-in-None-clause-queues : goal.returns-in-None-clause-queues
 returns-in-None-clause-queues c = λ other differs. ap (queue_on other) c.remove_link.ensures ∙ left_queue c.args.number other c.args.self.now.links.items differs
+
+pub returns-in_ok-push-in-Some-clause-fewer : goal.returns-in_ok-push-in-Some-clause-fewer
+returns-in_ok-push-in-Some-clause-fewer c = out_without c.args.number _ _ c.remove_link.ensures
+
+pub returns-in-None-clause-fewer : goal.returns-in-None-clause-fewer
+returns-in-None-clause-fewer c = out_without c.args.number _ _ c.remove_link.ensures

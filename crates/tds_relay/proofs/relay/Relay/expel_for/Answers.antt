@@ -15,6 +15,7 @@ use Rattle.tds_relay.proofs.spared.Closings.{closes_behind}
 use Rattle.tds_relay.proofs.seats.Relays.{kept_seated}
 use Rattle.tds_relay.proofs.spared.Elsewhere.{aside_on, aside_same}
 use Rattle.tds_relay.proofs.spared.Begun.{answers_from}
+use Rattle.tds_relay.proofs.steps.Underway.{out_freed}
 use Rattle.tds_relay.proofs.relay.Relay.expel_for.Goals as goal
 
 pub returns-clause-goes : goal.returns-clause-goes
@@ -63,3 +64,6 @@ returns-clause-aside c = λ reached.
 
 pub returns-clause-answers : goal.returns-clause-answers
 returns-clause-answers c = answers_from c.release.result _ _ _ c.in_ok-end_for.ensures.links c.release.ensures.answers
+
+pub returns-clause-away : goal.returns-clause-away
+returns-clause-away c = out_freed c.release.result c.args.key (pool_in c.end_for.new.self.pool).line (pool_in c.release.new.self.pool).line c.release.ensures.line

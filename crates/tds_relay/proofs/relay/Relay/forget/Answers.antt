@@ -111,3 +111,9 @@ returns-then-was_asked-clause-answers c = answers_from c.unask.result _ _ _ c.fo
 
 pub returns-else-was_asked-clause-answers : goal.returns-else-was_asked-clause-answers
 returns-else-was_asked-clause-answers c = answers_same c.args.self.now.links.items _ (c.forget_request-was_asked.ensures.links)
+
+pub returns-then-was_asked-clause-away : goal.returns-then-was_asked-clause-away
+returns-then-was_asked-clause-away c = c.unask.ensures.away c.forget_request-was_asked.ensures.away
+
+pub returns-else-was_asked-clause-away : goal.returns-else-was_asked-clause-away
+returns-else-was_asked-clause-away c = c.forget_request-was_asked.ensures.away

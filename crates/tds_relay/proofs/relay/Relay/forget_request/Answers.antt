@@ -9,9 +9,11 @@ use Rattle.tds_relay.proofs.spared.Sending.{kept_refl}
 use Rattle.tds_relay.proofs.spared.Shutting.{closes_kept, unclosed}
 use Rattle.tds_relay.proofs.spared.Speaking.{forgotten_rest, unwaited_rest}
 use Rattle.tds_relay.proofs.spared.Reasons.{asked_goes}
-use Rattle.tds_relay.specs.declared.application.Asking.TheVariants as asking
+use Rattle.tds_relay.specs.declared.state.Asking.TheVariants as asking
 use Rattle.slab.specs.Slab.{get}
+use Rattle.tds_relay.proofs.steps.Underway.{out_by}
 use Rattle.tds_relay.proofs.relay.Relay.forget_request.Goals as goal
+use Rattle.tds_relay.specs.Places.{own_asking}
 
 pub returns-in_default-clause-goes : goal.returns-in_default-clause-goes
 returns-in_default-clause-goes c = λ from h. reaches_turn (Application c.args.key) from _ _ _ _ _ c.unwait.ensures.turns refl h
@@ -42,5 +44,11 @@ returns-clause-others c = forgotten_rest c.args.key _ c.args.self.now _ (search 
 
 pub returns-clause-asked : goal.returns-clause-asked
 returns-clause-asked c = λ e goes.
-    let asks : c.in-Some.application.now.asking ≡ asking.Goes = search rules in
+    let asks : own_asking c.in-Some.application.now ≡ asking.Goes = search rules in
     asked_goes (get c.args.self.now.applications c.args.key) c.in-Some.application.now goes c.in-Some.ensures.value asks
+
+pub returns-in_default-clause-away : goal.returns-in_default-clause-away
+returns-in_default-clause-away c = out_by c.args.key _ _ c.unwait.ensures.turns.pool_is
+
+pub returns-clause-away : goal.returns-clause-away
+returns-clause-away c = out_by c.args.key _ _ c.unwait.ensures.turns.pool_is

@@ -1,5 +1,5 @@
 use Rattle.std.proofs.Common.{ap, refl, ◌≡◌, ◌∙◌, Option, rules, subst, sym, false, ℕ}
-use Rattle.tds_relay.specs.declared.application.Asking.TheVariants as asking
+use Rattle.tds_relay.specs.declared.state.Asking.TheVariants as asking
 use Rattle.tds_relay.specs.Fronts.{ends_in}
 use Rattle.tds_relay.specs.Core.{EndList, change_end, closes, end_at, IfOpen, IsBegun}
 use Rattle.tds_relay.specs.Reasons.{CannotGoOn, CannotPut, ItselfFor, room_left, IsUnbegun}
@@ -29,6 +29,7 @@ use Rattle.tds_relay.proofs.steps.Still.{none_shut, put_going, put_shut}
 use Rattle.tds_relay.proofs.spared.Rightly.{deaf_right_on, unkept_right}
 use Rattle.tds_relay.proofs.spared.Starting.{put_unkept_on, unkept_none}
 use Rattle.tds_relay.proofs.relay.Relay.go_on.Goals as goal
+use Rattle.tds_relay.specs.Places.{own_asking}
 
 pub returns-then-not-branch-clause-moves : goal.returns-then-not-branch-clause-moves
 returns-then-not-branch-clause-moves c =
@@ -58,18 +59,17 @@ returns-else-not-branch-clause-body c =
     let s = c.args.self.now.applications in
     let a = c.in-Some.application.now in
     let there = c.in-Some.ensures.value in
-    let kept = c.in_ok-keep-in-Waits.ensures.body (search rules) in
-    let asked = c.in_ok-keep-in-Waits.ensures.asks (search rules) in
+    let kept = c.in_ok-keep-in-Waits.ensures.keeps (search rules) _ _ (sym c.asking.ensures ∙ c.in-Waits.is) in
     ok_more c.seek.result _ _
     (λ t. grows_then c.args.whole c.args.bytes.now (body_of c.args.key c.args.self.now) _ (body_of c.args.key c.seek.new.self) t
-    (grows_kept c.args.whole c.args.bytes.now (get s c.args.key) _ (going_of c.args.key c.args.self.now) _ a _ c.in-Waits.kind _ there (written_there s c.args.key a _ there) c.in-Waits.is asked kept.0 kept.1))
+    (grows_kept c.args.whole c.args.bytes.now (get s c.args.key) _ (going_of c.args.key c.args.self.now) _ a _ _ _ there (written_there s c.args.key a _ there) (sym c.asking.ensures ∙ c.in-Waits.is) kept.0 c.keep.ensures.over kept.1))
     c.seek.ensures.body
 
 pub returns-in-Goes-clause-body : goal.returns-in-Goes-clause-body
 returns-in-Goes-clause-body c =
     let s = c.args.self.now.applications in
     let a = c.in-Some.application.now in
-    let asks : a.asking ≡ asking.Goes = search rules in
+    let asks : own_asking a ≡ asking.Goes = sym c.asking.ensures ∙ c.in-Goes.is in
     ok_more c.put.result _ _
     (λ p. (
       body_of c.args.key c.put.new.self,
@@ -86,13 +86,13 @@ pub returns-in-Nothing-clause-keeps : goal.returns-in-Nothing-clause-keeps
 returns-in-Nothing-clause-keeps c = λ none.
     ok_if c.expel.result _
     (subst (λ (o : Option AnApplication). KeepsInLine c.args.whole c.args.bytes.now o (body_of c.args.key c.expel.new.self)) c.in-Some.ensures.value
-    (λ here fits kind was asks begun. absurd (nothing_waits c.in-Some.application.now.asking kind was (search rules) asks)))
+    (λ here fits kind was asks begun. absurd (nothing_waits (own_asking c.in-Some.application.now) kind was (search rules) asks)))
 
 pub returns-in-Goes-clause-keeps : goal.returns-in-Goes-clause-keeps
 returns-in-Goes-clause-keeps c = λ none.
     ok_if c.put.result _
     (subst (λ (o : Option AnApplication). KeepsInLine c.args.whole c.args.bytes.now o (body_of c.args.key c.put.new.self)) c.in-Some.ensures.value
-    (λ here fits kind was asks begun. absurd (goes_waits c.in-Some.application.now.asking kind was (search rules) asks)))
+    (λ here fits kind was asks begun. absurd (goes_waits (own_asking c.in-Some.application.now) kind was (search rules) asks)))
 
 pub returns-then-not-branch-clause-keeps : goal.returns-then-not-branch-clause-keeps
 returns-then-not-branch-clause-keeps c = λ none.
@@ -105,11 +105,10 @@ returns-else-not-branch-clause-keeps c = λ none.
     let s = c.args.self.now.applications in
     let a = c.in-Some.application.now in
     let there = c.in-Some.ensures.value in
-    let kept = c.in_ok-keep-in-Waits.ensures.body (search rules) in
-    let asked = c.in_ok-keep-in-Waits.ensures.asks (search rules) in
+    let kept = c.in_ok-keep-in-Waits.ensures.keeps (search rules) _ _ (sym c.asking.ensures ∙ c.in-Waits.is) in
     ok_more c.seek.result _ _
     (λ same. subst (λ (o : Option AnApplication). KeepsInLine c.args.whole c.args.bytes.now o (body_of c.args.key c.seek.new.self)) there
-    (λ here fits kind was asks begun. same ∙ kept_more _ a _ _ c.in-Waits.kind kind _ was c.args.whole c.args.bytes.now (written_there s c.args.key a _ there) here c.in-Waits.is asks asked kept.0 kept.1))
+    (λ here fits kind was asks begun. same ∙ kept_more _ a _ _ _ kind _ was c.args.whole c.args.bytes.now (written_there s c.args.key a _ there) here (sym c.asking.ensures ∙ c.in-Waits.is) asks kept.0 c.keep.ensures.over kept.1))
     (c.seek.ensures.stays none)
 
 pub returns-in-Nothing-clause-closes : goal.returns-in-Nothing-clause-closes
@@ -120,7 +119,7 @@ returns-in-Nothing-clause-closes c = for_reason c.expel.result c.args.key _ _ _
 
 pub returns-then-not-branch-clause-closes : goal.returns-then-not-branch-clause-closes
 returns-then-not-branch-clause-closes c = for_reason c.expel-then-not-branch.result c.args.key _ _ _
-    (too_long c.args.whole c.args.bytes.now c.args.key _ c.args.self.now.pool c.args.self.now.links.items (get c.args.self.now.applications c.args.key) c.in-Some.application.now (going_of c.args.key c.args.self.now) c.in-Waits.kind _ c.in-Some.ensures.value c.in-Waits.is (c.in_ok-keep-in-Waits.ensures.long (search rules)))
+    (too_long c.args.whole c.args.bytes.now c.args.key _ c.args.self.now.pool c.args.self.now.links.items (get c.args.self.now.applications c.args.key) c.in-Some.application.now (going_of c.args.key c.args.self.now) _ _ c.in-Some.ensures.value (sym c.asking.ensures ∙ c.in-Waits.is) (c.in_ok-keep-in-Waits.ensures.long (search rules)))
     (closes_on c.expel-then-not-branch.result (Itself c.args.key) _ _ _ c.expel-then-not-branch.ensures.closes
     (closes_kept (Itself c.args.key) _ _ (ends_kept c.args.self.now.applications c.args.key c.in-Some.application.now c.keep.new.self c.in-Some.ensures.value c.keep.ensures.end) (queues_kept c.args.self.now.applications c.args.key c.in-Some.application.now c.keep.new.self c.in-Some.ensures.value c.keep.ensures.queue) refl (kept_refl c.args.self.now.links.items) (unclosed _ _ refl)))
 
@@ -133,12 +132,12 @@ returns-else-not-branch-clause-closes c =
     let s = c.args.self.now.applications in
     let r = c.args.self.now in
     let same = ends_kept s key a b c.in-Some.ensures.value c.keep.ensures.end in
-    let kept = c.in_ok-keep-in-Waits.ensures.body (search rules) in
+    let kept = c.in_ok-keep-in-Waits.ensures.keeps (search rules) _ _ (sym c.asking.ensures ∙ c.in-Waits.is) in
     closes_on c.seek.result (ItselfFor key (CannotGoOn whole c.args.bytes.now key (end_at (ends_in s) key) (room_left (get s key)) r.pool r.links.items (body_of key r))) _ _ _
     (for_that c.seek.result key _ _ _ _
     (λ why. subst (λ (es : EndList). CannotGoOn whole c.args.bytes.now key (end_at es key) (room_left (get s key)) r.pool r.links.items (body_of key r)) same
-    (turned_goes whole _ c.args.bytes.now key _ _ r.pool r.links.items (get s key) (get (with_value s key b) key) a b (going_of key r) _ c.in-Waits.kind c.in-Some.ensures.value (written_there s key a b c.in-Some.ensures.value) c.in-Waits.is kept.0 kept.1
-    (c.in_ok-keep-in-Waits.ensures.asks (search rules)) why)) c.seek.ensures.closes)
+    (turned_goes whole _ c.args.bytes.now key _ _ r.pool r.links.items (get s key) (get (with_value s key b) key) a b (going_of key r) _ _ c.in-Some.ensures.value (written_there s key a b c.in-Some.ensures.value) (sym c.asking.ensures ∙ c.in-Waits.is) c.keep.ensures.over kept.1
+    kept.0 why)) c.seek.ensures.closes)
     (closes_kept _ _ _ same (queues_kept s key a b c.in-Some.ensures.value c.keep.ensures.queue) refl (kept_refl r.links.items) (unclosed _ _ refl))
 
 pub returns-in-Goes-clause-closes : goal.returns-in-Goes-clause-closes
@@ -189,7 +188,7 @@ returns-then-not-may_put-clause-others c = λ reached. others_on c.expel-then-no
 
 pub returns-then-not-may_put-clause-closes : goal.returns-then-not-may_put-clause-closes
 returns-then-not-may_put-clause-closes c = for_reason c.expel-then-not-may_put.result c.args.key _ _ _
-    (unbegun_goes c.args.whole c.args.bytes.now c.args.key _ _ c.args.self.now.pool c.args.self.now.links.items (get c.args.self.now.applications c.args.key) c.in-Some.application.now (going_of c.args.key c.args.self.now) c.in-Waits.kind _ c.in-Some.ensures.value c.in-Waits.is
+    (unbegun_goes c.args.whole c.args.bytes.now c.args.key _ _ c.args.self.now.pool c.args.self.now.links.items (get c.args.self.now.applications c.args.key) c.in-Some.application.now (going_of c.args.key c.args.self.now) _ _ c.in-Some.ensures.value (sym c.asking.ensures ∙ c.in-Waits.is)
     (subst (IfOpen (IsUnbegun false)) (sym (end_there c.args.self.now.applications c.args.key c.in-Some.application.now c.in-Some.ensures.value)) (c.may_put.ensures.unbegun (search rules))))
     (closes_on c.expel-then-not-may_put.result (Itself c.args.key) _ _ _ c.expel-then-not-may_put.ensures.closes
     (closes_kept (Itself c.args.key) _ _ (ends_kept c.args.self.now.applications c.args.key c.in-Some.application.now c.in-Some.application.now c.in-Some.ensures.value refl) (queues_kept c.args.self.now.applications c.args.key c.in-Some.application.now c.in-Some.application.now c.in-Some.ensures.value refl) refl (kept_refl c.args.self.now.links.items) (unclosed _ _ refl)))
@@ -235,12 +234,11 @@ returns-else-not-branch-clause-puts c =
     let s = c.args.self.now.applications in
     let a = c.in-Some.application.now in
     let there = c.in-Some.ensures.value in
-    let kept = c.in_ok-keep-in-Waits.ensures.body (search rules) in
-    let asked = c.in_ok-keep-in-Waits.ensures.asks (search rules) in
+    let kept = c.in_ok-keep-in-Waits.ensures.keeps (search rules) _ _ (sym c.asking.ensures ∙ c.in-Waits.is) in
     ok_more c.seek.result _ _
     (λ t. (
       _,
-      grows_kept c.args.whole c.args.bytes.now (get s c.args.key) _ (going_of c.args.key c.args.self.now) _ a _ c.in-Waits.kind _ there (written_there s c.args.key a _ there) c.in-Waits.is asked kept.0 kept.1,
+      grows_kept c.args.whole c.args.bytes.now (get s c.args.key) _ (going_of c.args.key c.args.self.now) _ a _ _ _ there (written_there s c.args.key a _ there) (sym c.asking.ensures ∙ c.in-Waits.is) kept.0 c.keep.ensures.over kept.1,
       t,
     ))
     c.seek.ensures.puts
@@ -249,13 +247,13 @@ pub returns-in-Goes-clause-puts : goal.returns-in-Goes-clause-puts
 returns-in-Goes-clause-puts c =
     let s = c.args.self.now.applications in
     let a = c.in-Some.application.now in
-    let asks : a.asking ≡ asking.Goes = search rules in
+    let asks : own_asking a ≡ asking.Goes = sym c.asking.ensures ∙ c.in-Goes.is in
     ok_more c.put.result _ _
     (λ p. (
       body_of c.args.key c.put.new.self,
       grows_going c.args.whole c.args.bytes.now (get (with_value s c.args.key a) c.args.key) (get s c.args.key) (get c.put.new.self.applications c.args.key) (going_of c.args.key c.args.self.now) _ (going_of c.args.key c.put.new.self) a a
           c.in-Some.ensures.value (written_there s c.args.key a a c.in-Some.ensures.value) asks asks refl refl p,
-      put_going _ (λ (number : ℕ). waits_on number c.args.self.now.links.items) c.args.key s a a c.put.new.self c.in-Some.ensures.value asks p,
+      put_going _ (λ (number : ℕ). waits_on number c.args.self.now.links.items) c.args.key s a a c.put.new.self c.in-Some.ensures.value (λ here. asks) p,
     ))
     c.put.ensures.body
 
@@ -274,4 +272,4 @@ returns-then-not-branch-clause-right c = deaf_right_on c.expel-then-not-branch.r
 pub returns-in-Goes-clause-right : goal.returns-in-Goes-clause-right
 returns-in-Goes-clause-right c =
     ok_more c.put.result _ _ (λ un. unkept_right c.args.key c.put.new.self un)
-    (put_unkept_on c.put.result _ c.args.key c.args.self.now.applications c.in-Some.application.now c.in-Some.application.now c.put.new.self c.put.ensures.body c.in-Some.ensures.value (search rules))
+    (put_unkept_on c.put.result _ c.args.key c.args.self.now.applications c.in-Some.application.now c.in-Some.application.now c.put.new.self c.put.ensures.body c.in-Some.ensures.value (λ here. sym c.asking.ensures ∙ c.in-Goes.is))

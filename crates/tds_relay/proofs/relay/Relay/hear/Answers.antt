@@ -29,6 +29,7 @@ use Rattle.tds_relay.proofs.lending.Firsts.{carried_written, first_may, first_ma
 use Rattle.tds_relay.specs.Cleaning.{PutsByLease}
 use Rattle.tds_relay.proofs.lending.Dialled.{hears_stays, hears_written}
 use Rattle.tds_relay.proofs.lending.Stilled.{still_heard, still_refl}
+use Rattle.tds_relay.proofs.bytes.Telling.{tells_at, tells_nowhere, tells_shut}
 use Rattle.tds_relay.proofs.relay.Relay.hear.Goals as goal
 
 -- what comes where nothing is
@@ -184,7 +185,7 @@ returns-in_default-clause-seated c = λ s. s
 pub returns-then-not-link-clause-seated : goal.returns-then-not-link-clause-seated
 returns-then-not-link-clause-seated c = rw (← c.links.view_is) (
     λ s. seated_as (pool_in c.args.self.now.pool) c.links.inside.list.items _
-    (heard_there c.links.inside.list.items _ (λ other. (same_written c.links.inside.list.items c.in-Some.place c.index_mut-link.result.now _
+    (heard_there c.links.inside.list.items _ (length-set c.links.inside.list.items c.in-Some.place _) (λ other. (same_written c.links.inside.list.items c.in-Some.place c.index_mut-link.result.now _
     (ap (λ (l : Link). l.number) c.index_mut-link.ensures.value) (ap sending_of c.index_mut-link.ensures.value) (ap (λ (l : Link). l.is_open) c.index_mut-link.ensures.value) other).0)) s)
 
 pub returns-clause-seated : goal.returns-clause-seated
@@ -192,7 +193,7 @@ returns-clause-seated c = rw (← c.links.view_is) (
     λ s. behind_on c.hear_on.result c.args.number (pool_in c.args.self.now.pool) _ c.links.inside.list.items
     (ok_more c.hear_on.result _ _ (λ g. reached_on (Connection c.args.number) (pool_in c.args.self.now.pool) (pool_in c.hear_on.new.pool) g) c.hear_on.ensures.goes)
     (c.hear_on.ensures.seats s.reached)
-    (heard_there c.links.inside.list.items _ (λ other. (same_written c.links.inside.list.items c.in-Some.place c.index_mut-link.result.now _
+    (heard_there c.links.inside.list.items _ (length-set c.links.inside.list.items c.in-Some.place _) (λ other. (same_written c.links.inside.list.items c.in-Some.place c.index_mut-link.result.now _
     (c.hear_on.ensures.number ∙ ap (λ (l : Link). l.number) c.index_mut-link.ensures.value)
     (sending_same c.index_mut-link.result.now c.hear_on.new.link c.hear_on.ensures.tag c.hear_on.ensures.out ∙ ap sending_of c.index_mut-link.ensures.value)
     (c.hear_on.ensures.is_open ∙ ap (λ (l : Link). l.is_open) c.index_mut-link.ensures.value) other).0)) s)
@@ -264,3 +265,22 @@ returns-clause-still c = rw (← c.links.view_is) (
     (c.hear_on.ensures.number ∙ ap (λ (l : Link). l.number) c.index_mut-link.ensures.value)
     (sending_same c.index_mut-link.result.now c.hear_on.new.link c.hear_on.ensures.tag c.hear_on.ensures.out ∙ ap sending_of c.index_mut-link.ensures.value)
     (c.hear_on.ensures.is_open ∙ ap (λ (l : Link). l.is_open) c.index_mut-link.ensures.value) n).0)))
+
+pub returns-in_default-clause-told : goal.returns-in_default-clause-told
+returns-in_default-clause-told c =
+    tells_nowhere c.args.number c.args.piece.now (length c.args.piece.now) (record { key = None; what = whats.Goes }) c.args.self.now.links.items (machine_in c.args.self.now) c.args.self.now.pool.service refl
+    (sym c.place_in.ensures.is ∙ c.in_default.is)
+
+pub returns-clause-told : goal.returns-clause-told
+returns-clause-told c = rw (← c.links.view_is) (
+    tells_at c.hear_on.result c.args.number c.links.inside.list.items c.in-Some.place c.index_mut-link.result.now c.hear_on.new.link c.args.piece.now (machine_in c.args.self.now)
+    (λ (heard : Option Heard). machine_with (pool_in c.hear_on.new.pool) (told_by heard (ends_in c.args.self.now.applications)) (queues_in c.hear_on.new.applications))
+    c.args.self.now.pool.service c.hear_on.new.pool.service
+    (ap (λ (v : Linked). place_of c.args.number v.items) c.links.view_is ∙ sym c.place_in.ensures.is ∙ c.in-Some.is)
+    c.index_mut-link.ensures.value c.hear_on.ensures.number (search rules) c.hear_on.ensures.is_open refl c.hear_on.ensures.hears c.hear_on.ensures.read)
+
+pub returns-then-not-link-clause-told : goal.returns-then-not-link-clause-told
+returns-then-not-link-clause-told c = rw (← c.links.view_is) (
+    tells_shut c.args.number c.args.piece.now (length c.args.piece.now) (record { key = None; what = whats.Goes }) c.links.inside.list.items c.in-Some.place c.index_mut-link.result.now (machine_in c.args.self.now) c.args.self.now.pool.service refl
+    (ap (λ (v : Linked). place_of c.args.number v.items) c.links.view_is ∙ sym c.place_in.ensures.is ∙ c.in-Some.is)
+    c.index_mut-link.ensures.value (search rules))

@@ -1,6 +1,6 @@
 use Rattle.std.proofs.Common.{◌≡◌, ◌∙◌, [], ap, inl, length, refl, suc, sym, rules, None, Some}
 use Rattle.tds_relay.specs.Waiting.{LosesAt, ByPacket, HeardFor, IsItsHolders}
-use Rattle.tds_relay.specs.Fronts.{core_in, machine_in, told_by}
+use Rattle.tds_relay.specs.Fronts.{core_in, ends_in, machine_in, told_by}
 use Rattle.tds_relay.specs.Ordering.{opens_in}
 use Rattle.tds_relay.specs.Queues.{names_of, queues_in}
 use Rattle.tds_relay.specs.Reads.{answer_at, open_at, waits_on}
@@ -31,6 +31,9 @@ use Rattle.tds_relay.proofs.spared.Counted.{one_lost}
 use Rattle.tds_relay.proofs.lending.Drained.{cleans_nothing, one_cleans}
 use Rattle.tds_relay.proofs.lending.Stilled.{still_next, still_refl}
 use Rattle.tds_relay.proofs.lending.Dialled.{hears_next, hears_stays}
+use Rattle.tds_relay.specs.Coming.{acknowledged_in, asking_in}
+use Rattle.tds_relay.proofs.bytes.Telling.{tells_all, tells_begin, tells_left, tells_more}
+use Rattle.tds_relay.proofs.steps.Answering.{told_since}
 use Rattle.tds_relay.proofs.relay.Relay.hear_all.Goals as goal
 
 pub taking-init : goal.taking-init
@@ -39,6 +42,7 @@ taking-init c = record {
   goes = λ from h. h;
   names = refl;
   anew = anew_begin c.args.number (answer_at c.args.number c.args.self.now.links.items) (open_at c.args.number c.args.self.now.links.items) (machine_in c.args.self.now) c.args.self.now.pool.service c.args.piece.now;
+  told = tells_begin c.args.number (asking_in c.args.self.now.applications) (open_at c.args.number c.args.self.now.links.items) (machine_in c.args.self.now) c.args.self.now.pool.service c.args.piece.now;
   others = others_open c.args.number _ _ (opens_refl c.args.self.now.links.items);
   bodies = λ reached. along_refl c.args.self.now;
   closes = closes_refl (HeardFor c.args.number c.args.piece.now c.args.self.now) (register_in c.args.self.now);
@@ -72,6 +76,12 @@ taking-preserved c = record {
       (anew_on c.args.number _ _ _ _ _ _ _ _ _ _ _ _ _ _ _ _ _ _ _ _ c.taking.invariant.anew c.in_ok-count.ensures.continues
       (moved_same (Connection c.args.number) _ _ _ _ _ refl (ap (told_by _) c.in_ok-count.ensures.ends) c.in_ok-heard.ensures.moves)
       c.in_ok-heard.ensures.kept c.in_ok-heard.ensures.read c.in_ok-heard.ensures.gone c.in_ok-heard.ensures.stand c.in_ok-heard.ensures.begins);
+  told =
+      tells_left c.args.number _ _ _ _ _ _ _ _ _ _ _ c.behind-rest.ensures
+      (tells_more c.args.number (asking_in c.args.self.now.applications) (asking_in c.taking.self.applications) (asking_in c.heard.new.self.applications) _ _ _ _ _ _ _ _ _ _ _ _ _ _ _ _ _ _ c.taking.invariant.told c.in_ok-count.ensures.told
+      (moved_same (Connection c.args.number) _ _ _ _ _ refl (ap (told_by _) c.in_ok-count.ensures.ends) c.in_ok-heard.ensures.moves)
+      c.in_ok-heard.ensures.kept c.in_ok-heard.ensures.read c.in_ok-heard.ensures.gone c.in_ok-heard.ensures.stand
+      (told_since (acknowledged_in c.in_ok-count.heard) c.in_ok-count.heard c.taking.self.applications c.hear.new.self.applications (ends_in c.taking.self.applications) (asking_in c.heard.new.self.applications) c.in_ok-count.ensures.ends c.in_ok-count.ensures.asks c.in_ok-heard.ensures.told));
   others = others_stay c.args.number _ _ _ (others_both c.args.number _ _ _ c.taking.invariant.others c.in_ok-count.ensures.others) c.in_ok-heard.ensures.read;
   bodies = λ reached.
       one_along c.args.number c.args.self.now c.taking.self c.hear.new.self c.heard.new.self reached (c.taking.invariant.bodies reached) c.taking.invariant.goes c.in_ok-count.ensures.goes c.in_ok-count.ensures.asks c.in_ok-heard.ensures.bodies;
@@ -124,8 +134,8 @@ taking-preserved c = record {
       one_rests c.args.number c.taking.rest.now _ key c.taking.self c.hear.new.self c.heard.new.self _ at c.in_ok-count.ensures.hears refl (c.in_ok-heard.ensures.spares behind) holds c.args.self.now (c.taking.invariant.rests seated key)
       (c.in_ok-count.ensures.cleans at.reached) (λ other. (c.in_ok-count.ensures.same other).0) c.in_ok-count.ensures.asks (c.in_ok-heard.ensures.keeps behind) holds;
   still =
-      still_next c.args.number c.args.self.now.links.items c.taking.self.links.items c.hear.new.self.links.items c.heard.new.self.links.items c.taking.invariant.given c.in_ok-count.ensures.given c.taking.invariant.still c.in_ok-count.ensures.still
-      c.in_ok-heard.ensures.others.still;
+      still_next c.args.number c.taking.rest.now _ c.args.self.now.links.items c.taking.self c.hear.new.self c.heard.new.self _ c.taking.invariant.given c.in_ok-count.ensures.given c.taking.invariant.still c.in_ok-count.ensures.still
+      c.in_ok-count.ensures.hears c.in_ok-heard.ensures.others c.in_ok-heard.ensures.sent;
   given = hears_next c.args.number c.args.self.now.links.items c.taking.self.links.items c.hear.new.self.links.items c.heard.new.self.links.items c.taking.invariant.given c.in_ok-count.ensures.given c.in_ok-heard.ensures.read;
   opening = c.heard.ensures.opening ∙ ap opens_in c.hear.ensures.orders ∙ c.taking.invariant.opening;
   many = many_on (length c.args.self.now.links.items) (length c.taking.self.links.items) (length c.hear.new.self.links.items) (length c.heard.new.self.links.items) c.taking.invariant.many c.in_ok-count.ensures.many c.in_ok-heard.ensures.read.few;
@@ -147,3 +157,14 @@ pub returns-then-is_empty-clause-anew : goal.returns-then-is_empty-clause-anew
 returns-then-is_empty-clause-anew c =
     let none : c.taking.rest.now ≡ [] = sym (empty_is c.taking.rest.now (sym c.is_empty.ensures ∙ c.if-is_empty.true)) in
     anew_all c.args.number _ _ _ (open_at c.args.number c.taking.self.links.items) _ _ _ _ c.args.piece.now c.taking.rest.now none c.taking.invariant.anew
+
+pub returns-clause-told : goal.returns-clause-told
+returns-clause-told c =
+    let last : c.taking.counter ≡ suc (length c.args.piece.now) = search rules in
+    tells_all c.args.number _ _ _ (open_at c.args.number c.taking.self.links.items) _ _ _ _ c.args.piece.now c.taking.rest.now
+    (turns_end (open_at c.args.number c.taking.self.links.items) c.taking.rest.now c.taking.counter (length c.args.piece.now) last c.taking.invariant.turns) c.taking.invariant.told
+
+pub returns-then-is_empty-clause-told : goal.returns-then-is_empty-clause-told
+returns-then-is_empty-clause-told c =
+    let none : c.taking.rest.now ≡ [] = sym (empty_is c.taking.rest.now (sym c.is_empty.ensures ∙ c.if-is_empty.true)) in
+    tells_all c.args.number _ _ _ (open_at c.args.number c.taking.self.links.items) _ _ _ _ c.args.piece.now c.taking.rest.now none c.taking.invariant.told

@@ -2,13 +2,13 @@ use Rattle.std.proofs.Common.{◌≡◌, ◌≤◌, length, ℕ}
 use Rattle.tds_relay.specs.Cleaning.{CleansAlone, CountsLost}
 use Rattle.tds_relay.specs.Closings.{ClosesOnly, but_told, register_in}
 use Rattle.tds_relay.specs.Waiting.{HeardFor, IsItsHolders, KeepsWaiting}
-use Rattle.tds_relay.specs.Coming.{AllAlong, StreamsAnew}
+use Rattle.tds_relay.specs.Coming.{AllAlong, StreamsAnew, StreamsTold, asking_in}
 use Rattle.tds_relay.specs.Faults.{IsRefusedOn}
 use Rattle.tds_relay.specs.Few.{NoneNew, IsSeated}
 use Rattle.std.specs.Prelude.{None}
 use Rattle.tds_relay.specs.Apart.{SparesOthers}
 use Rattle.tds_relay.specs.Fronts.{core_in, machine_in}
-use Rattle.tds_relay.specs.Lent.{FirstKeeps, HearsAny, ShutElse}
+use Rattle.tds_relay.specs.Lent.{Any, FirstKeeps, HearsAny, ShutStay}
 use Rattle.tds_relay.specs.Ordering.{StayOrdered, opens_in}
 use Rattle.tds_relay.specs.Queues.{names_in, queues_in}
 use Rattle.tds_relay.specs.Reads.{OpensOthers, answer_at, open_at, waits_on}
@@ -25,6 +25,8 @@ invariant-taking l = record {
   goes : LedTo (Connection l.fn.number) (pool_in l.fn.self.pool) (pool_in l.self.pool);
   names : names_in l.self.applications ≡ names_in l.fn.self.applications;
   anew : StreamsAnew l.fn.number (answer_at l.fn.number l.fn.self.links.items) (open_at l.fn.number l.fn.self.links.items) (machine_in l.fn.self) l.fn.self.pool.service l.fn.piece l.rest (answer_at l.fn.number l.self.links.items)
+      (open_at l.fn.number l.self.links.items) (machine_in l.self) l.self.pool.service;
+  told : StreamsTold l.fn.number (asking_in l.fn.self.applications) (open_at l.fn.number l.fn.self.links.items) (machine_in l.fn.self) l.fn.self.pool.service l.fn.piece l.rest (asking_in l.self.applications)
       (open_at l.fn.number l.self.links.items) (machine_in l.self) l.self.pool.service;
   others : OpensOthers l.fn.number l.fn.self.links.items l.self.links.items;
   bodies : IsReached (pool_in l.fn.self.pool) → AllAlong l.fn.self l.self;
@@ -43,5 +45,5 @@ invariant-taking l = record {
   rests : IsSeated l.fn.self → (key : ℕ) → KeepsWaiting l.fn.number l.fn.self l.self key;
   opening : opens_in l.self.orders.items ≡ opens_in l.fn.self.orders.items;
   given : HearsAny l.fn.number l.fn.self.links.items l.self.links.items;
-  still : ShutElse l.fn.number l.fn.self.links.items l.self.links.items;
+  still : ShutStay Any l.fn.self.links.items l.self.links.items;
 }

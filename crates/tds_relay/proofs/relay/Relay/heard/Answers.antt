@@ -4,7 +4,7 @@ use Rattle.tds_relay.specs.declared.pool.coming.Heard.{Heard}
 use Rattle.tds_relay.specs.Apart.{SparesOthers}
 use Rattle.tds_relay.specs.Cleaning.{CountsHeard}
 use Rattle.tds_relay.specs.Closings.{ClosesOnly, register_in}
-use Rattle.tds_relay.specs.Coming.{BeginAnyIf, acknowledged_in}
+use Rattle.tds_relay.specs.Coming.{BeginAnyIf, acknowledged_in, AskAsTold, asking_in}
 use Rattle.tds_relay.specs.Few.{IsSeatedBehind}
 use Rattle.tds_relay.specs.Fronts.{Moved, ends_in, core_in, core_of_ends, told_by}
 use Rattle.tds_relay.specs.Handing.{heard_key}
@@ -28,6 +28,7 @@ use Rattle.tds_relay.proofs.steps.Staying.{gone_filled}
 use Rattle.tds_relay.proofs.lending.Firsts.{first_as, first_lost_on}
 use Rattle.tds_relay.proofs.lending.Rests.{free_lost, heard_lost}
 use Rattle.tds_relay.proofs.lending.Stilled.{rests_all}
+use Rattle.tds_relay.proofs.steps.Answering.{told_lost}
 use Rattle.tds_relay.proofs.relay.Relay.heard.Goals as goal
 
 pub returns-in-None-clause-moves : goal.returns-in-None-clause-moves
@@ -105,3 +106,9 @@ returns-in-None-clause-keeps c = λ reached.
 
 pub returns-in-Some-clause-keeps : goal.returns-in-Some-clause-keeps
 returns-in-Some-clause-keeps c = λ reached. subst (λ (o : Option Heard). OnOk c.heard_packet.result (KeepsHeard c.args.number o c.args.self.now c.heard_packet.new.self)) (sym c.in-Some.is) (c.heard_packet.ensures.keeps reached)
+
+pub returns-in-None-clause-told : goal.returns-in-None-clause-told
+returns-in-None-clause-told c = told_lost c.lose.result c.args.heard (ends_in c.args.self.now.applications) c.args.self.now.applications c.lose.new.self.applications c.in-None.is c.lose.ensures.asks
+
+pub returns-in-Some-clause-told : goal.returns-in-Some-clause-told
+returns-in-Some-clause-told c = subst (λ (o : Option Heard). OnOk c.heard_packet.result (AskAsTold (acknowledged_in o) o (ends_in c.args.self.now.applications) (asking_in c.args.self.now.applications) (asking_in c.heard_packet.new.self.applications))) (sym c.in-Some.is) c.heard_packet.ensures.told

@@ -29,6 +29,7 @@ use Rattle.tds_relay.proofs.lending.Drained.{not_left, sent_there}
 use Rattle.tds_relay.proofs.lending.Firsts.{first_closed, first_whose_on, first_wrote, told_sent}
 use Rattle.tds_relay.proofs.lending.Rests.{goes_wrote, heard_closed, heard_none, heard_resumes, heard_wrote}
 use Rattle.tds_relay.proofs.lending.Stilled.{rests_all, rests_still, sent_still, still_on}
+use Rattle.tds_relay.proofs.steps.Answering.{told_resumed}
 use Rattle.tds_relay.proofs.relay.Relay.heard_packet.Goals as goal
 
 pub returns-in-Goes-Some-clause-moves : goal.returns-in-Goes-Some-clause-moves
@@ -109,6 +110,9 @@ returns-in-Closed-Some-clause-bodies c = λ reached. let sent = along_both c.arg
 pub returns-in-Closed-None-clause-bodies : goal.returns-in-Closed-None-clause-bodies
 returns-in-Closed-None-clause-bodies c = λ reached. let sent = along_both c.args.self.now c.tell.new.self c.send_on.new.self (done_along c.args.self.now c.tell.new.self c.in_ok-resumes.ensures.asks) (asks_along c.tell.new.self c.send_on.new.self c.in_ok-send_on.ensures.asks) in along_on c.close_link-in-Closed-None.result c.args.self.now c.send_on.new.self c.close_link-in-Closed-None.new.self sent (same_along_on c.close_link-in-Closed-None.result c.send_on.new.self c.close_link-in-Closed-None.new.self c.close_link-in-Closed-None.ensures.asks)
 
+pub returns-then-resumes-clause-bodies : goal.returns-then-resumes-clause-bodies
+returns-then-resumes-clause-bodies c = λ reached. let sent = along_both c.args.self.now c.tell.new.self c.send_on.new.self (done_along c.args.self.now c.tell.new.self c.in_ok-resumes.ensures.asks) (asks_along c.tell.new.self c.send_on.new.self c.in_ok-send_on.ensures.asks) in let told : IsReached (pool_in c.tell.new.self.pool) = subst (λ (d : pools.Pool). IsReached (pool_in d)) (sym c.in_ok-resumes.ensures.pool) reached in let there : IsReached (pool_in c.send_on.new.self.pool) = put_reached c.tell.new.self.pool c.send_on.new.self.pool c.send_on.new.self.pool c.in_ok-send_on.ensures.goes refl told in along_on c.resume.result c.args.self.now c.send_on.new.self c.resume.new.self sent (c.resume.ensures.bodies there)
+
 pub returns-in-Goes-None-clause-bodies : goal.returns-in-Goes-None-clause-bodies
 returns-in-Goes-None-clause-bodies c = λ reached. along_both c.args.self.now c.tell.new.self c.send_on.new.self (done_along c.args.self.now c.tell.new.self c.in_ok-resumes.ensures.asks) (asks_along c.tell.new.self c.send_on.new.self c.in_ok-send_on.ensures.asks)
 
@@ -117,9 +121,6 @@ returns-in-Finished-None-clause-bodies c = λ reached. along_both c.args.self.no
 
 pub returns-in-Acknowledged-None-clause-bodies : goal.returns-in-Acknowledged-None-clause-bodies
 returns-in-Acknowledged-None-clause-bodies c = λ reached. along_both c.args.self.now c.tell.new.self c.send_on.new.self (done_along c.args.self.now c.tell.new.self c.in_ok-resumes.ensures.asks) (asks_along c.tell.new.self c.send_on.new.self c.in_ok-send_on.ensures.asks)
-
-pub returns-then-resumes-clause-bodies : goal.returns-then-resumes-clause-bodies
-returns-then-resumes-clause-bodies c = λ reached. let sent = along_both c.args.self.now c.tell.new.self c.send_on.new.self (done_along c.args.self.now c.tell.new.self c.in_ok-resumes.ensures.asks) (asks_along c.tell.new.self c.send_on.new.self c.in_ok-send_on.ensures.asks) in let told : IsReached (pool_in c.tell.new.self.pool) = subst (λ (d : pools.Pool). IsReached (pool_in d)) (sym c.in_ok-resumes.ensures.pool) reached in let there : IsReached (pool_in c.send_on.new.self.pool) = put_reached c.tell.new.self.pool c.send_on.new.self.pool c.send_on.new.self.pool c.in_ok-send_on.ensures.goes refl told in along_on c.resume.result c.args.self.now c.send_on.new.self c.resume.new.self sent (c.resume.ensures.bodies there)
 
 pub returns-in-Goes-Some-clause-ordered : goal.returns-in-Goes-Some-clause-ordered
 returns-in-Goes-Some-clause-ordered c = ordered_on c.order_write.result _ _ _ c.order_write.ensures.ordered (ordered_both _ _ _ c.in_ok-resumes.ensures.ordered c.in_ok-send_on.ensures.ordered)
@@ -239,10 +240,7 @@ pub returns-else-resumes-clause-spares : goal.returns-else-resumes-clause-spares
 returns-else-resumes-clause-spares c = λ reached. spares_wrote c.order_write-else-resumes.result c.args.number (Some c.args.heard) c.args.heard c.in-Acknowledged-Some.key c.args.self.now c.tell.new.self c.send_on.new.self c.order_write-else-resumes.new.self refl (search rules) c.in_ok-resumes.ensures.pool c.in_ok-resumes.ensures.ends c.in_ok-send_on.ensures.spares c.order_write-else-resumes.ensures.alone c.order_write-else-resumes.ensures.moves
 
 pub returns-then-resumes-clause-spares : goal.returns-then-resumes-clause-spares
-returns-then-resumes-clause-spares c = λ reached. let told : IsReached (pool_in c.tell.new.self.pool) = subst (λ (d : pools.Pool). IsReached (pool_in d)) (sym c.in_ok-resumes.ensures.pool) reached in
-    let there : IsReached (pool_in c.send_on.new.self.pool) = put_reached c.tell.new.self.pool c.send_on.new.self.pool c.send_on.new.self.pool c.in_ok-send_on.ensures.goes refl told in
-    spares_for c.resume.result c.args.number (Some c.args.heard) c.args.heard c.in-Acknowledged-Some.key (core_in c.args.self.now) (core_in c.send_on.new.self) (core_in c.resume.new.self) refl (search rules)
-    (spares_sent c.args.number (Some c.args.heard) c.args.heard c.args.self.now c.tell.new.self c.send_on.new.self refl c.in_ok-resumes.ensures.pool c.in_ok-resumes.ensures.ends c.in_ok-send_on.ensures.spares) (c.resume.ensures.spares there)
+returns-then-resumes-clause-spares c = λ reached. let told : IsReached (pool_in c.tell.new.self.pool) = subst (λ (d : pools.Pool). IsReached (pool_in d)) (sym c.in_ok-resumes.ensures.pool) reached in let there : IsReached (pool_in c.send_on.new.self.pool) = put_reached c.tell.new.self.pool c.send_on.new.self.pool c.send_on.new.self.pool c.in_ok-send_on.ensures.goes refl told in spares_for c.resume.result c.args.number (Some c.args.heard) c.args.heard c.in-Acknowledged-Some.key (core_in c.args.self.now) (core_in c.send_on.new.self) (core_in c.resume.new.self) refl (search rules) (spares_sent c.args.number (Some c.args.heard) c.args.heard c.args.self.now c.tell.new.self c.send_on.new.self refl c.in_ok-resumes.ensures.pool c.in_ok-resumes.ensures.ends c.in_ok-send_on.ensures.spares) (c.resume.ensures.spares there)
 
 pub returns-in-Goes-None-clause-spares : goal.returns-in-Goes-None-clause-spares
 returns-in-Goes-None-clause-spares c = λ reached. spares_sent c.args.number (Some c.args.heard) c.args.heard c.args.self.now c.tell.new.self c.send_on.new.self refl c.in_ok-resumes.ensures.pool c.in_ok-resumes.ensures.ends c.in_ok-send_on.ensures.spares
@@ -299,10 +297,10 @@ pub returns-else-resumes-clause-seated : goal.returns-else-resumes-clause-seated
 returns-else-resumes-clause-seated c = λ s. kept_end c.order_write-else-resumes.result c.send_on.new.self c.order_write-else-resumes.new.self c.order_write-else-resumes.ensures.pool c.order_write-else-resumes.ensures.links (c.in_ok-send_on.ensures.seated (kept_seated c.args.self.now c.tell.new.self c.in_ok-resumes.ensures.pool c.in_ok-resumes.ensures.links (behind_stays (Some c.args.heard) c.args.heard c.args.number c.args.self.now refl (ap is_left (let w : c.args.heard.what ≡ whats.Acknowledged = search rules in w)) s)))
 
 pub returns-in-Closed-Some-clause-seated : goal.returns-in-Closed-Some-clause-seated
-returns-in-Closed-Some-clause-seated c = λ s. closed_end c.close_link.result c.args.number c.send_on.new.self.pool c.send_on.new.self.links.items c.close_link.new.self c.close_link.ensures.pool c.close_link.ensures.gone c.close_link.ensures.others (c.in_ok-send_on.ensures.gone (but_kept c.args.number false c.args.self.now c.tell.new.self c.in_ok-resumes.ensures.pool (links_there c.args.self.now.links.items c.tell.new.self.links.items c.in_ok-resumes.ensures.links) (behind_out (Some c.args.heard) c.args.heard c.args.number c.args.self.now refl (ap is_left (let w : c.args.heard.what ≡ whats.Closed = search rules in w)) s)))
+returns-in-Closed-Some-clause-seated c = λ s. closed_end c.close_link.result c.args.number c.send_on.new.self.pool c.send_on.new.self.links.items c.close_link.new.self c.close_link.ensures.pool c.close_link.ensures.fewer c.close_link.ensures.gone c.close_link.ensures.others (c.in_ok-send_on.ensures.gone (but_kept c.args.number false c.args.self.now c.tell.new.self c.in_ok-resumes.ensures.pool (links_there c.args.self.now.links.items c.tell.new.self.links.items c.in_ok-resumes.ensures.links) (behind_out (Some c.args.heard) c.args.heard c.args.number c.args.self.now refl (ap is_left (let w : c.args.heard.what ≡ whats.Closed = search rules in w)) s)))
 
 pub returns-in-Closed-None-clause-seated : goal.returns-in-Closed-None-clause-seated
-returns-in-Closed-None-clause-seated c = λ s. closed_end c.close_link-in-Closed-None.result c.args.number c.send_on.new.self.pool c.send_on.new.self.links.items c.close_link-in-Closed-None.new.self c.close_link-in-Closed-None.ensures.pool c.close_link-in-Closed-None.ensures.gone c.close_link-in-Closed-None.ensures.others (c.in_ok-send_on.ensures.gone (but_kept c.args.number false c.args.self.now c.tell.new.self c.in_ok-resumes.ensures.pool (links_there c.args.self.now.links.items c.tell.new.self.links.items c.in_ok-resumes.ensures.links) (behind_out (Some c.args.heard) c.args.heard c.args.number c.args.self.now refl (ap is_left (let w : c.args.heard.what ≡ whats.Closed = search rules in w)) s)))
+returns-in-Closed-None-clause-seated c = λ s. closed_end c.close_link-in-Closed-None.result c.args.number c.send_on.new.self.pool c.send_on.new.self.links.items c.close_link-in-Closed-None.new.self c.close_link-in-Closed-None.ensures.pool c.close_link-in-Closed-None.ensures.fewer c.close_link-in-Closed-None.ensures.gone c.close_link-in-Closed-None.ensures.others (c.in_ok-send_on.ensures.gone (but_kept c.args.number false c.args.self.now c.tell.new.self c.in_ok-resumes.ensures.pool (links_there c.args.self.now.links.items c.tell.new.self.links.items c.in_ok-resumes.ensures.links) (behind_out (Some c.args.heard) c.args.heard c.args.number c.args.self.now refl (ap is_left (let w : c.args.heard.what ≡ whats.Closed = search rules in w)) s)))
 
 pub returns-in-Goes-Some-clause-apart : goal.returns-in-Goes-Some-clause-apart
 returns-in-Goes-Some-clause-apart c = behind_sent c.order_write.result c.args.number (Some c.args.heard) c.args.heard c.args.self.now c.tell.new.self c.send_on.new.self c.order_write.new.self refl c.in_ok-resumes.ensures.pool c.in_ok-resumes.ensures.links c.in_ok-resumes.ensures.ends c.in_ok-resumes.ensures.others c.in_ok-send_on.ensures.sends c.in_ok-send_on.ensures.asks c.in_ok-send_on.ensures.goes c.in_ok-send_on.ensures.spares (same_off c.order_write.result c.args.number _ c.send_on.new.self c.order_write.new.self c.order_write.ensures.pool c.order_write.ensures.links c.order_write.ensures.asks)
@@ -396,3 +394,6 @@ returns-in-Closed-None-clause-keeps c = λ reached. heard_closed c.close_link-in
 
 pub returns-then-resumes-clause-keeps : goal.returns-then-resumes-clause-keeps
 returns-then-resumes-clause-keeps c = λ reached. let there : IsReached (pool_in c.send_on.new.self.pool) = put_reached c.tell.new.self.pool c.send_on.new.self.pool c.send_on.new.self.pool c.in_ok-send_on.ensures.goes refl (subst (λ (d : pools.Pool). IsReached (pool_in d)) (sym c.in_ok-resumes.ensures.pool) reached) in heard_resumes c.args.number c.args.heard c.args.self.now c.tell.new.self c.send_on.new.self c.in_ok-resumes.ensures.pool c.in_ok-resumes.ensures.links c.in_ok-resumes.ensures.asks c.tell.ensures.outbox c.in_ok-send_on.ensures.idle c.resume.result c.in-Acknowledged-Some.key c.resume.new.self (not_left c.args.heard.what whats.Acknowledged (search rules) (λ e. let u : ⊥ = cc in u)) (search rules) (first_whose_on c.resume.result c.args.number c.in-Acknowledged-Some.key c.args.heard.key c.args.self.now c.send_on.new.self c.resume.new.self (search rules) (told_sent c.args.number c.args.self.now c.tell.new.self c.send_on.new.self c.in_ok-resumes.ensures.pool c.in_ok-resumes.ensures.links c.in_ok-send_on.ensures.keeps) (c.resume.ensures.keeps there)) (c.resume.ensures.rests there)
+
+pub returns-then-resumes-clause-told : goal.returns-then-resumes-clause-told
+returns-then-resumes-clause-told c = told_resumed c.resume.result (Some c.args.heard) (ends_in c.args.self.now.applications) c.args.self.now.applications c.tell.new.self.applications c.send_on.new.self.applications c.resume.new.self.applications (acknowledges_one (Some c.args.heard) c.args.heard c.in-Acknowledged-Some.key refl (search rules) (search rules)) c.in_ok-resumes.ensures.told c.in_ok-send_on.ensures.asks c.resume.ensures.asks

@@ -18,8 +18,8 @@ returns-in-None-clause-underway c = λ e none whole. Waits (sym c.waits.ensures 
 pub returns-in_default-clause-lines : goal.returns-in_default-clause-lines
 returns-in_default-clause-lines c = λ e. waiting.Closes (none_deaf c.args.key c.args.self.now.applications (search rules))
 
-pub returns-then-application-clause-lines : goal.returns-then-application-clause-lines
-returns-then-application-clause-lines c = λ e. waiting.Closes (over_deaf c.args.key c.args.self.now.applications c.in-Some.application.now c.in-Some.ensures (search rules))
+pub returns-then-is_over-clause-lines : goal.returns-then-is_over-clause-lines
+returns-then-is_over-clause-lines c = λ e. waiting.Closes (over_deaf c.args.key c.args.self.now.applications c.in-Some.application.now c.in-Some.ensures (sym c.is_over.ensures ∙ c.if-is_over.true))
 
 pub returns-in-None-clause-lines : goal.returns-in-None-clause-lines
 returns-in-None-clause-lines c = λ e. waiting.Stands (sym c.waits.ensures ∙ not_false _ e)

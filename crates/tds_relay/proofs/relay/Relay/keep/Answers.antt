@@ -35,6 +35,7 @@ use Rattle.tds_relay.proofs.spared.Filling.{last_found}
 use Rattle.tds_relay.proofs.lending.Firsts.{Here, first_as, first_its, first_same, first_then_on}
 use Rattle.tds_relay.proofs.lending.Rests.{waiting_free_on, waiting_on, waiting_renewed, waiting_starts}
 use Rattle.tds_relay.proofs.lending.Stilled.{still_asked}
+use Rattle.tds_relay.proofs.steps.Answering.{ask_same}
 use Rattle.tds_relay.proofs.relay.Relay.keep.Goals as goal
 
 pub returns-in-Kept-clause-goes : goal.returns-in-Kept-clause-goes
@@ -188,3 +189,6 @@ returns-in-Kept-clause-still c = still_asked c.start_kept.result _ c.args.self.n
 
 pub returns-in-NotKept-clause-still : goal.returns-in-NotKept-clause-still
 returns-in-NotKept-clause-still c = c.replace.ensures.still
+
+pub returns-in-Kept-clause-asks : goal.returns-in-Kept-clause-asks
+returns-in-Kept-clause-asks c = ask_same c.start_kept.result c.args.self.now.applications c.restart.new.self.applications c.start_kept.new.self.applications c.restart.ensures.same c.start_kept.ensures.asks

@@ -31,6 +31,7 @@ use Rattle.tds_relay.proofs.lending.Dialled.{given_by_push, given_stays_on}
 use Rattle.tds_relay.proofs.lending.Earlier.{lent_elsewhere, pushed_elsewhere}
 use Rattle.tds_relay.proofs.lending.Fresh.{dials_again, dials_by_push}
 use Rattle.tds_relay.proofs.lending.Stilled.{still_asked, still_pushed}
+use Rattle.tds_relay.proofs.steps.Answering.{ask_same}
 use Rattle.tds_relay.proofs.relay.Relay.lend.Goals as goal
 
 pub returns-then-served-clause-opens : goal.returns-then-served-clause-opens
@@ -175,3 +176,6 @@ returns-then-served-clause-elsewhere c =
 
 pub returns-clause-elsewhere : goal.returns-clause-elsewhere
 returns-clause-elsewhere c = pushed_elsewhere c.args.served.hold.number c.args.self.now.links.items c.push.new.self.items c.in_ok-link.link c.in_ok-push.ensures.items c.in_ok-link.ensures.number
+
+pub returns-then-served-clause-asks : goal.returns-then-served-clause-asks
+returns-then-served-clause-asks c = ask_same c.start_kept.result c.args.self.now.applications c.restart.new.self.applications c.start_kept.new.self.applications c.restart.ensures.same c.start_kept.ensures.asks

@@ -52,7 +52,7 @@ returns-clause-closes c = closes_more_on c.close.result (IsWho c.in_ok-key.key) 
 
 pub returns-clause-seated : goal.returns-clause-seated
 returns-clause-seated c = λ s.
-    closed_end c.close.result c.args.number c.lose.new.self c.args.self.now.links.items c.close.new.self c.close.ensures.pool c.close.ensures.gone c.close.ensures.others
+    closed_end c.close.result c.args.number c.lose.new.self c.args.self.now.links.items c.close.new.self c.close.ensures.pool c.close.ensures.fewer c.close.ensures.gone c.close.ensures.others
     (lost_seated c.args.number (pool_in c.args.self.now.pool) (pool_in c.lose.new.self) _ _ c.args.self.now.links.items c.in_ok-key.ensures.turns s)
 
 pub returns-clause-holds : goal.returns-clause-holds

@@ -2,15 +2,16 @@ use Rattle.std.proofs.Common.{true, Bool, ◌≡◌, ◌⊎◌, ◌∙◌, ap, f
 use Rattle.tds_front.specs.Bytes.{fed}
 use Rattle.tds_front.specs.declared.front.Said.{Said}
 use Rattle.tds_front.specs.declared.front.Said.TheVariants as said
+use Rattle.tds_relay.specs.declared.pool.Pool as code
 use Rattle.tds_relay.specs.Fronts.{ClosesInstead, IsFed, TakesBetween, ends_in, given_by, core_in, core_of_ends, FedOn}
-use Rattle.tds_relay.specs.Core.{IfAsked, EndList, Open, asks_by, end_at, hands_on, takes_back}
+use Rattle.tds_relay.specs.Core.{IfAsked, EndList, Open, asks_by, end_at, hands_on, is_in, takes_back}
 use Rattle.tds_relay.specs.Queues.{acknowledgement, give, queue_at, queues_in, Queues}
 use Rattle.tds_relay.specs.Ties.{Application, pool_in}
 use Rattle.tds_relay.proofs.steps.Fronts.{asks_begun}
 use Rattle.tds_relay.proofs.steps.Told.{fed_then}
 use Rattle.tds_relay.proofs.steps.Reaching.{ok_more, ok_if}
 use Rattle.tds_relay.proofs.steps.Staying.{stays_refl, stays_same}
-use Rattle.tds_relay.specs.Asking.{IfAsks, IsUnderway}
+use Rattle.tds_relay.specs.Asking.{IsObeyed}
 use Rattle.tds_relay.proofs.bytes.Calls.{stand_at}
 use Rattle.tds_relay.specs.Bodies.{Grows, Nowhere, Obeys, Stays, body_of, going_of, CancelsSaid, standing_in, PutsSaid}
 use Rattle.tds_relay.proofs.steps.Bodied.{forgot_on}
@@ -122,15 +123,29 @@ returns-in_ok-forget-in-Acknowledge-clause-read c = stays_same c.acknowledge.res
 
 pub returns-in-Begin-clause-underway : goal.returns-in-Begin-clause-underway
 returns-in-Begin-clause-underway c =
-    ok_more c.begin.result _ _ (λ u. subst (IfAsks (λ whole. IsUnderway whole c.begin.new.self.links.items c.args.key (core_in c.begin.new.self))) (sym c.in-Begin.is) u) c.begin.ensures.underway
+    ok_more c.begin.result _ _ (λ u. subst (λ (s : Said). IsObeyed c.begin.new.self.links.items c.args.key s (core_in c.begin.new.self)) (sym c.in-Begin.is) u) c.begin.ensures.underway
 
 pub returns-in-Body-clause-underway : goal.returns-in-Body-clause-underway
 returns-in-Body-clause-underway c =
-    ok_more c.go_on.result _ _ (λ u. subst (IfAsks (λ whole. IsUnderway whole c.go_on.new.self.links.items c.args.key (core_in c.go_on.new.self))) (sym c.in-Body.is) u) c.go_on.ensures.underway
+    ok_more c.go_on.result _ _ (λ u. subst (λ (s : Said). IsObeyed c.go_on.new.self.links.items c.args.key s (core_in c.go_on.new.self)) (sym c.in-Body.is) u) c.go_on.ensures.underway
 
 pub returns-in-End-clause-underway : goal.returns-in-End-clause-underway
 returns-in-End-clause-underway c =
-    ok_more c.go_on-in-End.result _ _ (λ u. subst (IfAsks (λ whole. IsUnderway whole c.go_on-in-End.new.self.links.items c.args.key (core_in c.go_on-in-End.new.self))) (sym c.in-End.is) u) c.go_on-in-End.ensures.underway
+    ok_more c.go_on-in-End.result _ _ (λ u. subst (λ (s : Said). IsObeyed c.go_on-in-End.new.self.links.items c.args.key s (core_in c.go_on-in-End.new.self)) (sym c.in-End.is) u) c.go_on-in-End.ensures.underway
+
+pub returns-in-Forget-false-clause-underway : goal.returns-in-Forget-false-clause-underway
+returns-in-Forget-false-clause-underway c =
+    ok_more c.forget.result _ _ (λ u. subst (λ (s : Said). IsObeyed c.forget.new.self.links.items c.args.key s (core_in c.forget.new.self)) (sym c.in-Forget-false.is) u) c.forget.ensures.away
+
+pub returns-in-Forget-true-clause-underway : goal.returns-in-Forget-true-clause-underway
+returns-in-Forget-true-clause-underway c =
+    ok_more c.take_back.result _ _ (λ u. subst (λ (s : Said). IsObeyed c.take_back.new.self.links.items c.args.key s (core_in c.take_back.new.self)) (sym c.in-Forget-true.is) u) c.take_back.ensures.away
+
+pub returns-in_ok-forget-in-Acknowledge-clause-underway : goal.returns-in_ok-forget-in-Acknowledge-clause-underway
+returns-in_ok-forget-in-Acknowledge-clause-underway c =
+    ok_if c.acknowledge.result _
+    (subst (λ (s : Said). IsObeyed c.acknowledge.new.self.links.items c.args.key s (core_in c.acknowledge.new.self)) (sym c.in-Acknowledge.is)
+    (subst (λ (d : code.Pool). is_in c.args.key (pool_in d).line ≡ false) (sym c.acknowledge.ensures.pool) c.in_ok-forget-in-Acknowledge.ensures.away))
 
 pub returns-in_ok-forget-in-Acknowledge-clause-stand : goal.returns-in_ok-forget-in-Acknowledge-clause-stand
 returns-in_ok-forget-in-Acknowledge-clause-stand c = ok_if c.acknowledge.result _ (stand_at _ _ _ c.in_ok-forget-in-Acknowledge.ensures.stand c.acknowledge.ensures.pool)

@@ -142,7 +142,7 @@ returns-clause-writes c =
 pub returns-clause-seated : goal.returns-clause-seated
 returns-clause-seated c = λ s.
     c.serve_line.ensures.seated (c.in_ok-start_on.ensures.seated (kept_seated c.set_open.new.self c.order_write_on.new.self c.order_write_on.ensures.pool c.in_ok-order_write_on.ensures.links
-    (kept_there c.args.self.now c.set_open.new.self c.set_open.ensures.pool (all_there c.args.self.now.links.items c.set_open.new.self.links.items c.set_open.ensures.waits) s)))
+    (kept_there c.args.self.now c.set_open.new.self c.set_open.ensures.pool (all_there c.args.self.now.links.items c.set_open.new.self.links.items c.set_open.ensures.many c.set_open.ensures.waits) s)))
 
 pub returns-clause-goes : goal.returns-clause-goes
 returns-clause-goes c =

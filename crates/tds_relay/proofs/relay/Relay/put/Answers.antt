@@ -30,6 +30,7 @@ use Rattle.tds_relay.proofs.seats.Pools.{gone_on, seated_on}
 use Rattle.tds_relay.proofs.spared.Filling.{carried, own_behind, own_end, own_first, own_put}
 use Rattle.tds_relay.proofs.held.Numbers.{apart_at, its_holder}
 use Rattle.tds_relay.proofs.lending.Fresh.{hold_is, hold_one, hold_unchanged, off_same, off_then}
+use Rattle.tds_relay.proofs.steps.Answering.{before_on, on_both, on_then}
 use Rattle.tds_relay.proofs.relay.Relay.put.Goals as goal
 
 pub returns-in_default-clause-moves : goal.returns-in_default-clause-moves
@@ -302,3 +303,12 @@ returns-else-fits-clause-off c =
     (off_then c.fail-else-fits.result c.in-Some.hold.number c.args.self.now.links.items c.fits_on.new.self.links.items c.fail-else-fits.new.self.links.items
     (record { rest = λ n differs. carried n c.note_went_on.new.self.links.items c.fits_on.new.self.links.items (c.in_ok-fits.ensures.queues n differs) (c.in_ok-fits.ensures.answers.keeps n) ∙ ap (carried_there n) c.note_went_on.ensures.links })
     c.fail-else-fits.ensures.off)
+
+pub returns-then-not-is_put-clause-asks : goal.returns-then-not-is_put-clause-asks
+returns-then-not-is_put-clause-asks c = on_then c.fail-then-not-is_put.result c.args.self.now.applications c.note_went_on.new.self.applications c.fail-then-not-is_put.new.self.applications (before_on c.args.self.now.applications c.note_went_on.new.self.applications c.note_went_on.ensures.asks) c.fail-then-not-is_put.ensures.asks
+
+pub returns-then-fits-clause-asks : goal.returns-then-fits-clause-asks
+returns-then-fits-clause-asks c = on_both c.args.self.now.applications c.note_went_on.new.self.applications c.fits_on.new.self.applications (before_on c.args.self.now.applications c.note_went_on.new.self.applications c.note_went_on.ensures.asks) (before_on c.note_went_on.new.self.applications c.fits_on.new.self.applications c.in_ok-fits.ensures.asks)
+
+pub returns-else-fits-clause-asks : goal.returns-else-fits-clause-asks
+returns-else-fits-clause-asks c = on_then c.fail-else-fits.result c.args.self.now.applications c.fits_on.new.self.applications c.fail-else-fits.new.self.applications (on_both c.args.self.now.applications c.note_went_on.new.self.applications c.fits_on.new.self.applications (before_on c.args.self.now.applications c.note_went_on.new.self.applications c.note_went_on.ensures.asks) (before_on c.note_went_on.new.self.applications c.fits_on.new.self.applications c.in_ok-fits.ensures.asks)) c.fail-else-fits.ensures.asks

@@ -22,7 +22,10 @@ use Rattle.tds_relay.specs.Reasons.{CannotPut, ItselfFor}
 use Rattle.tds_relay.specs.Core.{EndList, end_at}
 use Rattle.tds_relay.proofs.spared.Filling.{own_refl}
 use Rattle.tds_relay.proofs.lending.Fresh.{off_refl}
+use Rattle.tds_relay.proofs.steps.Answering.{ask_begun, ask_ok, ask_refl, ask_then}
+use Rattle.tds_relay.proofs.spared.Coming.{goes_there}
 use Rattle.tds_relay.proofs.relay.Relay.put_held.Goals as goal
+use Rattle.tds_relay.specs.Places.{own_held}
 
 pub returns-in_default-clause-body : goal.returns-in_default-clause-body
 returns-in_default-clause-body c = none_grows c.args.whole (held_of (get c.args.self.now.applications c.args.key)) c.args.self.now.applications c.args.key (going_of c.args.key c.args.self.now) (going_of c.args.key c.args.self.now) (search rules)
@@ -32,7 +35,7 @@ returns-clause-body c =
     let s = c.args.self.now.applications in
     let a = c.in-Some.application.now in
     let b = c.take_held-held.new.self in
-    let bytes : c.deref.result.now ≡ a.held.items = search rules in
+    let bytes : c.deref.result.now ≡ own_held a = search rules in
     ok_more c.put.result _ _
     (λ p. subst (λ (xs : List ℕ). Grows c.args.whole xs (going_of c.args.key c.args.self.now) (body_of c.args.key c.put.new.self)) (bytes ∙ ap held_of c.in-Some.ensures.value)
     (grows_asked c.args.whole c.deref.result.now (get (with_value s c.args.key b) c.args.key) (get c.put.new.self.applications c.args.key) (going_of c.args.key c.args.self.now) (going_of c.args.key c.put.new.self) b (written_there s c.args.key a b c.in-Some.ensures.value) c.take_held-held.ensures.asking p))
@@ -68,7 +71,7 @@ returns-clause-closes c =
     let s = c.args.self.now.applications in
     let a = c.in-Some.application.now in
     let same = ends_kept s c.args.key a c.take_held-held.new.self c.in-Some.ensures.value c.take_held-held.ensures.end in
-    let bytes : c.deref.result.now ≡ a.held.items = search rules in
+    let bytes : c.deref.result.now ≡ own_held a = search rules in
     closes_on c.put.result (ItselfFor c.args.key (CannotPut c.args.whole (held_of (get s c.args.key)) c.args.key (end_at (ends_in c.args.self.now.applications) c.args.key) c.args.self.now.pool c.args.self.now.links.items)) _ _ _
     (for_that c.put.result c.args.key _ _ _ _
     (λ why. subst (λ (xs : List ℕ). CannotPut c.args.whole xs c.args.key (end_at (ends_in c.args.self.now.applications) c.args.key) c.args.self.now.pool c.args.self.now.links.items) (bytes ∙ ap held_of c.in-Some.ensures.value)
@@ -86,3 +89,15 @@ returns-in_default-clause-off c = λ hold its. off_refl hold.number c.args.self.
 
 pub returns-clause-off : goal.returns-clause-off
 returns-clause-off c = c.put.ensures.off
+
+pub returns-in_default-clause-asks : goal.returns-in_default-clause-asks
+returns-in_default-clause-asks c = λ kept. ask_refl c.args.self.now.applications
+
+pub returns-clause-asks : goal.returns-clause-asks
+returns-clause-asks c = λ kept.
+    let s = c.args.self.now.applications in
+    let b = c.take_held-held.new.self in
+    let mid = with_value s c.args.key b in
+    ask_then c.put.result s mid c.put.new.self.applications
+    (ask_begun s c.args.key c.in-Some.application.now b (going_of c.args.key c.args.self.now) c.in-Some.ensures.value (goes_there c.args.key c.args.self.now) kept c.take_held-held.ensures.body.0 c.take_held-held.ensures.asking)
+    (ask_ok c.put.result mid c.put.new.self.applications c.put.ensures.asks)

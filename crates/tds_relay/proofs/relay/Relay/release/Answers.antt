@@ -117,7 +117,7 @@ returns-then-left-clause-seated c = λ s. c.send_unheld.ensures.seated (left_the
 
 pub returns-else-left-clause-seated : goal.returns-else-left-clause-seated
 returns-else-left-clause-seated c = λ s.
-    closed_end c.close.result c.in-Some.left.number c.let_go.new.self.pool c.let_go.new.self.links.items c.close.new.self c.close.ensures.pool c.close.ensures.gone c.close.ensures.others
+    closed_end c.close.result c.in-Some.left.number c.let_go.new.self.pool c.let_go.new.self.links.items c.close.new.self c.close.ensures.pool c.close.ensures.fewer c.close.ensures.gone c.close.ensures.others
     (left_gone c.args.key c.in_ok-left.ensures.turns.0 c.in_ok-left.ensures.turns.1 c.args.self.now c.let_go.new.self c.leave.new.self c.in_ok-left.left _ _ c.in_ok-left.ensures.turns.2 c.in_ok-left.ensures.seats c.let_go.ensures.pool c.let_go.ensures.links s c.in-Some.left c.in-Some.is (search rules))
 
 pub returns-in_default-clause-lasts : goal.returns-in_default-clause-lasts

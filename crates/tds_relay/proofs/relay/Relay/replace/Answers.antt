@@ -29,6 +29,7 @@ use Rattle.tds_relay.proofs.spared.Off.{all_off, asks_more, lost_off, parted_off
 use Rattle.tds_relay.proofs.lending.Firsts.{first_lost_on}
 use Rattle.tds_relay.proofs.lending.Rests.{free_lost}
 use Rattle.tds_relay.proofs.lending.Stilled.{sent_still, still_off, still_then}
+use Rattle.tds_relay.proofs.steps.Answering.{ask_ok, ask_on, before_on, on_both}
 use Rattle.tds_relay.proofs.relay.Relay.replace.Goals as goal
 
 pub returns-in_default-clause-goes : goal.returns-in_default-clause-goes
@@ -145,11 +146,11 @@ returns-then-not-may_replace-clause-seated c = λ s. c.lose.ensures.seated (off_
 
 pub returns-in_default-clause-seated : goal.returns-in_default-clause-seated
 returns-in_default-clause-seated c = λ s.
-    closed_end c.close_link.result c.args.number c.lose-2.new.self c.args.self.now.links.items c.close_link.new.self c.close_link.ensures.pool c.close_link.ensures.gone c.close_link.ensures.others (lost_seated c.args.number (pool_in c.args.self.now.pool) (pool_in c.lose-2.new.self) _ _ c.args.self.now.links.items c.in_ok-holder.ensures.turns (off_of c.args.number (pool_in c.args.self.now.pool) c.args.self.now.links.items s))
+    closed_end c.close_link.result c.args.number c.lose-2.new.self c.args.self.now.links.items c.close_link.new.self c.close_link.ensures.pool c.close_link.ensures.fewer c.close_link.ensures.gone c.close_link.ensures.others (lost_seated c.args.number (pool_in c.args.self.now.pool) (pool_in c.lose-2.new.self) _ _ c.args.self.now.links.items c.in_ok-holder.ensures.turns (off_of c.args.number (pool_in c.args.self.now.pool) c.args.self.now.links.items s))
 
 pub returns-clause-seated : goal.returns-clause-seated
 returns-clause-seated c = λ s.
-    c.wait.ensures.seated (closed_seated c.args.number c.let_go.new.self.pool c.let_go.new.self.links.items c.close_link-2.new.self c.close_link-2.ensures.pool c.in_ok-close_link.ensures.gone c.in_ok-close_link.ensures.others
+    c.wait.ensures.seated (closed_seated c.args.number c.let_go.new.self.pool c.let_go.new.self.links.items c.close_link-2.new.self c.close_link-2.ensures.pool c.in_ok-close_link.ensures.fewer c.in_ok-close_link.ensures.gone c.in_ok-close_link.ensures.others
     (pool_but c.args.number c.lose-2.new.self c.args.self.now.links.items c.let_go.new.self c.let_go.ensures.pool c.let_go.ensures.links (lost_seated c.args.number (pool_in c.args.self.now.pool) (pool_in c.lose-2.new.self) _ _ c.args.self.now.links.items c.in_ok-holder.ensures.turns (off_of c.args.number (pool_in c.args.self.now.pool) c.args.self.now.links.items s))))
 
 pub returns-then-not-may_replace-clause-apart : goal.returns-then-not-may_replace-clause-apart
@@ -207,3 +208,12 @@ returns-clause-still c =
     still_then c.wait.result _ c.args.self.now.links.items c.close_link-2.new.self.links.items c.wait.new.self.links.items
     (sent_still c.args.number c.args.self.now.links.items c.let_go.new.self.links.items c.close_link-2.new.self.links.items c.let_go.ensures.links c.in_ok-close_link.ensures.others)
     (ok_if c.wait.result _ c.wait.ensures.links)
+
+pub returns-then-not-may_replace-clause-asks : goal.returns-then-not-may_replace-clause-asks
+returns-then-not-may_replace-clause-asks c = ask_ok c.lose.result c.args.self.now.applications c.lose.new.self.applications c.lose.ensures.asks
+
+pub returns-in_default-clause-asks : goal.returns-in_default-clause-asks
+returns-in_default-clause-asks c = ask_ok c.close_link.result c.args.self.now.applications c.close_link.new.self.applications (ok_more c.close_link.result _ _ (before_on c.args.self.now.applications c.close_link.new.self.applications) c.close_link.ensures.asks)
+
+pub returns-clause-asks : goal.returns-clause-asks
+returns-clause-asks c = ok_if c.wait.result _ (ask_on c.args.self.now.applications c.wait.new.self.applications (on_both c.args.self.now.applications c.close_link-2.new.self.applications c.wait.new.self.applications (on_both c.args.self.now.applications c.let_go.new.self.applications c.close_link-2.new.self.applications (before_on c.args.self.now.applications c.let_go.new.self.applications c.let_go.ensures.asks) (before_on c.let_go.new.self.applications c.close_link-2.new.self.applications c.in_ok-close_link.ensures.asks)) (before_on c.close_link-2.new.self.applications c.wait.new.self.applications c.wait.ensures.asks)))

@@ -92,9 +92,9 @@ returns-clause-puts c = λ reached.
 pub returns-clause-cancels : goal.returns-clause-cancels
 returns-clause-cancels c = λ reached.
     let led = reached_on (Application c.args.key) _ _ c.in_ok-take_all.ensures.goes reached in
-    cancels_served c.serve_line.result c.args.key (machine_in c.args.self.now) c.args.piece.now (standing_in c.args.key c.args.self.now) c.take_all.new.self c.serve_line.new.self c.in_ok-take_all.ensures.cancels
-    c.serve_line.ensures.moves c.serve_line.ensures.kept (ok_more c.serve_line.result _ _ (λ g. g.go led c.args.key) c.serve_line.ensures.goes_on) (c.serve_line.ensures.aside led) c.serve_line.ensures.opens
-    (c.serve_line.ensures.fills led)
+    cancels_served c.serve_line.result c.args.key c.args.self.now.pool.service.last (machine_in c.args.self.now) c.args.piece.now (standing_in c.args.key c.args.self.now) c.take_all.new.self c.serve_line.new.self c.in_ok-take_all.ensures.cancels
+    c.serve_line.ensures.moves c.serve_line.ensures.kept (ok_more c.serve_line.result _ _ (λ g. g.go led c.args.key) c.serve_line.ensures.goes_on) (c.serve_line.ensures.aside led)
+    (goes_last (Application c.args.key) (pool_in c.args.self.now.pool) (pool_in c.take_all.new.self.pool) c.in_ok-take_all.ensures.goes) c.serve_line.ensures.given (c.serve_line.ensures.fills led)
 
 pub returns-clause-given : goal.returns-clause-given
 returns-clause-given c = given_served c.serve_line.result c.args.self.now c.take_all.new.self c.serve_line.new.self c.in_ok-take_all.ensures.read (goes_last (Application c.args.key) (pool_in c.args.self.now.pool) (pool_in c.take_all.new.self.pool) c.in_ok-take_all.ensures.goes) c.serve_line.ensures.given

@@ -1,4 +1,4 @@
-use Rattle.std.proofs.Common.{ap, inl, inr, rules, subst, sym}
+use Rattle.std.proofs.Common.{◌∙◌, ap, inl, inr, rules, subst, sym}
 use Rattle.tds_relay.specs.Ties.{pool_in}
 use Rattle.tds_relay.proofs.steps.Fronts.{moves_same}
 use Rattle.tds_relay.proofs.steps.Reaching.{ok_more}
@@ -13,11 +13,12 @@ use Rattle.tds_relay.proofs.lending.Resting.{others_all}
 use Rattle.tds_relay.proofs.spared.Elsewhere.{aside_on, aside_own, filled_own}
 use Rattle.tds_relay.proofs.spared.Rightly.{deaf_right_on, opens_before, right_by}
 use Rattle.tds_relay.specs.Asking.{IsTakenBack}
-use Rattle.tds_relay.specs.Core.{EndList, end_at}
+use Rattle.tds_relay.specs.Core.{EndList, end_at, is_in}
 use Rattle.tds_relay.specs.Sparing.{IsKept}
 use Rattle.tds_relay.proofs.spared.Turned.{kept_asks}
 use Rattle.tds_relay.specs.declared.pool.Pool as pools
 use Rattle.tds_relay.proofs.spared.Begun.{answers_on}
+use Rattle.tds_relay.proofs.steps.Underway.{out_on}
 use Rattle.tds_relay.proofs.relay.Relay.send_stop.Goals as goal
 
 pub returns-else-fits-clause-read : goal.returns-else-fits-clause-read
@@ -80,3 +81,11 @@ returns-else-fits-clause-right c = λ right. deaf_right_on c.fail.result c.args.
 
 pub returns-else-fits-clause-answers : goal.returns-else-fits-clause-answers
 returns-else-fits-clause-answers c = answers_on c.fail.result _ _ _ c.in_ok-fits.ensures.answers c.fail.ensures.answers
+
+pub returns-then-fits-clause-away : goal.returns-then-fits-clause-away
+returns-then-fits-clause-away c = λ out. ap (λ (d : pools.Pool). is_in c.args.key (pool_in d).line) c.fits_on.ensures.pool ∙ out
+
+pub returns-else-fits-clause-away : goal.returns-else-fits-clause-away
+returns-else-fits-clause-away c = λ out.
+    out_on c.fail.result c.args.key (pool_in c.fits_on.new.self.pool).line (pool_in c.fail.new.self.pool).line (ok_more c.fail.result _ _ (λ a. a.line) c.fail.ensures.alone)
+    (ap (λ (d : pools.Pool). is_in c.args.key (pool_in d).line) c.fits_on.ensures.pool ∙ out)

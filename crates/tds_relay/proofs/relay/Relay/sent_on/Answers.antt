@@ -22,13 +22,13 @@ returns-clause-whose c =
     ∙ ap name_of has)
 
 pub returns-then-not-forget_sent-clause-seated : goal.returns-then-not-forget_sent-clause-seated
-returns-then-not-forget_sent-clause-seated c = λ s. seated_as (pool_in c.args.self.now.pool) c.args.self.now.links.items c.forget_sent.new.links.items (changed_there (drop c.args.count) c.args.number c.args.self.now.links.items c.forget_sent.new.links.items c.forget_sent.ensures.fewer c.forget_sent.ensures.others) s
+returns-then-not-forget_sent-clause-seated c = λ s. seated_as (pool_in c.args.self.now.pool) c.args.self.now.links.items c.forget_sent.new.links.items (changed_there (drop c.args.count) c.args.number c.args.self.now.links.items c.forget_sent.new.links.items c.forget_sent.ensures.many c.forget_sent.ensures.fewer c.forget_sent.ensures.others) s
 
 pub returns-in_err-key-clause-seated : goal.returns-in_err-key-clause-seated
-returns-in_err-key-clause-seated c = λ s. seated_as (pool_in c.args.self.now.pool) c.args.self.now.links.items c.forget_sent.new.links.items (changed_there (drop c.args.count) c.args.number c.args.self.now.links.items c.forget_sent.new.links.items c.forget_sent.ensures.fewer c.forget_sent.ensures.others) s
+returns-in_err-key-clause-seated c = λ s. seated_as (pool_in c.args.self.now.pool) c.args.self.now.links.items c.forget_sent.new.links.items (changed_there (drop c.args.count) c.args.number c.args.self.now.links.items c.forget_sent.new.links.items c.forget_sent.ensures.many c.forget_sent.ensures.fewer c.forget_sent.ensures.others) s
 
 pub returns-in_err-get-clause-seated : goal.returns-in_err-get-clause-seated
-returns-in_err-get-clause-seated c = λ s. seated_as (pool_in c.args.self.now.pool) c.args.self.now.links.items c.forget_sent.new.links.items (changed_there (drop c.args.count) c.args.number c.args.self.now.links.items c.forget_sent.new.links.items c.forget_sent.ensures.fewer c.forget_sent.ensures.others) s
+returns-in_err-get-clause-seated c = λ s. seated_as (pool_in c.args.self.now.pool) c.args.self.now.links.items c.forget_sent.new.links.items (changed_there (drop c.args.count) c.args.number c.args.self.now.links.items c.forget_sent.new.links.items c.forget_sent.ensures.many c.forget_sent.ensures.fewer c.forget_sent.ensures.others) s
 
 pub returns-clause-seated : goal.returns-clause-seated
-returns-clause-seated c = λ s. seated_as (pool_in c.args.self.now.pool) c.args.self.now.links.items c.forget_sent.new.links.items (changed_there (drop c.args.count) c.args.number c.args.self.now.links.items c.forget_sent.new.links.items c.forget_sent.ensures.fewer c.forget_sent.ensures.others) s
+returns-clause-seated c = λ s. seated_as (pool_in c.args.self.now.pool) c.args.self.now.links.items c.forget_sent.new.links.items (changed_there (drop c.args.count) c.args.number c.args.self.now.links.items c.forget_sent.new.links.items c.forget_sent.ensures.many c.forget_sent.ensures.fewer c.forget_sent.ensures.others) s

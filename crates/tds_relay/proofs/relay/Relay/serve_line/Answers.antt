@@ -28,6 +28,7 @@ use Rattle.tds_relay.proofs.lending.Earlier.{anew_refl, served_anew, turn_was}
 use Rattle.tds_relay.proofs.lending.Leases.{on_given}
 use Rattle.tds_relay.proofs.held.Numbers.{apart_at}
 use Rattle.tds_relay.proofs.spared.Held.{sound_at}
+use Rattle.tds_relay.proofs.steps.Answering.{ask_both, ask_refl}
 use Rattle.tds_relay.proofs.relay.Relay.serve_line.Goals as goal
 
 pub line-init : goal.line-init
@@ -41,6 +42,7 @@ line-init c =
       opens = opens_refl old.links.items;
       stand = λ n r h. h;
       going = go_refl old;
+      asks = ask_refl old.applications;
       ordered = ordered_refl old.orders.items;
       unserved = unserved_refl (core_in old);
       lends = lends_none (core_in old);
@@ -71,6 +73,7 @@ line-preserved c = record {
   going =
       go_both _ _ _ (λ r. reached_serves _ _ _ _ c.in_ok-served.ensures.ok.0 (reached_on_does _ _ c.line.invariant.goes r))
       (served_go _ _ _ c.line.invariant.goes c.line.invariant.going c.in_ok-served.ensures.holds refl refl) c.in_ok-lend-in-Some.ensures.goes_on;
+  asks = ask_both c.args.self.now.applications c.line.self.applications c.lend.new.self.applications c.line.invariant.asks c.in_ok-lend-in-Some.ensures.asks;
   ordered = ordered_both _ _ _ c.line.invariant.ordered c.in_ok-lend-in-Some.ensures.ordered;
   few = few_lent _ _ _ _ _ (pool_in c.line.self.pool) _ c.in-Some.served (most_kept _ _ c.line.invariant.closes.told) (c.is_full.ensures.lends (search rules)) c.in_ok-served.ensures.ok.1 c.in-Some.is c.in_ok-lend-in-Some.ensures.few c.line.invariant.few;
   closes =

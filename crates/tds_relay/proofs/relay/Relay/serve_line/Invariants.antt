@@ -13,6 +13,7 @@ use Rattle.tds_relay.proofs.spared.Apart.{Unserved}
 use Rattle.tds_relay.specs.Closings.{ClosesOnly, IsWaiting, register_in}
 use Rattle.tds_relay.specs.Waiting.{IsLentInVain}
 use Rattle.tds_relay.specs.Cleaning.{cleaned_in}
+use Rattle.tds_relay.specs.Coming.{AskOrGo}
 use Rattle.tds_relay.proofs.relay.Relay.serve_line.Given as goal
 
 abbrev pub invariant-line : goal.invariant-line
@@ -23,6 +24,7 @@ invariant-line l = record {
   opens : Opens l.fn.self.links.items l.self.links.items;
   stand : AllStand l.fn.self.pool.service l.self.pool.service;
   going : AllGo l.fn.self l.self;
+  asks : AskOrGo l.fn.self.applications l.self.applications;
   ordered : StayOrdered l.fn.self.orders.items l.self.orders.items;
   unserved : Unserved (core_in l.fn.self) (core_in l.self);
   lends : LendsInTurn (pool_in l.fn.self.pool).line (ends_in l.fn.self.applications) (core_in l.self);

@@ -8,7 +8,7 @@ use Rattle.tds_relay.proofs.bytes.Calls.{stand_on}
 use Rattle.tds_relay.specs.Bodies.{Body, Stays, Starts, body_of, going_of, held_of, PutsFrom, standing_in}
 use Rattle.slab.specs.Slab.{get}
 use Rattle.tds_relay.specs.Reads.{waits_on}
-use Rattle.tds_relay.specs.Sparing.{StartsBehind, Drains}
+use Rattle.tds_relay.specs.Sparing.{StartsBehind, Drains, IsKept}
 use Rattle.tds_relay.proofs.steps.Bodied.{closed_body, closed_starts, shut_starts, shut}
 use Rattle.tds_relay.proofs.steps.Going.{behind_closed, behind_there, holds_stay, kept_at, starts_there}
 use Rattle.tds_relay.specs.Pool.{Pool, Asks, find_key}
@@ -33,6 +33,7 @@ use Rattle.tds_relay.proofs.spared.Filling.{own_end, own_on, own_refl, own_same}
 use Rattle.tds_relay.proofs.steps.Still.{put_refl, put_shut, put_there}
 use Rattle.tds_relay.proofs.spared.Kepts.{kept_not}
 use Rattle.tds_relay.proofs.lending.Fresh.{shut_off, shut_refl, shut_unchanged}
+use Rattle.tds_relay.proofs.steps.Answering.{ask_ok}
 use Rattle.tds_relay.proofs.relay.Relay.start.Goals as goal
 
 pub returns-in-Ok-clause-goes : goal.returns-in-Ok-clause-goes
@@ -44,9 +45,9 @@ returns-in-Ok-clause-moves c = ok_more c.put_held.result _ _ (λ m may begun by 
 pub returns-in_default-hold_of-clause-moves : goal.returns-in_default-hold_of-clause-moves
 returns-in_default-hold_of-clause-moves c = ok_more c.end.result _ _ (λ e may begun by from h. moves_closes by from _ _ _ _ c.args.key (ap pool_in c.end.ensures.pool) e h) c.end.ensures.ends
 
-pub returns-then-application-2-clause-underway : goal.returns-then-application-2-clause-underway
-returns-then-application-2-clause-underway c = λ whole waits.
-    drains whole _ c.args.key (pool_in c.args.self.now.pool) c.args.self.now.applications c.in-Some.application.now c.in-Some-hold_of.hold c.in-Some.ensures (search rules)
+pub returns-then-is_withdrawn-clause-underway : goal.returns-then-is_withdrawn-clause-underway
+returns-then-is_withdrawn-clause-underway c = λ whole waits.
+    drains whole _ c.args.key (pool_in c.args.self.now.pool) c.args.self.now.applications c.in-Some.application.now c.in-Some-hold_of.hold c.in-Some.ensures (sym c.is_withdrawn.ensures ∙ c.if-is_withdrawn.true)
     (sym c.hold_of.ensures ∙ c.in-Some-hold_of.is)
 
 pub returns-then-not-is_open-clause-underway : goal.returns-then-not-is_open-clause-underway
@@ -58,14 +59,14 @@ returns-in-Ok-clause-stand c = stand_on c.put_held.result _ _ _ c.in-Ok.ensures.
 pub returns-in_default-clause-body : goal.returns-in_default-clause-body
 returns-in_default-clause-body c = Stays
 
-pub returns-then-application-clause-body : goal.returns-then-application-clause-body
-returns-then-application-clause-body c = Stays
+pub returns-then-is_over-clause-body : goal.returns-then-is_over-clause-body
+returns-then-is_over-clause-body c = Stays
 
 pub returns-in_default-asking-clause-body : goal.returns-in_default-asking-clause-body
 returns-in_default-asking-clause-body c = Stays
 
-pub returns-then-application-2-clause-body : goal.returns-then-application-2-clause-body
-returns-then-application-2-clause-body c = Stays
+pub returns-then-is_withdrawn-clause-body : goal.returns-then-is_withdrawn-clause-body
+returns-then-is_withdrawn-clause-body c = Stays
 
 pub returns-then-not-is_open-clause-body : goal.returns-then-not-is_open-clause-body
 returns-then-not-is_open-clause-body c = Stays
@@ -75,7 +76,7 @@ returns-in_default-hold_of-clause-body c = ok_more c.end.result _ _ (λ e. close
 
 pub returns-in-Ok-clause-body : goal.returns-in-Ok-clause-body
 returns-in-Ok-clause-body c =
-    let kept = kept_at (get c.args.self.now.applications c.args.key) (going_of c.args.key c.args.self.now) c.in-Some.application.now c.in-Waits.kind c.in-Waits.whole c.in-Some.ensures c.if-application.false c.in-Waits.is in
+    let kept = kept_at (get c.args.self.now.applications c.args.key) (going_of c.args.key c.args.self.now) c.in-Some.application.now c.in-Waits.kind c.in-Waits.whole c.in-Some.ensures (sym c.is_over.ensures ∙ c.if-is_over.false) (sym c.asking.ensures ∙ c.in-Waits.is) in
     ok_more c.put_held.result _ _
     (λ g. subst (λ (b : Body). Starts b (body_of c.args.key c.put_held.new.self)) (sym kept)
     (starts_there c.in-Waits.whole (held_of (get c.args.self.now.applications c.args.key)) c.in-Waits.kind c.args.key c.args.self.now.pool c.ask.new.self c.args.self.now.links.items _ c.in-Some-hold_of.hold (body_of c.args.key c.put_held.new.self) c.in-Ok.ensures.whose
@@ -96,8 +97,8 @@ returns-in_default-hold_of-clause-others c = λ reached.
 pub returns-in_default-clause-waits : goal.returns-in_default-clause-waits
 returns-in_default-clause-waits c = inl (unkept_none c.args.self.now.applications c.args.key _ (search rules))
 
-pub returns-then-application-clause-waits : goal.returns-then-application-clause-waits
-returns-then-application-clause-waits c = inl (unkept_over c.args.self.now.applications c.args.key c.in-Some.application.now _ c.in-Some.ensures (search rules))
+pub returns-then-is_over-clause-waits : goal.returns-then-is_over-clause-waits
+returns-then-is_over-clause-waits c = inl (unkept_over c.args.self.now.applications c.args.key c.in-Some.application.now _ c.in-Some.ensures (sym c.is_over.ensures ∙ c.if-is_over.true))
 
 pub returns-in_default-asking-clause-waits : goal.returns-in_default-asking-clause-waits
 returns-in_default-asking-clause-waits c = inl (unkept_there c.args.key c.args.self.now c.in-Some.application.now c.in-Some.ensures (search rules))
@@ -105,8 +106,8 @@ returns-in_default-asking-clause-waits c = inl (unkept_there c.args.key c.args.s
 pub returns-in_default-hold_of-clause-waits : goal.returns-in_default-hold_of-clause-waits
 returns-in_default-hold_of-clause-waits c = ok_more c.end.result _ _ (λ s. inl (unkept_closed _ (s _))) c.end.ensures.shuts
 
-pub returns-then-application-2-clause-waits : goal.returns-then-application-2-clause-waits
-returns-then-application-2-clause-waits c = inr (Drains (taken_back c.args.self.now.applications c.args.key c.in-Some.application.now c.in-Some.ensures (search rules) (search rules)))
+pub returns-then-is_withdrawn-clause-waits : goal.returns-then-is_withdrawn-clause-waits
+returns-then-is_withdrawn-clause-waits c = inr (Drains (taken_back c.args.self.now.applications c.args.key c.in-Some.application.now c.in-Some.ensures (sym c.is_over.ensures ∙ c.if-is_over.false) (sym c.is_withdrawn.ensures ∙ c.if-is_withdrawn.true)))
 
 pub returns-then-not-is_open-clause-waits : goal.returns-then-not-is_open-clause-waits
 returns-then-not-is_open-clause-waits c = inr (sparing.Opens c.in-Some-hold_of.hold (sym c.hold_of.ensures ∙ c.in-Some-hold_of.is) (c.is_open.ensures.shut (search rules)))
@@ -127,15 +128,15 @@ returns-in_default-hold_of-clause-ordered c = ordered_closing c.end.result _ _ _
 
 pub returns-in-Ok-clause-closes : goal.returns-in-Ok-clause-closes
 returns-in-Ok-clause-closes c =
-    let ready = ready_there c.args.key c.args.self.now.applications c.args.self.now.pool c.args.self.now.links.items c.in-Some.application.now c.in-Some-hold_of.hold c.in-Some.ensures c.if-application.false (search rules)
+    let ready = ready_there c.args.key c.args.self.now.applications c.args.self.now.pool c.args.self.now.links.items c.in-Some.application.now c.in-Some-hold_of.hold c.in-Some.ensures (sym c.is_over.ensures ∙ c.if-is_over.false) (sym c.is_withdrawn.ensures ∙ c.if-is_withdrawn.false)
     (sym c.hold_of.ensures ∙ c.in-Some-hold_of.is) (c.is_open.ensures.open (search rules)) in
-    for_that c.put_held.result c.args.key _ _ _ _ (λ why. inr (subst (λ (b : Body). CannotStart c.args.key (end_at (ends_in c.args.self.now.applications) c.args.key) c.args.self.now.pool c.args.self.now.links.items b) (sym (kept_at (get c.args.self.now.applications c.args.key) (going_of c.args.key c.args.self.now) c.in-Some.application.now c.in-Waits.kind c.in-Waits.whole c.in-Some.ensures c.if-application.false c.in-Waits.is)) (ready, Unput _ c.in-Ok.ensures.whose c.ask.new.self c.in-Ok.ensures.ok c.in-Ok.ensures.opened why))) c.put_held.ensures.closes
+    for_that c.put_held.result c.args.key _ _ _ _ (λ why. inr (subst (λ (b : Body). CannotStart c.args.key (end_at (ends_in c.args.self.now.applications) c.args.key) c.args.self.now.pool c.args.self.now.links.items b) (sym (kept_at (get c.args.self.now.applications c.args.key) (going_of c.args.key c.args.self.now) c.in-Some.application.now c.in-Waits.kind c.in-Waits.whole c.in-Some.ensures (sym c.is_over.ensures ∙ c.if-is_over.false) (sym c.asking.ensures ∙ c.in-Waits.is))) (ready, Unput _ c.in-Ok.ensures.whose c.ask.new.self c.in-Ok.ensures.ok c.in-Ok.ensures.opened why))) c.put_held.ensures.closes
 
 pub returns-in_default-clause-placed : goal.returns-in_default-clause-placed
 returns-in_default-clause-placed c = inl (unkept_none c.args.self.now.applications c.args.key _ (search rules))
 
-pub returns-then-application-clause-placed : goal.returns-then-application-clause-placed
-returns-then-application-clause-placed c = inl (unkept_over c.args.self.now.applications c.args.key c.in-Some.application.now _ c.in-Some.ensures (search rules))
+pub returns-then-is_over-clause-placed : goal.returns-then-is_over-clause-placed
+returns-then-is_over-clause-placed c = inl (unkept_over c.args.self.now.applications c.args.key c.in-Some.application.now _ c.in-Some.ensures (sym c.is_over.ensures ∙ c.if-is_over.true))
 
 pub returns-in_default-asking-clause-placed : goal.returns-in_default-asking-clause-placed
 returns-in_default-asking-clause-placed c = inl (unkept_there c.args.key c.args.self.now c.in-Some.application.now c.in-Some.ensures (search rules))
@@ -143,8 +144,8 @@ returns-in_default-asking-clause-placed c = inl (unkept_there c.args.key c.args.
 pub returns-in_default-hold_of-clause-placed : goal.returns-in_default-hold_of-clause-placed
 returns-in_default-hold_of-clause-placed c = ok_more c.end.result _ _ (λ s. inl (unkept_closed _ (s _))) c.end.ensures.shuts
 
-pub returns-then-application-2-clause-placed : goal.returns-then-application-2-clause-placed
-returns-then-application-2-clause-placed c = inr (Drains (taken_back c.args.self.now.applications c.args.key c.in-Some.application.now c.in-Some.ensures (search rules) (search rules)))
+pub returns-then-is_withdrawn-clause-placed : goal.returns-then-is_withdrawn-clause-placed
+returns-then-is_withdrawn-clause-placed c = inr (Drains (taken_back c.args.self.now.applications c.args.key c.in-Some.application.now c.in-Some.ensures (sym c.is_over.ensures ∙ c.if-is_over.false) (sym c.is_withdrawn.ensures ∙ c.if-is_withdrawn.true)))
 
 pub returns-then-not-is_open-clause-placed : goal.returns-then-not-is_open-clause-placed
 returns-then-not-is_open-clause-placed c = inr (sparing.Opens c.in-Some-hold_of.hold (sym c.hold_of.ensures ∙ c.in-Some-hold_of.is) (c.is_open.ensures.shut (search rules)))
@@ -155,14 +156,14 @@ returns-in-Ok-clause-placed c = ok_more c.put_held.result _ _ (λ g. inl g) c.pu
 pub returns-in_default-clause-answers : goal.returns-in_default-clause-answers
 returns-in_default-clause-answers c = answers_refl c.args.self.now.links.items
 
-pub returns-then-application-clause-answers : goal.returns-then-application-clause-answers
-returns-then-application-clause-answers c = answers_refl c.args.self.now.links.items
+pub returns-then-is_over-clause-answers : goal.returns-then-is_over-clause-answers
+returns-then-is_over-clause-answers c = answers_refl c.args.self.now.links.items
 
 pub returns-in_default-asking-clause-answers : goal.returns-in_default-asking-clause-answers
 returns-in_default-asking-clause-answers c = answers_refl c.args.self.now.links.items
 
-pub returns-then-application-2-clause-answers : goal.returns-then-application-2-clause-answers
-returns-then-application-2-clause-answers c = answers_refl c.args.self.now.links.items
+pub returns-then-is_withdrawn-clause-answers : goal.returns-then-is_withdrawn-clause-answers
+returns-then-is_withdrawn-clause-answers c = answers_refl c.args.self.now.links.items
 
 pub returns-then-not-is_open-clause-answers : goal.returns-then-not-is_open-clause-answers
 returns-then-not-is_open-clause-answers c = answers_refl c.args.self.now.links.items
@@ -173,14 +174,14 @@ returns-in_default-hold_of-clause-answers c = answers_unchanged c.end.result _ _
 pub returns-in_default-clause-lasts : goal.returns-in_default-clause-lasts
 returns-in_default-clause-lasts c = last_start (Itself c.args.key) (register_in c.args.self.now)
 
-pub returns-then-application-clause-lasts : goal.returns-then-application-clause-lasts
-returns-then-application-clause-lasts c = last_start (Itself c.args.key) (register_in c.args.self.now)
+pub returns-then-is_over-clause-lasts : goal.returns-then-is_over-clause-lasts
+returns-then-is_over-clause-lasts c = last_start (Itself c.args.key) (register_in c.args.self.now)
 
 pub returns-in_default-asking-clause-lasts : goal.returns-in_default-asking-clause-lasts
 returns-in_default-asking-clause-lasts c = last_start (Itself c.args.key) (register_in c.args.self.now)
 
-pub returns-then-application-2-clause-lasts : goal.returns-then-application-2-clause-lasts
-returns-then-application-2-clause-lasts c = last_start (Itself c.args.key) (register_in c.args.self.now)
+pub returns-then-is_withdrawn-clause-lasts : goal.returns-then-is_withdrawn-clause-lasts
+returns-then-is_withdrawn-clause-lasts c = last_start (Itself c.args.key) (register_in c.args.self.now)
 
 pub returns-then-not-is_open-clause-lasts : goal.returns-then-not-is_open-clause-lasts
 returns-then-not-is_open-clause-lasts c = last_start (Itself c.args.key) (register_in c.args.self.now)
@@ -190,7 +191,7 @@ returns-in_default-hold_of-clause-lasts c = same_but c.end.result (Itself c.args
 
 pub returns-in-Ok-clause-lasts : goal.returns-in-Ok-clause-lasts
 returns-in-Ok-clause-lasts c =
-    last_named c.put_held.result c.args.key c.in-Some.application.now.tag (register_in c.args.self.now) c.put_held.new.self (its_name c.args.self.now c.args.key c.in-Some.application.now c.in-Some.ensures c.if-application.false) c.put_held.ensures.lasts
+    last_named c.put_held.result c.args.key c.in-Some.application.now.tag (register_in c.args.self.now) c.put_held.new.self (its_name c.args.self.now c.args.key c.in-Some.application.now c.in-Some.ensures (sym c.is_over.ensures ∙ c.if-is_over.false)) c.put_held.ensures.lasts
 
 pub returns-in-Ok-clause-seated : goal.returns-in-Ok-clause-seated
 returns-in-Ok-clause-seated c = λ s. c.put_held.ensures.seated (action_seated c.args.key Asks (pool_in c.args.self.now.pool) (pool_in c.ask.new.self) _ _ c.args.self.now.links.items c.in-Ok.ensures.ok s)
@@ -225,15 +226,15 @@ returns-in_ok-unless_memory-in-Err-clause-placed c = ok_more c.fail.result _ _ (
 
 pub returns-in_ok-unless_memory-in-Err-clause-lasts : goal.returns-in_ok-unless_memory-in-Err-clause-lasts
 returns-in_ok-unless_memory-in-Err-clause-lasts c =
-    last_closed c.fail.result c.args.key c.in-Some.application.now.tag (register_in c.args.self.now) (register_in c.fail.new.self) (its_name c.args.self.now c.args.key c.in-Some.application.now c.in-Some.ensures c.if-application.false) c.fail.ensures.over
+    last_closed c.fail.result c.args.key c.in-Some.application.now.tag (register_in c.args.self.now) (register_in c.fail.new.self) (its_name c.args.self.now c.args.key c.in-Some.application.now c.in-Some.ensures (sym c.is_over.ensures ∙ c.if-is_over.false)) c.fail.ensures.over
 
 pub returns-in_ok-unless_memory-in-Err-clause-closes : goal.returns-in_ok-unless_memory-in-Err-clause-closes
 returns-in_ok-unless_memory-in-Err-clause-closes c =
-    let ready = ready_there c.args.key c.args.self.now.applications c.args.self.now.pool c.args.self.now.links.items c.in-Some.application.now c.in-Some-hold_of.hold c.in-Some.ensures c.if-application.false (search rules)
+    let ready = ready_there c.args.key c.args.self.now.applications c.args.self.now.pool c.args.self.now.links.items c.in-Some.application.now c.in-Some-hold_of.hold c.in-Some.ensures (sym c.is_over.ensures ∙ c.if-is_over.false) (sym c.is_withdrawn.ensures ∙ c.if-is_withdrawn.false)
     (sym c.hold_of.ensures ∙ c.in-Some-hold_of.is) (c.is_open.ensures.open (search rules)) in
     let its = sym c.hold_of.ensures ∙ c.in-Some-hold_of.is in
     for_reason c.fail.result c.args.key _ _ _
-    (inr (subst (λ (b : Body). CannotStart c.args.key (end_at (ends_in c.args.self.now.applications) c.args.key) c.args.self.now.pool c.args.self.now.links.items b) (sym (kept_at (get c.args.self.now.applications c.args.key) (going_of c.args.key c.args.self.now) c.in-Some.application.now c.in-Waits.kind c.in-Waits.whole c.in-Some.ensures c.if-application.false c.in-Waits.is))
+    (inr (subst (λ (b : Body). CannotStart c.args.key (end_at (ends_in c.args.self.now.applications) c.args.key) c.args.self.now.pool c.args.self.now.links.items b) (sym (kept_at (get c.args.self.now.applications c.args.key) (going_of c.args.key c.args.self.now) c.in-Some.application.now c.in-Waits.kind c.in-Waits.whole c.in-Some.ensures (sym c.is_over.ensures ∙ c.if-is_over.false) (sym c.asking.ensures ∙ c.in-Waits.is)))
     (ready, Unasked (record { hold = c.in-Some-hold_of.hold; its = its; refusal = c.in-Err.refusal; reason = c.in_ok-unless_memory-in-Err.ensures; refuses = λ count. c.in-Err.ensures.refused c.in-Some-hold_of.hold its })))) c.fail.ensures.closes
 
 pub returns-in_default-hold_of-clause-closes : goal.returns-in_default-hold_of-clause-closes
@@ -244,14 +245,14 @@ returns-in_default-hold_of-clause-closes c =
 pub returns-in_default-clause-behind : goal.returns-in_default-clause-behind
 returns-in_default-clause-behind c = λ hold its. sparing.Stays
 
-pub returns-then-application-clause-behind : goal.returns-then-application-clause-behind
-returns-then-application-clause-behind c = λ hold its. sparing.Stays
+pub returns-then-is_over-clause-behind : goal.returns-then-is_over-clause-behind
+returns-then-is_over-clause-behind c = λ hold its. sparing.Stays
 
 pub returns-in_default-asking-clause-behind : goal.returns-in_default-asking-clause-behind
 returns-in_default-asking-clause-behind c = λ hold its. sparing.Stays
 
-pub returns-then-application-2-clause-behind : goal.returns-then-application-2-clause-behind
-returns-then-application-2-clause-behind c = λ hold its. sparing.Stays
+pub returns-then-is_withdrawn-clause-behind : goal.returns-then-is_withdrawn-clause-behind
+returns-then-is_withdrawn-clause-behind c = λ hold its. sparing.Stays
 
 pub returns-then-not-is_open-clause-behind : goal.returns-then-not-is_open-clause-behind
 returns-then-not-is_open-clause-behind c = λ hold its. sparing.Stays
@@ -264,7 +265,7 @@ returns-in_ok-unless_memory-in-Err-clause-behind c = ok_more c.fail.result _ _ (
 
 pub returns-in-Ok-clause-behind : goal.returns-in-Ok-clause-behind
 returns-in-Ok-clause-behind c =
-    let kept = kept_at (get c.args.self.now.applications c.args.key) (going_of c.args.key c.args.self.now) c.in-Some.application.now c.in-Waits.kind c.in-Waits.whole c.in-Some.ensures c.if-application.false c.in-Waits.is in
+    let kept = kept_at (get c.args.self.now.applications c.args.key) (going_of c.args.key c.args.self.now) c.in-Some.application.now c.in-Waits.kind c.in-Waits.whole c.in-Some.ensures (sym c.is_over.ensures ∙ c.if-is_over.false) (sym c.asking.ensures ∙ c.in-Waits.is) in
     ok_more c.put_held.result _ _
     (λ g hold its. subst (λ (b : Body). StartsBehind (waits_on hold.number c.args.self.now.links.items) b (body_of c.args.key c.put_held.new.self)) (sym kept)
     (behind_there c.in-Waits.whole (held_of (get c.args.self.now.applications c.args.key)) c.in-Waits.kind c.args.key c.args.self.now.pool c.ask.new.self c.args.self.now.links.items _ c.in-Some-hold_of.hold hold (body_of c.args.key c.put_held.new.self) c.in-Ok.ensures.whose
@@ -274,14 +275,14 @@ returns-in-Ok-clause-behind c =
 pub returns-in_default-clause-own : goal.returns-in_default-clause-own
 returns-in_default-clause-own c = λ reached. own_refl c.args.key c.args.self.now.pool.holds.items c.args.self.now.links.items
 
-pub returns-then-application-clause-own : goal.returns-then-application-clause-own
-returns-then-application-clause-own c = λ reached. own_refl c.args.key c.args.self.now.pool.holds.items c.args.self.now.links.items
+pub returns-then-is_over-clause-own : goal.returns-then-is_over-clause-own
+returns-then-is_over-clause-own c = λ reached. own_refl c.args.key c.args.self.now.pool.holds.items c.args.self.now.links.items
 
 pub returns-in_default-asking-clause-own : goal.returns-in_default-asking-clause-own
 returns-in_default-asking-clause-own c = λ reached. own_refl c.args.key c.args.self.now.pool.holds.items c.args.self.now.links.items
 
-pub returns-then-application-2-clause-own : goal.returns-then-application-2-clause-own
-returns-then-application-2-clause-own c = λ reached. own_refl c.args.key c.args.self.now.pool.holds.items c.args.self.now.links.items
+pub returns-then-is_withdrawn-clause-own : goal.returns-then-is_withdrawn-clause-own
+returns-then-is_withdrawn-clause-own c = λ reached. own_refl c.args.key c.args.self.now.pool.holds.items c.args.self.now.links.items
 
 pub returns-then-not-is_open-clause-own : goal.returns-then-not-is_open-clause-own
 returns-then-not-is_open-clause-own c = λ reached. own_refl c.args.key c.args.self.now.pool.holds.items c.args.self.now.links.items
@@ -305,14 +306,14 @@ returns-in_ok-unless_memory-in-Err-clause-own c = λ reached.
 pub returns-in_default-clause-puts : goal.returns-in_default-clause-puts
 returns-in_default-clause-puts c = put_refl (standing_in c.args.key c.args.self.now)
 
-pub returns-then-application-clause-puts : goal.returns-then-application-clause-puts
-returns-then-application-clause-puts c = put_refl (standing_in c.args.key c.args.self.now)
+pub returns-then-is_over-clause-puts : goal.returns-then-is_over-clause-puts
+returns-then-is_over-clause-puts c = put_refl (standing_in c.args.key c.args.self.now)
 
 pub returns-in_default-asking-clause-puts : goal.returns-in_default-asking-clause-puts
 returns-in_default-asking-clause-puts c = put_refl (standing_in c.args.key c.args.self.now)
 
-pub returns-then-application-2-clause-puts : goal.returns-then-application-2-clause-puts
-returns-then-application-2-clause-puts c = put_refl (standing_in c.args.key c.args.self.now)
+pub returns-then-is_withdrawn-clause-puts : goal.returns-then-is_withdrawn-clause-puts
+returns-then-is_withdrawn-clause-puts c = put_refl (standing_in c.args.key c.args.self.now)
 
 pub returns-then-not-is_open-clause-puts : goal.returns-then-not-is_open-clause-puts
 returns-then-not-is_open-clause-puts c = put_refl (standing_in c.args.key c.args.self.now)
@@ -325,7 +326,7 @@ returns-in_ok-unless_memory-in-Err-clause-puts c = ok_more c.fail.result _ _ (λ
 
 pub returns-in-Ok-clause-puts : goal.returns-in-Ok-clause-puts
 returns-in-Ok-clause-puts c =
-    let kept = kept_at (get c.args.self.now.applications c.args.key) (going_of c.args.key c.args.self.now) c.in-Some.application.now c.in-Waits.kind c.in-Waits.whole c.in-Some.ensures c.if-application.false c.in-Waits.is in
+    let kept = kept_at (get c.args.self.now.applications c.args.key) (going_of c.args.key c.args.self.now) c.in-Some.application.now c.in-Waits.kind c.in-Waits.whole c.in-Some.ensures (sym c.is_over.ensures ∙ c.if-is_over.false) (sym c.asking.ensures ∙ c.in-Waits.is) in
     ok_more c.put_held.result _ _
     (λ g. subst (λ (b : Body). PutsFrom (λ (number : ℕ). waits_on number c.args.self.now.links.items) b (standing_in c.args.key c.put_held.new.self)) (sym kept)
     (put_there c.in-Waits.whole (held_of (get c.args.self.now.applications c.args.key)) c.in-Waits.kind c.args.key c.args.self.now.pool c.ask.new.self c.args.self.now.links.items _ c.in-Some-hold_of.hold (standing_in c.args.key c.put_held.new.self) c.in-Ok.ensures.whose
@@ -335,14 +336,14 @@ returns-in-Ok-clause-puts c =
 pub returns-in_default-clause-stays : goal.returns-in_default-clause-stays
 returns-in_default-clause-stays c = λ kept. refl
 
-pub returns-then-application-clause-stays : goal.returns-then-application-clause-stays
-returns-then-application-clause-stays c = λ kept. refl
+pub returns-then-is_over-clause-stays : goal.returns-then-is_over-clause-stays
+returns-then-is_over-clause-stays c = λ kept. refl
 
 pub returns-in_default-asking-clause-stays : goal.returns-in_default-asking-clause-stays
 returns-in_default-asking-clause-stays c = λ kept. refl
 
-pub returns-then-application-2-clause-stays : goal.returns-then-application-2-clause-stays
-returns-then-application-2-clause-stays c = λ kept. refl
+pub returns-then-is_withdrawn-clause-stays : goal.returns-then-is_withdrawn-clause-stays
+returns-then-is_withdrawn-clause-stays c = λ kept. refl
 
 pub returns-then-not-is_open-clause-stays : goal.returns-then-not-is_open-clause-stays
 returns-then-not-is_open-clause-stays c = λ kept. refl
@@ -359,14 +360,14 @@ returns-in_ok-unless_memory-in-Err-clause-stays c = ok_more c.fail.result _ _ (�
 pub returns-in_default-clause-shut : goal.returns-in_default-clause-shut
 returns-in_default-clause-shut c = shut_refl c.args.self.now.links.items
 
-pub returns-then-application-clause-shut : goal.returns-then-application-clause-shut
-returns-then-application-clause-shut c = shut_refl c.args.self.now.links.items
+pub returns-then-is_over-clause-shut : goal.returns-then-is_over-clause-shut
+returns-then-is_over-clause-shut c = shut_refl c.args.self.now.links.items
 
 pub returns-in_default-asking-clause-shut : goal.returns-in_default-asking-clause-shut
 returns-in_default-asking-clause-shut c = shut_refl c.args.self.now.links.items
 
-pub returns-then-application-2-clause-shut : goal.returns-then-application-2-clause-shut
-returns-then-application-2-clause-shut c = shut_refl c.args.self.now.links.items
+pub returns-then-is_withdrawn-clause-shut : goal.returns-then-is_withdrawn-clause-shut
+returns-then-is_withdrawn-clause-shut c = shut_refl c.args.self.now.links.items
 
 pub returns-then-not-is_open-clause-shut : goal.returns-then-not-is_open-clause-shut
 returns-then-not-is_open-clause-shut c = shut_refl c.args.self.now.links.items
@@ -381,3 +382,12 @@ returns-in-Ok-clause-shut c =
 
 pub returns-in_ok-unless_memory-in-Err-clause-shut : goal.returns-in_ok-unless_memory-in-Err-clause-shut
 returns-in_ok-unless_memory-in-Err-clause-shut c = shut_off c.fail.result c.in-Some-hold_of.hold.number c.args.self.now.links.items c.fail.new.self.links.items (c.is_open.ensures.open (search rules)) c.fail.ensures.off
+
+pub returns-in_default-hold_of-clause-asks : goal.returns-in_default-hold_of-clause-asks
+returns-in_default-hold_of-clause-asks c = ask_ok c.end.result c.args.self.now.applications c.end.new.self.applications c.end.ensures.asks
+
+pub returns-in-Ok-clause-asks : goal.returns-in-Ok-clause-asks
+returns-in-Ok-clause-asks c = c.put_held.ensures.asks (subst IsKept (sym (kept_at (get c.args.self.now.applications c.args.key) _ c.in-Some.application.now c.in-Waits.kind c.in-Waits.whole c.in-Some.ensures (sym c.is_over.ensures ∙ c.if-is_over.false) (sym c.asking.ensures ∙ c.in-Waits.is))) tt)
+
+pub returns-in_ok-unless_memory-in-Err-clause-asks : goal.returns-in_ok-unless_memory-in-Err-clause-asks
+returns-in_ok-unless_memory-in-Err-clause-asks c = ask_ok c.fail.result c.args.self.now.applications c.fail.new.self.applications c.fail.ensures.asks

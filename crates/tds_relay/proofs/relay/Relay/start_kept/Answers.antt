@@ -24,6 +24,7 @@ use Rattle.tds_relay.proofs.spared.Filling.{own_refl}
 use Rattle.tds_relay.proofs.steps.Still.{put_refl, put_shut}
 use Rattle.tds_relay.proofs.spared.Kepts.{kept_not}
 use Rattle.tds_relay.proofs.lending.Fresh.{held_open, shut_off, shut_refl}
+use Rattle.tds_relay.proofs.steps.Answering.{ask_ok}
 use Rattle.tds_relay.proofs.relay.Relay.start_kept.Goals as goal
 
 pub returns-in_default-clause-moves : goal.returns-in_default-clause-moves
@@ -149,3 +150,6 @@ returns-clause-shut c =
     let its = sym c.hold_of.ensures ∙ c.in-Some.is in
     shut_off c.fail.result c.in-Some.hold.number c.args.self.now.links.items c.fail.new.self.links.items
     (held_open c.args.key c.in-Some.hold _ c.args.self.now.pool c.args.self.now.links.items its (c.is_held_back.ensures.ready its (search rules))) c.fail.ensures.off
+
+pub returns-clause-asks : goal.returns-clause-asks
+returns-clause-asks c = ask_ok c.fail.result c.args.self.now.applications c.fail.new.self.applications c.fail.ensures.asks

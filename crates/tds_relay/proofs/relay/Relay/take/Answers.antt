@@ -39,18 +39,19 @@ use Rattle.tds_relay.proofs.spared.Starting.{unkept_over}
 use Rattle.tds_relay.specs.declared.relay.Relay as code
 use Rattle.tds_relay.proofs.lending.Earlier.{anew_refl}
 use Rattle.tds_relay.proofs.relay.Relay.take.Goals as goal
+use Rattle.tds_relay.specs.Places.{is_closed, own_reset, took_back}
 
 pub returns-in-Err-clause-tells : goal.returns-in-Err-clause-tells
 returns-in-Err-clause-tells c = λ first bytes t.
     let slab = c.args.self.now.applications in
     let a = c.in-Some.application.now in
     let es = ends_in slab in
-    let here : a.is_over ≡ false = search rules in
+    let here : is_closed a ≡ false = sym c.is_over.ensures ∙ c.if-is_over.false in
     let was = end_there slab c.args.key a c.in-Some.ensures.value ∙ ap Some (end_open a here) in
     let says = sym c.feed.ensures.brings ∙ c.in-Err.is in
-    tells_refused c.args.key first bytes c.args.piece.now _ (machine_in c.args.self.now) (core_in c.expel_for.new.self) _ a.front a.is_withdrawn a.reset _ was
-    (waits_refused c.args.key es c.args.piece.now a.front a.is_withdrawn a.reset _ (queues_in slab) was says)
-    (refused_is c.args.key (pool_in c.args.self.now.pool) es c.args.piece.now a.front a.is_withdrawn a.reset _ was says)
+    tells_refused c.args.key first bytes c.args.piece.now _ (machine_in c.args.self.now) (core_in c.expel_for.new.self) _ a.front (took_back a) (own_reset a) _ was
+    (waits_refused c.args.key es c.args.piece.now a.front (took_back a) (own_reset a) _ (queues_in slab) was says)
+    (refused_is c.args.key (pool_in c.args.self.now.pool) es c.args.piece.now a.front (took_back a) (own_reset a) _ was says)
     (moved_same (Application c.args.key) _ _ _ _ _ refl
     (sym (closed_fed (closes_for (Some c.in-Err.fault)) es _ c.args.key _ (own_end a) (ap (closes_for (Some c.in-Err.fault)) (end_open a here) ∙ sym (ap (closes_for (Some c.in-Err.fault)) (end_open c.feed.new.self (c.feed.ensures.over ∙ here)))) (end_there slab c.args.key a c.in-Some.ensures.value) (ends_written slab c.args.key _))) c.in_ok-expel_for-in-Err.ensures.moves)
     (c.in_ok-expel_for-in-Err.ensures.kept ∙ queues_kept slab c.args.key a _ c.in-Some.ensures.value c.feed.ensures.queue) t
@@ -59,10 +60,10 @@ pub returns-clause-tells : goal.returns-clause-tells
 returns-clause-tells c = λ first bytes t.
     let slab = c.args.self.now.applications in
     let a = c.in-Some.application.now in
-    let here : a.is_over ≡ false = search rules in
+    let here : is_closed a ≡ false = sym c.is_over.ensures ∙ c.if-is_over.false in
     tells_fed c.args.key first bytes c.args.piece.now _ (pool_in c.args.self.now.pool) (ends_in slab) _ (queues_in slab) _ (core_in c.obey.new.self) c.in-Ok.fed.said
     c.in_ok-obey.ensures.moves
-    (is_fed c.args.key slab a c.feed.new.self c.args.piece.now c.in-Ok.fed.count c.in-Ok.fed.said c.in-Some.ensures.value here (c.feed.ensures.over ∙ here) c.feed.ensures.withdrawn c.in-Ok.ensures.asks
+    (is_fed c.args.key slab a c.feed.new.self c.args.piece.now c.in-Ok.fed.count c.in-Ok.fed.said c.in-Some.ensures.value here (c.feed.ensures.over ∙ here) c.feed.ensures.withdrawn (c.in-Ok.ensures.asks here)
     c.feed.ensures.front (search rules)) refl
     (c.in_ok-obey.ensures.given ∙ ap (λ (ps : Queues). given_by c.args.key c.in-Ok.fed.said ps) (queues_kept slab c.args.key a _ c.in-Some.ensures.value c.feed.ensures.queue)) t
 
@@ -71,12 +72,12 @@ returns-in-Err-clause-asks c = λ first bytes t.
     let slab = c.args.self.now.applications in
     let a = c.in-Some.application.now in
     let es = ends_in slab in
-    let here : a.is_over ≡ false = search rules in
+    let here : is_closed a ≡ false = sym c.is_over.ensures ∙ c.if-is_over.false in
     let was = end_there slab c.args.key a c.in-Some.ensures.value ∙ ap Some (end_open a here) in
     let says = sym c.feed.ensures.brings ∙ c.in-Err.is in
-    asks_refused c.args.key first bytes c.args.piece.now _ _ (machine_in c.args.self.now) (core_in c.expel_for.new.self) _ a.front a.is_withdrawn a.reset _ was
-    (waits_refused c.args.key es c.args.piece.now a.front a.is_withdrawn a.reset _ (queues_in slab) was says)
-    (refused_is c.args.key (pool_in c.args.self.now.pool) es c.args.piece.now a.front a.is_withdrawn a.reset _ was says) says
+    asks_refused c.args.key first bytes c.args.piece.now _ _ (machine_in c.args.self.now) (core_in c.expel_for.new.self) _ a.front (took_back a) (own_reset a) _ was
+    (waits_refused c.args.key es c.args.piece.now a.front (took_back a) (own_reset a) _ (queues_in slab) was says)
+    (refused_is c.args.key (pool_in c.args.self.now.pool) es c.args.piece.now a.front (took_back a) (own_reset a) _ was says) says
     (moved_same (Application c.args.key) _ _ _ _ _ refl
     (sym (closed_fed (closes_for (Some c.in-Err.fault)) es _ c.args.key _ (own_end a) (ap (closes_for (Some c.in-Err.fault)) (end_open a here) ∙ sym (ap (closes_for (Some c.in-Err.fault)) (end_open c.feed.new.self (c.feed.ensures.over ∙ here)))) (end_there slab c.args.key a c.in-Some.ensures.value) (ends_written slab c.args.key _))) c.in_ok-expel_for-in-Err.ensures.moves)
     (c.in_ok-expel_for-in-Err.ensures.kept ∙ queues_kept slab c.args.key a _ c.in-Some.ensures.value c.feed.ensures.queue)
@@ -86,10 +87,10 @@ pub returns-clause-asks : goal.returns-clause-asks
 returns-clause-asks c = λ first bytes t.
     let slab = c.args.self.now.applications in
     let a = c.in-Some.application.now in
-    let here : a.is_over ≡ false = search rules in
+    let here : is_closed a ≡ false = sym c.is_over.ensures ∙ c.if-is_over.false in
     asks_fed c.args.key first bytes c.args.piece.now _ _ _ (pool_in c.args.self.now.pool) (ends_in slab) _ (queues_in slab) _ (core_in c.obey.new.self) c.in-Ok.fed.said
     c.in_ok-obey.ensures.moves
-    (is_fed c.args.key slab a c.feed.new.self c.args.piece.now c.in-Ok.fed.count c.in-Ok.fed.said c.in-Some.ensures.value here (c.feed.ensures.over ∙ here) c.feed.ensures.withdrawn c.in-Ok.ensures.asks
+    (is_fed c.args.key slab a c.feed.new.self c.args.piece.now c.in-Ok.fed.count c.in-Ok.fed.said c.in-Some.ensures.value here (c.feed.ensures.over ∙ here) c.feed.ensures.withdrawn (c.in-Ok.ensures.asks here)
     c.feed.ensures.front (search rules))
     c.in_ok-obey.ensures.underway c.in_ok-obey.ensures.read refl
     (c.in_ok-obey.ensures.given ∙ ap (λ (ps : Queues). given_by c.args.key c.in-Ok.fed.said ps) (queues_kept slab c.args.key a _ c.in-Some.ensures.value c.feed.ensures.queue)) t
@@ -98,39 +99,39 @@ pub returns-in_default-clause-asks : goal.returns-in_default-clause-asks
 returns-in_default-clause-asks c = λ first bytes t.
     asks_deaf c.args.key first (machine_in c.args.self.now) bytes c.args.piece.now _ _ (none_deaf c.args.key c.args.self.now.applications (search rules)) t
 
-pub returns-then-application-clause-asks : goal.returns-then-application-clause-asks
-returns-then-application-clause-asks c = λ first bytes t.
+pub returns-then-is_over-clause-asks : goal.returns-then-is_over-clause-asks
+returns-then-is_over-clause-asks c = λ first bytes t.
     let slab = c.args.self.now.applications in
     let a = c.in-Some.application.now in
     asks_moved c.args.key first bytes _ _ (core_in c.args.self.now) (core_of_ends (pool_in c.args.self.now.pool) (ends_in (with_value slab c.args.key a))) (queues_in slab) (queues_in (with_value slab c.args.key a))
     (λ from m. moves_same (Application c.args.key) from _ _ _ _ refl (ends_kept slab c.args.key a a c.in-Some.ensures.value refl) m) (queues_kept slab c.args.key a a c.in-Some.ensures.value refl)
-    (asks_deaf c.args.key first (machine_in c.args.self.now) bytes c.args.piece.now _ _ (over_deaf c.args.key slab a c.in-Some.ensures.value (search rules)) t)
+    (asks_deaf c.args.key first (machine_in c.args.self.now) bytes c.args.piece.now _ _ (over_deaf c.args.key slab a c.in-Some.ensures.value (sym c.is_over.ensures ∙ c.if-is_over.true)) t)
 
 pub returns-in_default-clause-carries : goal.returns-in_default-clause-carries
 returns-in_default-clause-carries c = λ first bytes at t.
     carries_deaf c.args.key first (machine_in c.args.self.now) bytes c.args.piece.now _ at (body_of c.args.key c.args.self.now) (none_deaf c.args.key c.args.self.now.applications (search rules)) t
 
-pub returns-then-application-clause-carries : goal.returns-then-application-clause-carries
-returns-then-application-clause-carries c = λ first bytes at t.
+pub returns-then-is_over-clause-carries : goal.returns-then-is_over-clause-carries
+returns-then-is_over-clause-carries c = λ first bytes at t.
     let slab = c.args.self.now.applications in
     let a = c.in-Some.application.now in
     carries_moved c.args.key first bytes _ at (body_of c.args.key c.args.self.now) (body_in (get (with_value slab c.args.key a) c.args.key) (going_of c.args.key c.args.self.now)) (core_in c.args.self.now) (core_of_ends (pool_in c.args.self.now.pool) (ends_in (with_value slab c.args.key a))) (queues_in slab) (queues_in (with_value slab c.args.key a))
     (λ from m. moves_same (Application c.args.key) from _ _ _ _ refl (ends_kept slab c.args.key a a c.in-Some.ensures.value refl) m) (queues_kept slab c.args.key a a c.in-Some.ensures.value refl)
     (same_starts (body_of c.args.key c.args.self.now) (body_in (get (with_value slab c.args.key a) c.args.key) (going_of c.args.key c.args.self.now)) (asks_kept slab c.args.key a a c.in-Some.ensures.value (λ goes. refl) c.args.key (going_of c.args.key c.args.self.now)))
     (slab_tied (with_value slab c.args.key a) c.args.key (going_of c.args.key c.args.self.now) (λ end. goes_tied end c.args.self.now.pool.service c.args.self.now.links.items (find_key c.args.key c.args.self.now.pool.holds.items)))
-    (carries_deaf c.args.key first (machine_in c.args.self.now) bytes c.args.piece.now _ at (body_of c.args.key c.args.self.now) (over_deaf c.args.key slab a c.in-Some.ensures.value (search rules)) t)
+    (carries_deaf c.args.key first (machine_in c.args.self.now) bytes c.args.piece.now _ at (body_of c.args.key c.args.self.now) (over_deaf c.args.key slab a c.in-Some.ensures.value (sym c.is_over.ensures ∙ c.if-is_over.true)) t)
 
 pub returns-in-Err-clause-carries : goal.returns-in-Err-clause-carries
 returns-in-Err-clause-carries c = λ first bytes at t.
     let slab = c.args.self.now.applications in
     let a = c.in-Some.application.now in
     let es = ends_in slab in
-    let here : a.is_over ≡ false = search rules in
+    let here : is_closed a ≡ false = sym c.is_over.ensures ∙ c.if-is_over.false in
     let was = end_there slab c.args.key a c.in-Some.ensures.value ∙ ap Some (end_open a here) in
     let says = sym c.feed.ensures.brings ∙ c.in-Err.is in
-    carries_refused c.args.key first bytes c.args.piece.now _ at (body_of c.args.key c.args.self.now) (body_of c.args.key c.expel_for.new.self) (machine_in c.args.self.now) (core_in c.expel_for.new.self) _ a.front a.is_withdrawn a.reset _ was
-    (waits_refused c.args.key es c.args.piece.now a.front a.is_withdrawn a.reset _ (queues_in slab) was says)
-    (refused_is c.args.key (pool_in c.args.self.now.pool) es c.args.piece.now a.front a.is_withdrawn a.reset _ was says) says
+    carries_refused c.args.key first bytes c.args.piece.now _ at (body_of c.args.key c.args.self.now) (body_of c.args.key c.expel_for.new.self) (machine_in c.args.self.now) (core_in c.expel_for.new.self) _ a.front (took_back a) (own_reset a) _ was
+    (waits_refused c.args.key es c.args.piece.now a.front (took_back a) (own_reset a) _ (queues_in slab) was says)
+    (refused_is c.args.key (pool_in c.args.self.now.pool) es c.args.piece.now a.front (took_back a) (own_reset a) _ was says) says
     (moved_same (Application c.args.key) _ _ _ _ _ refl
     (sym (closed_fed (closes_for (Some c.in-Err.fault)) es _ c.args.key _ (own_end a) (ap (closes_for (Some c.in-Err.fault)) (end_open a here) ∙ sym (ap (closes_for (Some c.in-Err.fault)) (end_open c.feed.new.self (c.feed.ensures.over ∙ here)))) (end_there slab c.args.key a c.in-Some.ensures.value) (ends_written slab c.args.key _))) c.in_ok-expel_for-in-Err.ensures.moves)
     (c.in_ok-expel_for-in-Err.ensures.kept ∙ queues_kept slab c.args.key a _ c.in-Some.ensures.value c.feed.ensures.queue)
@@ -140,11 +141,11 @@ pub returns-clause-carries : goal.returns-clause-carries
 returns-clause-carries c = λ first bytes at t.
     let slab = c.args.self.now.applications in
     let a = c.in-Some.application.now in
-    let here : a.is_over ≡ false = search rules in
+    let here : is_closed a ≡ false = sym c.is_over.ensures ∙ c.if-is_over.false in
     let same = asks_kept slab c.args.key a c.feed.new.self c.in-Some.ensures.value c.feed.ensures.body c.args.key (going_of c.args.key c.args.self.now) in
     carries_fed c.args.key first bytes c.args.piece.now _ at (body_of c.args.key c.args.self.now) (body_of c.args.key c.obey.new.self) (pool_in c.args.self.now.pool) (ends_in slab) _ (queues_in slab) _ (core_in c.obey.new.self) c.in-Ok.fed.said
     c.in_ok-obey.ensures.moves
-    (is_fed c.args.key slab a c.feed.new.self c.args.piece.now c.in-Ok.fed.count c.in-Ok.fed.said c.in-Some.ensures.value here (c.feed.ensures.over ∙ here) c.feed.ensures.withdrawn c.in-Ok.ensures.asks
+    (is_fed c.args.key slab a c.feed.new.self c.args.piece.now c.in-Ok.fed.count c.in-Ok.fed.said c.in-Some.ensures.value here (c.feed.ensures.over ∙ here) c.feed.ensures.withdrawn (c.in-Ok.ensures.asks here)
     c.feed.ensures.front (search rules))
     (subst (λ (b : Body). Obeys c.in-Ok.fed.said (take c.in-Ok.fed.count c.args.piece.now) b (body_of c.args.key c.obey.new.self)) same c.in_ok-obey.ensures.body) refl
     (c.in_ok-obey.ensures.given ∙ ap (λ (ps : Queues). given_by c.args.key c.in-Ok.fed.said ps) (queues_kept slab c.args.key a _ c.in-Some.ensures.value c.feed.ensures.queue))
@@ -154,27 +155,27 @@ pub returns-in_default-clause-cancels : goal.returns-in_default-clause-cancels
 returns-in_default-clause-cancels c = λ first bytes at t.
     cancels_deaf c.args.key first (machine_in c.args.self.now) bytes c.args.piece.now _ at (standing_in c.args.key c.args.self.now) (none_deaf c.args.key c.args.self.now.applications (search rules)) t
 
-pub returns-then-application-clause-cancels : goal.returns-then-application-clause-cancels
-returns-then-application-clause-cancels c = λ first bytes at t.
+pub returns-then-is_over-clause-cancels : goal.returns-then-is_over-clause-cancels
+returns-then-is_over-clause-cancels c = λ first bytes at t.
     let slab = c.args.self.now.applications in
     let a = c.in-Some.application.now in
     cancels_moved c.args.key first bytes _ at (standing_in c.args.key c.args.self.now) (body_in (get (with_value slab c.args.key a) c.args.key) (going_of c.args.key c.args.self.now), λ (number : ℕ). waits_on number c.args.self.now.links.items) (core_in c.args.self.now) (core_of_ends (pool_in c.args.self.now.pool) (ends_in (with_value slab c.args.key a))) (queues_in slab) (queues_in (with_value slab c.args.key a))
     (λ from m. moves_same (Application c.args.key) from _ _ _ _ refl (ends_kept slab c.args.key a a c.in-Some.ensures.value refl) m) (queues_kept slab c.args.key a a c.in-Some.ensures.value refl)
     (inl (asks_kept slab c.args.key a a c.in-Some.ensures.value (λ goes. refl) c.args.key (going_of c.args.key c.args.self.now), λ number. same_at (waits_on number c.args.self.now.links.items)))
     (slab_tied (with_value slab c.args.key a) c.args.key (going_of c.args.key c.args.self.now) (λ end. goes_tied end c.args.self.now.pool.service c.args.self.now.links.items (find_key c.args.key c.args.self.now.pool.holds.items)))
-    (cancels_deaf c.args.key first (machine_in c.args.self.now) bytes c.args.piece.now _ at (standing_in c.args.key c.args.self.now) (over_deaf c.args.key slab a c.in-Some.ensures.value (search rules)) t)
+    (cancels_deaf c.args.key first (machine_in c.args.self.now) bytes c.args.piece.now _ at (standing_in c.args.key c.args.self.now) (over_deaf c.args.key slab a c.in-Some.ensures.value (sym c.is_over.ensures ∙ c.if-is_over.true)) t)
 
 pub returns-in-Err-clause-cancels : goal.returns-in-Err-clause-cancels
 returns-in-Err-clause-cancels c = λ first bytes at t.
     let slab = c.args.self.now.applications in
     let a = c.in-Some.application.now in
     let es = ends_in slab in
-    let here : a.is_over ≡ false = search rules in
+    let here : is_closed a ≡ false = sym c.is_over.ensures ∙ c.if-is_over.false in
     let was = end_there slab c.args.key a c.in-Some.ensures.value ∙ ap Some (end_open a here) in
     let says = sym c.feed.ensures.brings ∙ c.in-Err.is in
-    cancels_refused c.args.key first bytes c.args.piece.now _ at (standing_in c.args.key c.args.self.now) (standing_in c.args.key c.expel_for.new.self) (machine_in c.args.self.now) (core_in c.expel_for.new.self) _ a.front a.is_withdrawn a.reset _ was
-    (waits_refused c.args.key es c.args.piece.now a.front a.is_withdrawn a.reset _ (queues_in slab) was says)
-    (refused_is c.args.key (pool_in c.args.self.now.pool) es c.args.piece.now a.front a.is_withdrawn a.reset _ was says) says
+    cancels_refused c.args.key first bytes c.args.piece.now _ at (standing_in c.args.key c.args.self.now) (standing_in c.args.key c.expel_for.new.self) (machine_in c.args.self.now) (core_in c.expel_for.new.self) _ a.front (took_back a) (own_reset a) _ was
+    (waits_refused c.args.key es c.args.piece.now a.front (took_back a) (own_reset a) _ (queues_in slab) was says)
+    (refused_is c.args.key (pool_in c.args.self.now.pool) es c.args.piece.now a.front (took_back a) (own_reset a) _ was says) says
     (moved_same (Application c.args.key) _ _ _ _ _ refl
     (sym (closed_fed (closes_for (Some c.in-Err.fault)) es _ c.args.key _ (own_end a) (ap (closes_for (Some c.in-Err.fault)) (end_open a here) ∙ sym (ap (closes_for (Some c.in-Err.fault)) (end_open c.feed.new.self (c.feed.ensures.over ∙ here)))) (end_there slab c.args.key a c.in-Some.ensures.value) (ends_written slab c.args.key _))) c.in_ok-expel_for-in-Err.ensures.moves)
     (c.in_ok-expel_for-in-Err.ensures.kept ∙ queues_kept slab c.args.key a _ c.in-Some.ensures.value c.feed.ensures.queue)
@@ -184,11 +185,11 @@ pub returns-clause-cancels : goal.returns-clause-cancels
 returns-clause-cancels c = λ first bytes at t.
     let slab = c.args.self.now.applications in
     let a = c.in-Some.application.now in
-    let here : a.is_over ≡ false = search rules in
+    let here : is_closed a ≡ false = sym c.is_over.ensures ∙ c.if-is_over.false in
     let same = asks_kept slab c.args.key a c.feed.new.self c.in-Some.ensures.value c.feed.ensures.body c.args.key (going_of c.args.key c.args.self.now) in
     cancels_fed c.args.key first bytes c.args.piece.now _ at (standing_in c.args.key c.args.self.now) (standing_in c.args.key c.obey.new.self) (pool_in c.args.self.now.pool) (ends_in slab) _ (queues_in slab) _ (core_in c.obey.new.self) c.in-Ok.fed.said
     c.in_ok-obey.ensures.moves
-    (is_fed c.args.key slab a c.feed.new.self c.args.piece.now c.in-Ok.fed.count c.in-Ok.fed.said c.in-Some.ensures.value here (c.feed.ensures.over ∙ here) c.feed.ensures.withdrawn c.in-Ok.ensures.asks
+    (is_fed c.args.key slab a c.feed.new.self c.args.piece.now c.in-Ok.fed.count c.in-Ok.fed.said c.in-Some.ensures.value here (c.feed.ensures.over ∙ here) c.feed.ensures.withdrawn (c.in-Ok.ensures.asks here)
     c.feed.ensures.front (search rules))
     (record {
       obeys = subst (λ (b : Body). Obeys c.in-Ok.fed.said (take c.in-Ok.fed.count c.args.piece.now) b (body_of c.args.key c.obey.new.self)) same c.in_ok-obey.ensures.body;
@@ -209,21 +210,21 @@ returns-clause-names c =
     ap names_of (c.in_ok-obey.ensures.given ∙ ap (λ (ps : Queues). given_by c.args.key c.in-Ok.fed.said ps) (queues_kept slab c.args.key c.in-Some.application.now _ c.in-Some.ensures.value c.feed.ensures.queue))
     ∙ names_given c.args.key c.in-Ok.fed.said (queues_in slab)
 
-pub returns-then-application-clause-names : goal.returns-then-application-clause-names
-returns-then-application-clause-names c = ap names_of (queues_kept c.args.self.now.applications c.args.key c.in-Some.application.now c.in-Some.application.now c.in-Some.ensures.value refl)
+pub returns-then-is_over-clause-names : goal.returns-then-is_over-clause-names
+returns-then-is_over-clause-names c = ap names_of (queues_kept c.args.self.now.applications c.args.key c.in-Some.application.now c.in-Some.application.now c.in-Some.ensures.value refl)
 
-pub returns-then-application-clause-closes : goal.returns-then-application-clause-closes
-returns-then-application-clause-closes c = closes_kept _ _ _ (ends_kept c.args.self.now.applications c.args.key c.in-Some.application.now c.in-Some.application.now c.in-Some.ensures.value refl) (queues_kept c.args.self.now.applications c.args.key c.in-Some.application.now c.in-Some.application.now c.in-Some.ensures.value refl) refl (kept_refl c.args.self.now.links.items) (unclosed _ _ refl)
+pub returns-then-is_over-clause-closes : goal.returns-then-is_over-clause-closes
+returns-then-is_over-clause-closes c = closes_kept _ _ _ (ends_kept c.args.self.now.applications c.args.key c.in-Some.application.now c.in-Some.application.now c.in-Some.ensures.value refl) (queues_kept c.args.self.now.applications c.args.key c.in-Some.application.now c.in-Some.application.now c.in-Some.ensures.value refl) refl (kept_refl c.args.self.now.links.items) (unclosed _ _ refl)
 
 pub returns-in-Err-clause-closes : goal.returns-in-Err-clause-closes
 returns-in-Err-clause-closes c =
     let a = c.in-Some.application.now in
     let r = c.args.self.now in
-    let here : a.is_over ≡ false = search rules in
+    let here : is_closed a ≡ false = sym c.is_over.ensures ∙ c.if-is_over.false in
     let was = end_there r.applications c.args.key a c.in-Some.ensures.value ∙ ap Some (end_open a here) in
     let why : GivesReason c.args.piece.now c.args.key r =
     subst (ReasonBy c.args.piece.now c.args.key r) (sym was)
-    (subst (ReasonWith c.args.piece.now c.args.key r (fed a.front c.args.piece.now).front a.is_withdrawn a.reset) (c.feed.ensures.brings) (subst (ReasonWith c.args.piece.now c.args.key r (fed a.front c.args.piece.now).front a.is_withdrawn a.reset) (sym c.in-Err.is) tt)) in
+    (subst (ReasonWith c.args.piece.now c.args.key r (fed a.front c.args.piece.now).front (took_back a) (own_reset a)) (c.feed.ensures.brings) (subst (ReasonWith c.args.piece.now c.args.key r (fed a.front c.args.piece.now).front (took_back a) (own_reset a)) (sym c.in-Err.is) tt)) in
     closes_both (ItselfFor c.args.key (GivesReason c.args.piece.now c.args.key r)) _ _ _
     (closes_written _ c.args.self.now.applications c.args.key c.in-Some.application.now c.feed.new.self _ _ c.in-Some.ensures.value c.feed.ensures.over refl refl (queues_kept c.args.self.now.applications c.args.key c.in-Some.application.now c.feed.new.self c.in-Some.ensures.value c.feed.ensures.queue) refl (kept_refl c.args.self.now.links.items) (unclosed _ _ refl))
     (closes_more (Itself c.args.key) (ItselfFor c.args.key (GivesReason c.args.piece.now c.args.key r)) _ _ (λ other same. (same, why)) c.in_ok-expel_for-in-Err.ensures.closes)
@@ -236,12 +237,12 @@ returns-clause-closes c =
     let r = c.args.self.now in
     let piece = c.args.piece.now in
     let said = c.in-Ok.fed.said in
-    let here : a.is_over ≡ false = search rules in
+    let here : is_closed a ≡ false = sym c.is_over.ensures ∙ c.if-is_over.false in
     let was = end_there slab c.args.key a c.in-Some.ensures.value ∙ ap Some (end_open a here) in
     let behind : Front = (fed a.front piece).front in
-    let now : end_at (ends_in (with_value slab c.args.key b)) c.args.key ≡ Some (Open behind a.is_withdrawn (asks_by said a.reset)) =
+    let now : end_at (ends_in (with_value slab c.args.key b)) c.args.key ≡ Some (Open behind (took_back a) (asks_by said (own_reset a))) =
     end_is (with_value slab c.args.key b) c.args.key ∙ ap (option_map own_end) (written_there slab c.args.key a b c.in-Some.ensures.value) ∙ ap Some (end_open b (c.feed.ensures.over ∙ here))
-    ∙ ap (λ (f : Front). Some (Open f b.is_withdrawn b.reset)) c.feed.ensures.front ∙ ap (λ (w : Bool). Some (Open behind w b.reset)) c.feed.ensures.withdrawn ∙ ap (λ (o : Option Reset). Some (Open behind a.is_withdrawn o)) c.in-Ok.ensures.asks in
+    ∙ ap (λ (f : Front). Some (Open f (took_back b) (own_reset b))) c.feed.ensures.front ∙ ap (λ (w : Bool). Some (Open behind w (own_reset b))) c.feed.ensures.withdrawn ∙ ap (λ (o : Option Reset). Some (Open behind (took_back a) o)) (c.in-Ok.ensures.asks here) in
     let same = asks_kept slab c.args.key a b c.in-Some.ensures.value c.feed.ensures.body c.args.key (going_of c.args.key r) in
     let rooms : room_left (get (with_value slab c.args.key b) c.args.key) ≡ room_left (get slab c.args.key) =
     ap room_left (written_there slab c.args.key a b c.in-Some.ensures.value) ∙ c.feed.ensures.room ∙ ap room_left c.in-Some.ensures.value in
@@ -251,7 +252,7 @@ returns-clause-closes c =
     (λ other x. (
       x.0,
       subst (ReasonBy piece c.args.key r) (sym was)
-          (subst (ReasonWith piece c.args.key r behind a.is_withdrawn a.reset) c.feed.ensures.brings (subst (ReasonWith piece c.args.key r behind a.is_withdrawn a.reset) (sym c.in-Ok.is)
+          (subst (ReasonWith piece c.args.key r behind (took_back a) (own_reset a)) c.feed.ensures.brings (subst (ReasonWith piece c.args.key r behind (took_back a) (own_reset a)) (sym c.in-Ok.is)
           (may_before said (take c.in-Ok.fed.count piece) c.args.key _ _ _ _ r.pool r.links.items _ _ _ _ now rooms (queues_kept slab c.args.key a b c.in-Some.ensures.value c.feed.ensures.queue) same x.1))),
     ))
     c.in_ok-obey.ensures.closes)
@@ -259,8 +260,8 @@ returns-clause-closes c =
 pub returns-in_default-clause-others : goal.returns-in_default-clause-others
 returns-in_default-clause-others c = λ reached. others_refl c.args.key c.args.self.now
 
-pub returns-then-application-clause-others : goal.returns-then-application-clause-others
-returns-then-application-clause-others c = λ reached. written_rest c.args.key _ c.args.self.now _ refl refl refl
+pub returns-then-is_over-clause-others : goal.returns-then-is_over-clause-others
+returns-then-is_over-clause-others c = λ reached. written_rest c.args.key _ c.args.self.now _ refl refl refl
 
 pub returns-in-Err-clause-others : goal.returns-in-Err-clause-others
 returns-in-Err-clause-others c = λ reached. others_both c.args.key c.args.self.now _ c.expel_for.new.self (written_rest c.args.key _ c.args.self.now _ refl refl refl) (c.in_ok-expel_for-in-Err.ensures.others reached)
@@ -271,8 +272,8 @@ returns-clause-others c = λ reached. others_both c.args.key c.args.self.now _ c
 pub returns-in_default-clause-aside : goal.returns-in_default-clause-aside
 returns-in_default-clause-aside c = λ reached. aside_refl c.args.key c.args.self.now
 
-pub returns-then-application-clause-aside : goal.returns-then-application-clause-aside
-returns-then-application-clause-aside c = λ reached. aside_refl c.args.key c.args.self.now
+pub returns-then-is_over-clause-aside : goal.returns-then-is_over-clause-aside
+returns-then-is_over-clause-aside c = λ reached. aside_refl c.args.key c.args.self.now
 
 pub returns-in-Err-clause-aside : goal.returns-in-Err-clause-aside
 returns-in-Err-clause-aside c = λ reached. c.in_ok-expel_for-in-Err.ensures.aside reached
@@ -283,13 +284,13 @@ returns-clause-aside c = λ reached. c.in_ok-obey.ensures.aside reached
 pub returns-in_default-clause-right : goal.returns-in_default-clause-right
 returns-in_default-clause-right c = λ right. right
 
-pub returns-then-application-clause-right : goal.returns-then-application-clause-right
-returns-then-application-clause-right c = λ right.
+pub returns-then-is_over-clause-right : goal.returns-then-is_over-clause-right
+returns-then-is_over-clause-right c = λ right.
     let r = c.args.self.now in
     let a = c.in-Some.application.now in
     let slab = r.applications in
     let back : code.Relay = record r { applications = with_value slab c.args.key a } in
-    unkept_right c.args.key back (unkept_over (with_value slab c.args.key a) c.args.key a (going_of c.args.key back) (sym (written_there slab c.args.key a a c.in-Some.ensures.value)) (search rules))
+    unkept_right c.args.key back (unkept_over (with_value slab c.args.key a) c.args.key a (going_of c.args.key back) (sym (written_there slab c.args.key a a c.in-Some.ensures.value)) (sym c.is_over.ensures ∙ c.if-is_over.true))
 
 pub returns-in-Err-clause-right : goal.returns-in-Err-clause-right
 returns-in-Err-clause-right c = λ right. deaf_right c.args.key c.expel_for.new.self c.in_ok-expel_for-in-Err.ensures.over
@@ -300,7 +301,7 @@ returns-clause-right c = λ right.
     let a = c.in-Some.application.now in
     let b = c.feed.new.self in
     let r = c.args.self.now in
-    let here : a.is_over ≡ false = search rules in
+    let here : is_closed a ≡ false = sym c.is_over.ensures ∙ c.if-is_over.false in
     let was = end_there slab c.args.key a c.in-Some.ensures.value ∙ ap Some (end_open a here) in
     let now = end_is (with_value slab c.args.key b) c.args.key ∙ ap (option_map own_end) (written_there slab c.args.key a b c.in-Some.ensures.value) ∙ ap Some (end_open b (c.feed.ensures.over ∙ here)) in
     let fed_in : code.Relay = record r { applications = with_value slab c.args.key b } in
@@ -311,8 +312,8 @@ returns-clause-right c = λ right.
 pub returns-in_default-clause-anew : goal.returns-in_default-clause-anew
 returns-in_default-clause-anew c = λ reached. anew_refl c.args.self.now
 
-pub returns-then-application-clause-anew : goal.returns-then-application-clause-anew
-returns-then-application-clause-anew c = λ reached. anew_refl c.args.self.now
+pub returns-then-is_over-clause-anew : goal.returns-then-is_over-clause-anew
+returns-then-is_over-clause-anew c = λ reached. anew_refl c.args.self.now
 
 pub returns-in-Err-clause-anew : goal.returns-in-Err-clause-anew
 returns-in-Err-clause-anew c = λ reached number hold found le. c.in_ok-expel_for-in-Err.ensures.answers.keeps number

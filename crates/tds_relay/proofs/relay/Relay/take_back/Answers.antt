@@ -1,8 +1,8 @@
-use Rattle.std.proofs.Common.{◌∙◌, List, ap, inl, inr, refl, subst, sym, ℕ, ◌≡◌, Some}
+use Rattle.std.proofs.Common.{◌∙◌, List, ap, false, inl, inr, refl, subst, sym, ℕ, ◌≡◌, Some}
 use Rattle.tds_relay.specs.declared.link.Link.{Link}
 use Rattle.tds_relay.specs.Anew.{AsksNothing}
 use Rattle.tds_relay.specs.Fronts.{ends_in, core_in, core_of_ends, withdraws}
-use Rattle.tds_relay.specs.Core.{Core, Moves, change_end, closes}
+use Rattle.tds_relay.specs.Core.{Core, Moves, change_end, closes, is_in}
 use Rattle.tds_relay.specs.Ties.{Application, pool_in, Reaches}
 use Rattle.tds_relay.proofs.steps.Fed.{closed_as_fed, taken_back_at}
 use Rattle.tds_relay.proofs.steps.Quieting.{moves_unwaits, stops_unwaits}
@@ -20,12 +20,13 @@ use Rattle.tds_relay.proofs.seats.Relays.{kept_seated, unwaited}
 use Rattle.tds_relay.specs.declared.pool.Pool as code
 use Rattle.tds_relay.proofs.spared.Speaking.{filled_at, halting_held, reached_by}
 use Rattle.tds_relay.proofs.lending.Resting.{all_others, all_rest, asks_on, others_both, others_on}
-use Rattle.tds_relay.specs.Pool.{find_key, Pool}
+use Rattle.tds_relay.specs.Pool.{find_key, Pool, Stops}
 use Rattle.tds_relay.proofs.spared.Elsewhere.{aside_both, aside_on, aside_same}
 use Rattle.tds_relay.specs.Bodies.{body_of, going_of, standing_in}
 use Rattle.tds_relay.proofs.steps.Halting.{cancelled_shut, taken_back}
 use Rattle.tds_relay.proofs.steps.Tied.{closed_asks}
 use Rattle.tds_relay.proofs.spared.Begun.{answers_from}
+use Rattle.tds_relay.proofs.steps.Underway.{out_still}
 use Rattle.tds_relay.proofs.relay.Relay.take_back.Goals as goal
 
 pub returns-in-Some-clause-moves : goal.returns-in-Some-clause-moves
@@ -196,3 +197,12 @@ returns-in-Some-clause-answers c = answers_from c.send_stop.result _ _ _ (c.with
 
 pub returns-in-None-clause-answers : goal.returns-in-None-clause-answers
 returns-in-None-clause-answers c = answers_from c.expel.result _ _ _ (c.stop.ensures.links ∙ c.forget_request.ensures.links) c.expel.ensures.answers
+
+pub returns-in-Some-clause-away : goal.returns-in-Some-clause-away
+returns-in-Some-clause-away c =
+    c.send_stop.ensures.away
+    (subst (λ (d : code.Pool). is_in c.args.key (pool_in d).line ≡ false) (sym c.withdraw.ensures.pool)
+    (out_still c.args.key Stops (pool_in c.forget_request.new.self.pool) (pool_in c.stop.new.self.pool) (some_of _ c.in-Some.number _ c.in-Some.is c.in_ok-number.ensures.some).2.pool_is c.forget_request.ensures.away))
+
+pub returns-in-None-clause-away : goal.returns-in-None-clause-away
+returns-in-None-clause-away c = c.expel.ensures.away

@@ -7,6 +7,8 @@ use Rattle.tds_relay.proofs.spared.Ordered.{ordered_closed}
 use Rattle.tds_relay.proofs.spared.Waking.{not_silent}
 use Rattle.tds_relay.specs.Closings.{Itself, register_in}
 use Rattle.tds_relay.proofs.spared.Closings.{closes_more, closes_nobody, closes_refl}
+use Rattle.tds_relay.specs.Coming.{asking_in}
+use Rattle.tds_relay.proofs.steps.Answering.{tells_as, tells_closed, tells_goes, tells_nobody}
 use Rattle.tds_relay.proofs.relay.Relay.tell.Goals as goal
 
 pub returns-in_default-clause-ends : goal.returns-in_default-clause-ends
@@ -50,3 +52,18 @@ returns-in-Acknowledged-clause-resumes c = λ resumes. subst (λ (o : Option ℕ
 
 pub returns-in_ok-end-in-Closed-clause-outbox : goal.returns-in_ok-end-in-Closed-clause-outbox
 returns-in_ok-end-in-Closed-clause-outbox c = λ lasts. absurd (lasts c.in-Closed.is)
+
+pub returns-in_default-clause-told : goal.returns-in_default-clause-told
+returns-in_default-clause-told c = tells_nobody c.args.heard (ends_in c.args.self.now.applications) c.args.self.now.applications c.in_default.is
+
+pub returns-in-Goes-clause-told : goal.returns-in-Goes-clause-told
+returns-in-Goes-clause-told c = tells_goes c.args.heard (ends_in c.args.self.now.applications) c.args.self.now.applications c.goes_on.new.self.applications c.in-Goes.is c.goes_on.ensures.asks
+
+pub returns-in-Finished-clause-told : goal.returns-in-Finished-clause-told
+returns-in-Finished-clause-told c = tells_as c.args.heard c.in-Some.key whats.Finished (ends_in c.args.self.now.applications) (asking_in c.args.self.now.applications) (asking_in c.answered.new.self.applications) c.in-Some.is c.in-Finished.is c.answered.ensures.told
+
+pub returns-in-Acknowledged-clause-told : goal.returns-in-Acknowledged-clause-told
+returns-in-Acknowledged-clause-told c = tells_as c.args.heard c.in-Some.key whats.Acknowledged (ends_in c.args.self.now.applications) (asking_in c.args.self.now.applications) (asking_in c.acknowledged.new.self.applications) c.in-Some.is c.in-Acknowledged.is c.acknowledged.ensures.told
+
+pub returns-in_ok-end-in-Closed-clause-told : goal.returns-in_ok-end-in-Closed-clause-told
+returns-in_ok-end-in-Closed-clause-told c = tells_closed c.args.heard (ends_in c.args.self.now.applications) c.args.self.now.applications c.end.new.self.applications c.in-Closed.is c.in_ok-end-in-Closed.ensures.asks

@@ -17,6 +17,7 @@ use Rattle.tds_relay.specs.Fronts.{ends_in}
 use Rattle.tds_relay.proofs.spared.Elsewhere.{keeps_on}
 use Rattle.tds_relay.proofs.steps.Bodied.{shut}
 use Rattle.tds_relay.proofs.steps.Halting.{cancelled_going, cancelled_shut}
+use Rattle.tds_relay.proofs.steps.Underway.{out_still}
 use Rattle.tds_relay.proofs.relay.Relay.unask.Goals as goal
 
 pub returns-then-not-has_nothing_out-clause-moves : goal.returns-then-not-has_nothing_out-clause-moves
@@ -102,3 +103,12 @@ returns-in-Ok-clause-cancels c =
 pub returns-in_ok-unless_memory-in-Err-clause-cancels : goal.returns-in_ok-unless_memory-in-Err-clause-cancels
 returns-in_ok-unless_memory-in-Err-clause-cancels c =
     ok_more c.expel-in-Err.result _ _ (λ d. cancelled_shut (going_of c.args.key c.args.self.now) (standing_in c.args.key c.expel-in-Err.new.self) (shut c.expel-in-Err.new.self.applications c.args.key (going_of c.args.key c.expel-in-Err.new.self) d)) c.expel-in-Err.ensures.over
+
+pub returns-then-not-has_nothing_out-clause-away : goal.returns-then-not-has_nothing_out-clause-away
+returns-then-not-has_nothing_out-clause-away c = λ out. c.expel.ensures.away
+
+pub returns-in-Ok-clause-away : goal.returns-in-Ok-clause-away
+returns-in-Ok-clause-away c = λ out. c.send_stop.ensures.away (out_still c.args.key Stops (pool_in c.args.self.now.pool) (pool_in c.cancel.new.self) c.in-Ok.ensures.ok.pool_is out)
+
+pub returns-in_ok-unless_memory-in-Err-clause-away : goal.returns-in_ok-unless_memory-in-Err-clause-away
+returns-in_ok-unless_memory-in-Err-clause-away c = λ out. c.expel-in-Err.ensures.away
