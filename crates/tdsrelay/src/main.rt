@@ -8,6 +8,7 @@ mod json;
 mod lines;
 mod polling;
 mod program;
+mod standing;
 mod sweeping;
 mod telling;
 mod time_limits;
