@@ -116,7 +116,8 @@ fn send_on(
     let most = bytes.len();
     if most == 0 {
         socket.is_behind = false;
-        return Ok(Sent::Done);
+        // Where it has opened, all that was kept of a request may be less than a packet: more is read then.
+        return Ok(room_of(relay.holder_tag(number)));
     }
     let count = socket.send(bytes, time, findings)?;
     // The system reports it once it has room for more.

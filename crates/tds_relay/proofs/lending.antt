@@ -1,9 +1,14 @@
+pub mod Clients
+pub mod Awaiting
 pub mod Dialled
 pub mod Drained
 pub mod Earlier
 pub mod Firsts
 pub mod Fresh
 pub mod Leases
+pub mod Newly
+pub mod Quiet
 pub mod Resting
 pub mod Rests
 pub mod Stilled
+pub mod Tending

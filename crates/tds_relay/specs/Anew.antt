@@ -1,5 +1,5 @@
 -- When a request may be asked: a reset that it asks for is done by the server with it (MS-TDS 2.2.3.1.2), or nothing was asked before it.
-use Rattle.std.specs.Prelude.{◌≡◌, ◌⊎◌, ℕ, true, Option, Some, None, is_some}
+use Rattle.std.specs.Prelude.{◌≡◌, ◌⊎◌, true, Option, Some, None, is_some}
 use Rattle.tds_packet.specs.declared.status.Reset.{Reset}
 use Rattle.tds_packet.specs.declared.status.Reset.TheVariants.{Full, KeepTransaction}
 use Rattle.tds_front.specs.declared.stage.Stage.{Stage}

@@ -213,7 +213,7 @@ BodyAndWaits = Body × (ℕ → Option (List ℕ))
 abbrev pub standing_in : ℕ → code.Relay → BodyAndWaits
 standing_in key r = (body_of key r, λ (number : ℕ). waits_on number r.links.items)
 
--- Nothing of it goes on: there is none, or it is kept.
+-- Nothing of it goes on, and its application isn't to be closed: there is none, or it is kept.
 abbrev pub IsStill : Body → Type 0
 IsStill Nowhere = Unit {0}
 IsStill (Kept kind bytes whole) = Unit {0}

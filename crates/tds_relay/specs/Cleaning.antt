@@ -8,7 +8,7 @@ use Rattle.tds_client.specs.Streams.{opened}
 use Rattle.tds_wire.specs.declared.told.Token.{Token}
 use Rattle.tds_service.specs.declared.service.Service as services
 use Rattle.tds_service.specs.Service as calls
-use Rattle.tds_service.specs.Service.{Service, step}
+use Rattle.tds_service.specs.Service.{Seat, Service, seat_numbered, step}
 use Rattle.tds_service.specs.Table.{client_of}
 use Rattle.tds_service.specs.Ties.{cancel_out}
 use Rattle.tds_relay.specs.declared.pool.Hold.{Hold}
@@ -24,9 +24,9 @@ use Rattle.tds_relay.specs.Few.{has_seat}
 use Rattle.tds_relay.specs.Pool.{Brings, Leaves, Pool, Way, find_key, next, turn}
 use Rattle.tds_relay.specs.Queues.{Queue, fits, empty_queue}
 use Rattle.tds_relay.specs.Lent.{HasClosed, IsMade}
-use Rattle.tds_relay.specs.Reads.{open_at, queue_on, reader_at, waits_on}
+use Rattle.tds_relay.specs.Reads.{StaysAt, open_at, queue_on, reader_at, waits_on}
 use Rattle.tds_relay.specs.Core.{holder}
-use Rattle.tds_relay.specs.Ties.{LedOn, pool_in}
+use Rattle.tds_relay.specs.Ties.{LedOn, IsReached, pool_in}
 
 -- ---- What a cleaning says
 
@@ -238,10 +238,10 @@ CountsHeard number (Some heard) old new = CountsWhat heard.what heard.key number
 abbrev pub IsLentBy : ℕ → Service → Type 0
 IsLentBy number s = (lease : ℕ) × (had : Bool) × ((step {T = Token} s calls.Lease).reply ≡ calls.Lent lease number had)
 
--- There were connections before; or the pool has done what it does to bring one, of which the
--- service lends none, or it gave up its cleaning, as for want of memory.
+-- There were connections before, and the pool is as it was; or it has done what it does to bring
+-- one, of which the service lends none, or it gave up its cleaning, as for want of memory.
 abbrev pub IsNotBrought : List Link → Pool → Pool → Type 0
-IsNotBrought links old new = ((length links == 0) ≡ false) ⊎ ((gives : Bool) × (way : Way) × (new ≡ (turn old (Brings gives way)).pool))
+IsNotBrought links old new = (((length links == 0) ≡ false) × (new ≡ old)) ⊎ ((gives : Bool) × (way : Way) × (new ≡ (turn old (Brings gives way)).pool))
 
 -- One is behind them that is open and called so, made as the relay was told; or none is.
 abbrev pub IsFirst : ℕ → Settings → List Link → List Link → Type 0
@@ -253,3 +253,49 @@ IsFirst tag s old new =
 pub data CleaningWaits (lent : Type 0) : Option (List ℕ) → Type 0 where
   IsGone : CleaningWaits lent None
   IsThere : (out more : List ℕ) → IsCleaning text_of_cleaning out → (more ≡ []) ⊎ lent → CleaningWaits lent (Some (out ++ more))
+
+-- ---- One that is being cleaned waits for the answer of a cleaning that went out
+
+-- The connection of this number is being cleaned, by this lease.
+abbrev pub IsCleanedBy : ℕ → ℕ → Service → Type 0
+IsCleanedBy number lease s = option_map (λ (c : Seat). c.place) (seat_numbered number s.seats) ≡ Some (calls.Cleaning lease)
+
+-- What is put ends in a cleaning.
+abbrev pub EndsCleaning : List ℕ → List ℕ → List ℕ → Type 0
+EndsCleaning text before after = (more : List ℕ) × IsPutBehind (IsCleaning text) (before ++ more) after
+
+-- Each that is being cleaned was so before, by the same lease; or what is put ends in a cleaning.
+pub record CleansIfPut (text before after : List ℕ) (old new : Service) : Type 0 where
+  pub each : (number lease : ℕ) → IsCleanedBy number lease new
+      → IsCleanedBy number lease old ⊎ EndsCleaning text before after
+
+-- This one was so, and nothing is put; or just a cleaning is, where this is nobody.
+pub record CleansHere (who : Option ℕ) (number : ℕ) (before after : List ℕ) (old new : Service)
+    : Type 0 where
+  pub here : (lease : ℕ) → IsCleanedBy number lease new
+      → (IsCleanedBy number lease old × (after ≡ before))
+      ⊎ ((who ≡ None) × IsPutBehind (IsCleaning text_of_cleaning) before after)
+
+-- It is nobody's: it was so, and nothing is put; or just a cleaning is.
+pub record CleansNobodys (who : Option ℕ) (number : ℕ) (before after : List ℕ) (old new : Service)
+    : Type 0 where
+  pub here : (lease : ℕ) → IsCleanedBy number lease new
+      → (who ≡ None) × ((IsCleanedBy number lease old × (after ≡ before))
+      ⊎ IsPutBehind (IsCleaning text_of_cleaning) before after)
+
+-- What waits there ends in a cleaning; or the connection is there no more.
+abbrev pub EndsInCleaning : Option (List ℕ) → Type 0
+EndsInCleaning None = Unit {0}
+EndsInCleaning (Some waits) = EndsCleaning text_of_cleaning [] waits
+
+-- Of each that is being cleaned behind a call: a cleaning is the last that waits there; or it was
+-- being cleaned before, by the same lease, and the same waits. Or it is there no more.
+pub record CleaningsWait (d : Pool) (old : List Link) (e : Pool) (new : List Link) : Type 0 where
+  pub each : IsReached d → (number lease : ℕ) → IsCleanedBy number lease e.service
+      → EndsInCleaning (waits_on number new)
+      ⊎ (IsCleanedBy number lease d.service
+      × StaysAt (waits_on number old) (waits_on number new))
+
+abbrev pub CleaningsWaitAt : code.Relay → code.Relay → Type 0
+CleaningsWaitAt old new =
+    CleaningsWait (pool_in old.pool) old.links.items (pool_in new.pool) new.links.items

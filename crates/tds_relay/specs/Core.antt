@@ -167,7 +167,7 @@ pub data Move : Type 0 where
   Does : (event : Event) → Move
   -- bytes of a request, or its end, are put where an application holds a connection
   Sends : (key : ℕ) (action : Action) → Move
-  -- an application lets its connection go, and stays: it is parked, or its request asks for that
+  -- an application lets its connection go, or leaves the line, and stays: parked, or by its reset
   LetsGo : (key : ℕ) (parks gives : Bool) (way : Way) → Move
   -- a connection is lost, and whoever holds it is closed; or that one stays, and has none
   Loses : (number : ℕ) → Move
@@ -275,8 +275,8 @@ abbrev pub AsksToPart : Core → ℕ → Type 0
 AsksToPart h key = AsksFor Full (end_at h.ends key)
     ⊎ (AsksFor KeepTransaction (end_at h.ends key) × HasNoTransaction h.pool key)
 
--- It may be parted from its connection, and stay: its request asks for that, and nothing of it has
--- gone on; or it is to be closed.
+-- It may be parted from its connection, if it holds one, and stay: its request asks for that, and
+-- nothing of it has gone on; or it is to be closed.
 abbrev pub MayPart : Core → ℕ → Type 0
 MayPart h key = IfOpen IsHere (end_at h.ends key) × AsksToPart h key
 
@@ -295,13 +295,14 @@ abbrev pub is_in : ℕ → List ℕ → Bool
 is_in key [] = false
 is_in key (k ∷ ks) = (k == key) || is_in key ks
 
-abbrev pub IsEndThere : Option End → Type 0
-IsEndThere None = ⊥
-IsEndThere (Some end) = Unit {0}
+-- where its application isn't to be closed
+abbrev pub IsOpenEnd : Option End → Type 0
+IsOpenEnd (Some (Open front withdrawn asks)) = Unit {0}
+IsOpenEnd _ = ⊥
 
--- It is there, holds no connection, and waits for none.
+-- It is there, and isn't to be closed; it holds no connection, and waits for none.
 pub record IsThereAndAway (h : Core) (key : ℕ) : Type 0 where
-  pub there : IsEndThere (end_at h.ends key)
+  pub there : IsOpenEnd (end_at h.ends key)
   pub holds : find_key key h.pool.holds ≡ None
   pub waits : is_in key h.pool.line ≡ false
 
@@ -323,10 +324,11 @@ IsNotPut pool.Asks = Unit {0}
 IsNotPut pool.Stops = Unit {0}
 IsNotPut _ = ⊥
 
--- Nobody waits who has begun no request, holds a connection, or waits already; only who asks
--- nothing may wait no more. A request is asked where its reset is done. Who keeps a transaction by
--- another lease asks for the reset that does so, and memory is given to that: refused, it would
--- lose the connection, and be told nothing. What else moves an end isn't done alone.
+-- Nobody comes to wait who has begun no request, is to be closed, holds a connection, or waits
+-- already; only who asks nothing may wait no more. A request is asked where its reset is done. Who
+-- keeps a transaction by another lease asks for the reset that does so, and memory is given to
+-- that: refused, it would lose the connection, and be told nothing. What else moves an end isn't
+-- done alone.
 abbrev pub MayDoAlone : Core → Event → Type 0
 MayDoAlone h (pool.Waits key) = IsThereAndAway h key × IfOpen IsBegun (end_at h.ends key)
 MayDoAlone h (pool.Unwaits key) = IfOpen AsksNothing (end_at h.ends key)

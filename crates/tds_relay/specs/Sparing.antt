@@ -101,17 +101,28 @@ IsLentLater given renewals.NotKept = Unit {0}
 abbrev pub Rests : Body → Body → Type 0
 Rests old new = Spared old new ⊎ (old ≡ Astray)
 
--- So does each,
+-- It holds what it held, by the same client, or is to be closed; where that was nothing, nothing is said.
+abbrev pub HoldsStill : ℕ → code.Relay → code.Relay → Type 0
+HoldsStill key old new = HoldsOn key old.pool new.pool ⊎ (body_of key new ≡ Closed)
+
+-- So does each, and holds what it held,
 pub record AllRest (old new : code.Relay) : Type 0 where
   pub rest : (key : ℕ) → Rests (body_of key old) (body_of key new)
+  pub holds : (key : ℕ) → HoldsStill key old new
 
 -- or each but that of one application,
 pub record OthersRest (key : ℕ) (old new : code.Relay) : Type 0 where
   pub rest : (other : ℕ) → other ≢ key → Rests (body_of other old) (body_of other new)
+  pub holds : (other : ℕ) → other ≢ key → HoldsStill other old new
 
 -- or each of one that waits for no connection.
 pub record AwayRest (old new : code.Relay) : Type 0 where
   pub rest : (key : ℕ) → is_in key (pool_in old.pool).line ≡ false → Rests (body_of key old) (body_of key new)
+  pub holds : (key : ℕ) → is_in key (pool_in old.pool).line ≡ false → HoldsStill key old new
+
+-- Who waits for no connection, but these, holds what he held, by the same client, or is to be closed.
+pub record ClientsStay (But : ℕ → Type 0) (old new : code.Relay) : Type 0 where
+  pub stay : (key : ℕ) → ¬ But key → is_in key (pool_in old.pool).line ≡ false → HoldsStill key old new
 
 -- Something was put on the connection of this number, and the pool is as it was; or all stay.
 abbrev pub SendsOn : ℕ → code.Relay → code.Relay → Type 0
@@ -126,9 +137,10 @@ pub record AllGo (old new : code.Relay) : Type 0 where
 pub record OthersGo (key : ℕ) (old new : code.Relay) : Type 0 where
   pub go : IsReached (pool_in old.pool) → (other : ℕ) → other ≢ key → Starts (body_of other old) (body_of other new)
 
--- or each but this one, if there is one, that doesn't hold the connection of this number
+-- or each but this one, if there is one, that doesn't hold the connection of this number; and unless its application waits, that holds what it held
 pub record OffGo (number : ℕ) (who : Option ℕ) (old new : code.Relay) : Type 0 where
   pub go : IsReached (pool_in old.pool) → (key : ℕ) → who ≢ Some key → holder (pool_in old.pool) number ≢ Some key → Starts (body_of key old) (body_of key new)
+  pub holds : IsReached (pool_in old.pool) → (key : ℕ) → who ≢ Some key → holder (pool_in old.pool) number ≢ Some key → is_in key (pool_in old.pool).line ≡ false → HoldsStill key old new
 
 -- ---- A request that has waited
 

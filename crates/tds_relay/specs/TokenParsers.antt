@@ -1,4 +1,5 @@
--- Where the parser over what a connection answers stands: each packet is read from where the one before has left it, each message anew.
+-- Where the parser over what a connection answers stands: each packet is read from where the one before has left it, each message anew;
+-- and how long the packets are that go out.
 use Rattle.std.specs.Prelude.{◌≡◌, ◌≢◌, ◌⊎◌, ◌≤◌, ℕ, ◌==◌, Bool, List, [], ◌∷◌, Option, Some, None, if◌then◌else◌}
 use Rattle.tds_packet.specs.declared.header.Header.{Header}
 use Rattle.tds_packet.specs.Layout.{IsPacket}
@@ -13,6 +14,7 @@ use Rattle.tds_service.specs.Beginning.{Begins}
 use Rattle.tds_service.specs.Packets.{behind_packet, packet_part}
 use Rattle.tds_service.specs.Parts.{Part}
 use Rattle.tds_service.specs.Service.{Service, Call, Seat, new_service, seat_numbered, service_after}
+use Rattle.tds_service.specs.Sizes.{AllSized, KeepsSize}
 use Rattle.tds_service.specs.Table.{reading_on, service_in}
 use Rattle.tds_relay.specs.declared.pool.coming.Heard.{Heard}
 use Rattle.tds_relay.specs.Cutting.{is_last_packet}
@@ -83,24 +85,30 @@ pub record IsUnread (most : ℕ) (features : Features) (number : ℕ) (s : servi
   pub told : (s.most ≡ most) × (s.features ≡ features)
   pub begins : (now : Parser) → reading_on number s ≡ Some now → Begins most features now
 
-pub data ParserPlace : Type 0 where
-  Unread : (most : ℕ) (features : Features) → ParserPlace
-  There : (r : Parser) → ParserPlace
+-- What stands in a service: a connection's parser that has read nothing yet, or that is there; or
+-- how long the packets of all connections are that go out.
+pub data WhatStands : Type 0 where
+  Unread : (most : ℕ) (features : Features) → WhatStands
+  There : (r : Parser) → WhatStands
+  OfSize : (size : ℕ) → WhatStands
 
-abbrev pub IsStanding : ℕ → ParserPlace → services.Service → Type 0
+abbrev pub IsStanding : ℕ → WhatStands → services.Service → Type 0
 IsStanding number (Unread most features) s = IsUnread most features number s
 IsStanding number (There r) s = StandsAt number r s
+IsStanding number (OfSize size) s = AllSized size s
 
--- Each stands where it stood.
+-- Each parser stands where it stood, and packets of as many bytes go out as before.
 abbrev pub AllStand : services.Service → services.Service → Type 0
-AllStand old new = (number : ℕ) (place : ParserPlace) → IsStanding number place old → IsStanding number place new
+AllStand old new =
+    (number : ℕ) (what : WhatStands) → IsStanding number what old → IsStanding number what new
 
--- A packet with these data has come on the connection of this number.
+-- A packet with these data has come on the connection of this number, and packets of as many bytes go out as before.
 pub record AllRead (number : ℕ) (ends : Bool) (content : List ℕ) (old new : services.Service) : Type 0 where
   pub stand : (other : ℕ) (r : Parser) → StandsAt other r old
       → StandsAt other (read_at other number (seat_numbered number (service_in old).seats) ends content r) new
   pub unread : (other most : ℕ) (features : Features) → (other ≢ number) ⊎ (seat_numbered number (service_in old).seats ≡ None)
       → IsUnread most features other old → IsUnread most features other new
+  pub sized : KeepsSize old new
 
 -- That which a reader has, if it has one.
 abbrev pub HasRead : ℕ → packets.Reading → services.Service → services.Service → Type 0
@@ -125,11 +133,12 @@ ReadAnew most features number h steps to =
     (r : Parser) × Begins most features r × AreRead number r h steps
     × (StandsAt number (stands_behind number r h steps) to ⊎ (NoneRead number h steps × IsUnread most features number to))
 
--- Behind steps each parser stands where their packets lead it, which are read from there.
+-- Behind steps each parser stands where their packets lead it, which are read from there; and packets of as many bytes go out as before.
 pub record Walks (from : services.Service) (old : Machine) (steps : List Step) (to : services.Service) : Type 0 where
   pub each : (number : ℕ) (r : Parser) → StandsAt number r from → AreRead number r old steps
   pub stand : (number : ℕ) (r : Parser) → StandsAt number r from → StandsAt number (stands_behind number r old steps) to
   pub anew : (number most : ℕ) (features : Features) → IsUnread most features number from → ReadAnew most features number old steps to
+  pub sized : KeepsSize from to
 
 -- ---- From a new relay
 

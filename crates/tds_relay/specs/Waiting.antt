@@ -5,6 +5,7 @@ use Rattle.tds_relay.specs.declared.state.Asking.TheVariants as asking
 use Rattle.tds_relay.specs.declared.pool.coming.What.TheVariants as whats
 use Rattle.tds_relay.specs.declared.relay.Relay as code
 use Rattle.tds_relay.specs.declared.pool.Pool as pools
+use Rattle.tds_relay.specs.declared.pool.Hold.{Hold}
 use Rattle.tds_relay.specs.Pool as pool
 use Rattle.std.specs.Prelude.{◌≡◌, ◌≢◌, ◌≤◌, ◌⊎◌, ◌++◌, ℕ, Bool, true, false, length, List, [], IsSome, Option, Some, None}
 use Rattle.tds_packet.specs.declared.status.Reset.TheVariants.{KeepTransaction}
@@ -13,9 +14,9 @@ use Rattle.tds_front.specs.declared.front.Said.{Said}
 use Rattle.tds_relay.specs.declared.application.Application.{Application}
 use Rattle.tds_relay.specs.declared.pool.coming.Heard.{Heard}
 use Rattle.tds_relay.specs.declared.link.Link.{Link}
-use Rattle.tds_relay.specs.Bodies.{Body, Kept, body_of, last_of, Carries, HeedsAll, standing_in}
+use Rattle.tds_relay.specs.Bodies.{Body, IsStill, Kept, body_of, last_of, Carries, HeedsAll, standing_in}
 use Rattle.tds_relay.specs.Closings.{IsWho, IsWaiting}
-use Rattle.tds_relay.specs.Pool.{find_key, Sharing, without}
+use Rattle.tds_relay.specs.Pool.{find_key, find_number, Sharing, without}
 use Rattle.tds_relay.specs.Fronts.{own_end, ends_in, told_by, MovedOn, core_in, machine_in}
 use Rattle.tds_relay.specs.Queues.{queues_in}
 use Rattle.tds_relay.specs.Cleaning.{CleansAlone}
@@ -27,7 +28,7 @@ use Rattle.tds_relay.specs.Sparing.{IsHeldBack, IsUnkept, AllGo, IsKept, OffGo}
 use Rattle.tds_relay.specs.Taking.{IsDeaf}
 use Rattle.tds_relay.specs.Ties.{pool_in, Cause, IsReached, Neither, Turns}
 use Rattle.tds_relay.specs.Told.{room_to_keep}
-use Rattle.tds_relay.specs.Coming.{StreamsAnew}
+use Rattle.tds_relay.specs.Coming.{GoesAlong, StreamsAnew}
 use Rattle.tds_relay.specs.Few.{IsSeated}
 use Rattle.tds_relay.specs.Lent.{FirstKeeps, IsWithHolder, MayBeLent, OthersKeepAt, ShutElse}
 use Rattle.tds_relay.specs.Machine.{IsLedTo, Steps}
@@ -84,12 +85,29 @@ abbrev pub OpensFor : ℕ → code.Relay → ℕ → Type 0
 OpensFor number r other =
     IsWho (holder (pool_in r.pool) number) other × (links : List Link) × IsOpened number r.links.items links × IsTurnedAway other (end_at (ends_in r.applications) other) r.pool links (body_of other r)
 
+-- Who holds it, by a lease that was given before, and waited for none: where what he asks stays, and
+-- nothing of it goes on, the same waits there; or the connection is there no more.
+abbrev pub RestsForHolder : ℕ → code.Relay → code.Relay → Type 0
+RestsForHolder number old new =
+    (hold : Hold) → find_number number new.pool.holds.items ≡ Some hold
+    → hold.lease ≤ old.pool.service.given → is_in hold.key (pool_in old.pool).line ≡ false
+    → body_of hold.key new ≡ body_of hold.key old → IsStill (body_of hold.key new)
+    → StaysAt (waits_on number old.links.items) (waits_on number new.links.items)
+
 -- ---- As the code has it
 
 -- The same waits on each, and each that is open was so.
 pub record KeepsQueues (old new : List Link) : Type 0 where
   pub queues : (number : ℕ) → queue_on number new ≡ queue_on number old
   pub opens : (number : ℕ) → IsSome (open_at number new) → IsSome (open_at number old)
+
+-- Where nothing goes on behind it of what the holder of this one asks, that stayed, and the same
+-- waits on each.
+abbrev pub RestsIfStill : ℕ → code.Relay → code.Relay → Type 0
+RestsIfStill number old new =
+    (key : ℕ) → holder (pool_in old.pool) number ≡ Some key → IsStill (body_of key new)
+    → (body_of key new ≡ body_of key old)
+    × ((n : ℕ) → StaysAt (waits_on n old.links.items) (waits_on n new.links.items))
 
 -- An application holds none; or it is turned away.
 abbrev pub IsUnheldOrTurnedAway : ℕ → code.Relay → Type 0
@@ -192,13 +210,21 @@ IsOnOrHeld number who r other =
 abbrev pub IsItsHolders : ℕ → code.Relay → ℕ → Type 0
 IsItsHolders number r other = IsOnOrHeld number (holder (pool_in r.pool) number) r other
 
--- Where this application holds it, and its request is kept, it held it before, and that was kept
--- so; and the same waits there.
+-- Where packets come on this connection, which this application holds behind them: it held it
+-- before, and waits for none if it didn't. Its request goes along; what is kept of it was kept so.
+-- Where that stays, and nothing of it goes on, the same waits there.
+pub record StaysThere (number key : ℕ) (old new : code.Relay) : Type 0 where
+  pub held : holder (pool_in old.pool) number ≡ Some key
+  pub away : is_in key (pool_in new.pool).line ≡ true → is_in key (pool_in old.pool).line ≡ true
+  pub along : GoesAlong (body_of key old) (body_of key new)
+  pub kept : IsKept (body_of key new) → body_of key new ≡ body_of key old
+  pub waits : body_of key new ≡ body_of key old → IsStill (body_of key new)
+      → StaysAt (waits_on number old.links.items) (waits_on number new.links.items)
+
+-- Where this application holds it, it stays so.
 abbrev pub KeepsWaiting : ℕ → code.Relay → code.Relay → ℕ → Type 0
 KeepsWaiting number old new key =
-    holder (pool_in new.pool) number ≡ Some key → IsKept (body_of key new)
-    → (holder (pool_in old.pool) number ≡ Some key) × ((body_of key new ≡ body_of key old)
-    × StaysAt (waits_on number old.links.items) (waits_on number new.links.items))
+    holder (pool_in new.pool) number ≡ Some key → StaysThere number key old new
 
 -- What is done behind a packet of which this was heard. So it is for whom that tells, or anybody
 -- where it tells nobody; where the connection stays, nothing may go out by it.
@@ -210,8 +236,7 @@ pub record KeepsHeard (number : ℕ) (heard : Option Heard) (old new : code.Rela
 -- Packets were heard on it, by which none was opened or filled. What others than its holder ask
 -- stays, or starts. On each that isn't its holder's the same waits, and who holds it does so still.
 -- On this one, where nobody held it, cleanings alone were put, no more than leases were given, also
--- by loans; and
--- while the request of who holds it is kept, that stays, and the same waits.
+-- by loans; and while what its holder asks stays, and nothing of it goes on, the same waits.
 pub record IsHeardTo (number : ℕ) (r mid : code.Relay) : Type 0 where
   pub opens : OpensOthers number r.links.items mid.links.items
   pub goes : OffGo number None r mid

@@ -93,7 +93,7 @@ pub fn fresh()
 {}
 
 /// Whoever is lent a connection is the first of those who wait, and nobody passes another in that line:
-/// who comes to wait stands last.
+/// who comes to wait stands last, also who left it by its own request for a reset.
 pub fn first_come()
     ensures first { (d : Pool) → LendsFirst d }
     ensures order { (d : Pool) (event : Event)

@@ -25,7 +25,7 @@ mod lists;
 use crate::NoMemory;
 use crate::fault::Broken;
 use crate::link::COLUMNS;
-pub use coming::{Heard, What};
+pub use coming::{Heard, NOTHING, What};
 use holds::{Holds, find_key, find_number};
 pub use leaving::{Left, Renewed};
 use lists::{has_key, remove_key};

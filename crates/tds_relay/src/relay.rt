@@ -348,6 +348,7 @@ impl Relay {
         ensures seated { IsSeated self.old → OnOk result (IsSeated self.new) }
         ensures holds { OnOk result (self.new.pool.holds.items
             ≡ self.old.pool.holds.items) }
+        ensures service { self.new.pool.service ≡ self.old.pool.service }
     {
         if self.is_away(key) {
             self.pool.wait(key)

@@ -14,11 +14,11 @@ pub(crate) const MOST_HELD: usize = 16_384;
 /// Where a request is, for who looks.
 #[derive(Clone, Copy, Debug)]
 pub(crate) enum Asking {
-    /// There is none, or all of it has gone on.
+    /// There is none: it has its answer, or was taken back.
     Nothing,
     /// It waits for a connection, or until that is open or idle. Whether all of it has come.
     Waits { kind: MessageKind, whole: bool },
-    /// It goes on to its connection as it comes.
+    /// It goes on to its connection as it comes; or all of it has, and its answer is awaited.
     Goes,
 }
 

@@ -12,8 +12,9 @@ use Rattle.tds_service.specs.Parts.{Part}
 use Rattle.tds_service.specs.Packets.{ReadsTo}
 use Rattle.tds_service.specs.Service as calls
 use Rattle.tds_service.specs.Service.{Service, Call, Seat, nothing, seat_numbered, step, new_service}
+use Rattle.tds_service.specs.Sizes.{KeepsSize}
 use Rattle.tds_service.specs.Table.{KeepsOthers, reading_on, service_in}
-use Rattle.tds_relay.specs.TokenParsers.{AllRead, AllStand, IsLed, IsUnread, StandsAt, There, Unread, read_at, read_to}
+use Rattle.tds_relay.specs.TokenParsers.{AllRead, AllStand, IsLed, IsUnread, OfSize, StandsAt, There, Unread, read_at, read_to}
 use Rattle.tds_relay.proofs.bytes.Walking.{Leaves, differ, led_on, none_begun, nothing_there, seat_unread, stand_one, step_leaves, unread_one}
 
 -- ---- What is read
@@ -85,11 +86,12 @@ others_unread old mid new part number at n most features is step_is alike keeps 
 
 -- a packet has come, and then nothing is read
 pub came_read : (old mid new : services.Service) (part : Part Token) (number : ℕ) (ends : Bool) (content : List ℕ) (at : Parser) → reading_on number old ≡ Some at
-    → service_in mid ≡ (step (service_in old) (calls.Came number part)).service → Known number ends content old mid → MakesAlike old mid → KeepsOthers number old mid → AllStand mid new
+    → service_in mid ≡ (step (service_in old) (calls.Came number part)).service → Known number ends content old mid → MakesAlike old mid → KeepsSize old mid → KeepsOthers number old mid → AllStand mid new
     → AllRead number ends content old new
-came_read old mid new part number ends content at is step_is known alike keeps later = record {
+came_read old mid new part number ends content at is step_is known alike sized keeps later = record {
   stand = λ n r h. later n (There (behind n number ends content old r)) (came_by old mid part number n ends content r at (number == n) refl is step_is known keeps h);
   unread = λ n most features other h. others_unread old mid new part number at n most features is step_is alike keeps later other h;
+  sized = λ size h. later 0 (OfSize size) (sized size h);
 }
 
 -- or it has a fault, and the connection is lost
@@ -106,11 +108,12 @@ lost_by_test old mid new part number n ends content r next false e is step_is ke
     later n (There (behind n number ends content old r)) (other_stand old mid (calls.Came number part) number n ends content r step_is keeps e h)
 
 pub lost_read : (old mid new : services.Service) (part : Part Token) (number : ℕ) (ends : Bool) (content : List ℕ) (at next : Parser) → reading_on number old ≡ Some at → reading_on number mid ≡ Some next
-    → service_in mid ≡ (step (service_in old) (calls.Came number part)).service → MakesAlike old mid → KeepsOthers number old mid → AllStand mid new → (IsLed (service_in mid) → reading_on number new ≡ None)
+    → service_in mid ≡ (step (service_in old) (calls.Came number part)).service → MakesAlike old mid → KeepsSize old mid → KeepsOthers number old mid → AllStand mid new → (IsLed (service_in mid) → reading_on number new ≡ None)
     → AllRead number ends content old new
-lost_read old mid new part number ends content at next was is step_is alike keeps later gone = record {
+lost_read old mid new part number ends content at next was is step_is alike sized keeps later gone = record {
   stand = λ n r h. lost_by_test old mid new part number n ends content r next (number == n) refl is step_is keeps later gone h;
   unread = λ n most features other h. others_unread old mid new part number at n most features was step_is alike keeps later other h;
+  sized = λ size h. later 0 (OfSize size) (sized size h);
 }
 
 -- or the connection isn't there
@@ -118,6 +121,7 @@ pub unknown_read : (s : services.Service) (number : ℕ) (ends : Bool) (content 
 unknown_read s number ends content none = record {
   stand = λ n r h. subst (λ (o : Option Seat). StandsAt n (read_at n number o ends content r) s) (sym none) h;
   unread = λ n most features other h. h;
+  sized = λ size h. h;
 }
 
 -- where a service is new

@@ -12,6 +12,7 @@ use Rattle.tds_service.specs.Line.{Act}
 use Rattle.tds_service.specs.History.{line_after}
 use Rattle.tds_service.specs.Service as calls
 use Rattle.tds_service.specs.Service.{Service, Call, Place, Seat, find_by, change_by, has_lease, has_number, clean_place, rests_cleaned, does, seat_numbered, step}
+use Rattle.tds_service.specs.Sizes.{KeepsSize}
 use Rattle.tds_service.specs.Table.{KeepsOthers, KeepsBy, StepsIn, reading_on, rest_of, service_in}
 use Rattle.tds_service.proofs.Numbered.{change_out}
 use Rattle.tds_relay.specs.Ties.{lost_by}
@@ -35,9 +36,9 @@ pub lost_gone : (old new : services.Service) (number : ℕ) → service_in new �
 lost_gone old new number is led =
     seat_unread number new (subst (λ (s : Service). seat_numbered number s.seats ≡ None) (sym is) (lost_out (service_in old) number led))
 
-pub lost_stand : (old new : services.Service) (number : ℕ) → service_in new ≡ lost_by (service_in old) number → MakesAlike old new → KeepsOthers number old new → AllStand old new
-lost_stand old new number is alike keeps =
-    gone_stand old new (calls.Lost number) number is (λ opened. opened) alike keeps
+pub lost_stand : (old new : services.Service) (number : ℕ) → service_in new ≡ lost_by (service_in old) number → MakesAlike old new → KeepsSize old new → KeepsOthers number old new → AllStand old new
+lost_stand old new number is alike sized keeps =
+    gone_stand old new (calls.Lost number) number is (λ opened. opened) alike sized keeps
     (λ led. subst (λ (s : Service). seat_numbered number s.seats ≡ None) (sym is) (lost_out (service_in old) number led))
 
 -- ---- One that is let go
@@ -72,25 +73,25 @@ cleaned_out s test (Some c) number distinct e reply is = cleaned_out_by s test c
 
 -- By its call it is closed, or all are kept.
 back_stand : (old new : services.Service) (call : Call Token) (rest : Rest) (number : ℕ) → service_in new ≡ (step (service_in old) call).service
-    → (rest_of rest ≡ None → IsLed (service_in old) → seat_numbered number (service_in new).seats ≡ None) → (Opens call → ⊥) → MakesAlike old new → KeepsBy rest number old new → AllStand old new
-back_stand old new call rests.Free number is gone never alike keeps = keeps_stand old new call is never alike keeps
-back_stand old new call rests.Draining number is gone never alike keeps = keeps_stand old new call is never alike keeps
-back_stand old new call rests.Closed number is gone never alike keeps = gone_stand old new call number is never alike keeps (gone refl)
+    → (rest_of rest ≡ None → IsLed (service_in old) → seat_numbered number (service_in new).seats ≡ None) → (Opens call → ⊥) → MakesAlike old new → KeepsSize old new → KeepsBy rest number old new → AllStand old new
+back_stand old new call rests.Free number is gone never alike sized keeps = keeps_stand old new call is never alike sized keeps
+back_stand old new call rests.Draining number is gone never alike sized keeps = keeps_stand old new call is never alike sized keeps
+back_stand old new call rests.Closed number is gone never alike sized keeps = gone_stand old new call number is never alike sized keeps (gone refl)
 
 pub given_back_stand : (old new : services.Service) (lease number : ℕ) (rest : Rest) (before after : List ℕ)
-    → StepsIn (step {T = Token} (service_in old) (calls.GiveBack lease)) (service_in new) (calls.Back (rest_of rest)) number before after → MakesAlike old new → KeepsBy rest number old new → AllStand old new
-given_back_stand old new lease number rest before after one alike keeps =
+    → StepsIn (step {T = Token} (service_in old) (calls.GiveBack lease)) (service_in new) (calls.Back (rest_of rest)) number before after → MakesAlike old new → KeepsSize old new → KeepsBy rest number old new → AllStand old new
+given_back_stand old new lease number rest before after one alike sized keeps =
     back_stand old new (calls.GiveBack lease) rest number one.service_is
     (λ none led.
     let s = service_in old in
     subst (λ (t : Service). seat_numbered number t.seats ≡ None) (sym one.service_is)
-    (given_out s (has_lease lease) (find_by (has_lease lease) s.seats) number (led_tidy s led).distinct refl (one.reply_is ∙ ap calls.Back none) one.number_is)) (λ opened. opened) alike keeps
+    (given_out s (has_lease lease) (find_by (has_lease lease) s.seats) number (led_tidy s led).distinct refl (one.reply_is ∙ ap calls.Back none) one.number_is)) (λ opened. opened) alike sized keeps
 
 pub cleaned_stand : (old new : services.Service) (lease number : ℕ) (rest : Rest) (before after : List ℕ)
-    → StepsIn (step {T = Token} (service_in old) (calls.Cleaned lease)) (service_in new) (calls.Back (rest_of rest)) number before after → MakesAlike old new → KeepsBy rest number old new → AllStand old new
-cleaned_stand old new lease number rest before after one alike keeps =
+    → StepsIn (step {T = Token} (service_in old) (calls.Cleaned lease)) (service_in new) (calls.Back (rest_of rest)) number before after → MakesAlike old new → KeepsSize old new → KeepsBy rest number old new → AllStand old new
+cleaned_stand old new lease number rest before after one alike sized keeps =
     back_stand old new (calls.Cleaned lease) rest number one.service_is
     (λ none led.
     let s = service_in old in
     subst (λ (t : Service). seat_numbered number t.seats ≡ None) (sym one.service_is)
-    (cleaned_out s (has_lease lease) (find_by (has_lease lease) s.seats) number (led_tidy s led).distinct refl (one.reply_is ∙ ap calls.Back none) one.number_is)) (λ opened. opened) alike keeps
+    (cleaned_out s (has_lease lease) (find_by (has_lease lease) s.seats) number (led_tidy s led).distinct refl (one.reply_is ∙ ap calls.Back none) one.number_is)) (λ opened. opened) alike sized keeps

@@ -27,7 +27,7 @@ use Rattle.tds_relay.specs.Queues.{Queues}
 use Rattle.tds_relay.specs.Promises.{Each}
 use Rattle.tds_relay.specs.Reads.{BytesCome}
 use Rattle.tds_relay.specs.Ties.{Cause, IsNoConnection, Neither, part_on}
-use Rattle.tds_relay.specs.TokenParsers.{AllRead, AllReadAnew, AllStand, AreRead, IsReadBy, IsReadTo, IsUnread, NoneRead, ReadAnew, StandsAt, There, Unread, Walks, read_at, stands_behind, stands_by}
+use Rattle.tds_relay.specs.TokenParsers.{AllRead, AllReadAnew, AllStand, AreRead, IsReadBy, IsReadTo, IsUnread, NoneRead, OfSize, ReadAnew, StandsAt, There, Unread, Walks, read_at, stands_behind, stands_by}
 use Rattle.tds_relay.proofs.bytes.Walking.{low_there, unread_seat}
 use Rattle.tds_relay.proofs.steps.Handed.{parser_by}
 use Rattle.tds_relay.proofs.steps.Stepping.{after_both, makes_all, may_both, steps_of}
@@ -97,13 +97,14 @@ anew_both most features n at to h xs ys (r, begins, read, inl stands) t = (
 anew_both most features n at to h xs ys (r, begins, read, inr (none, unread)) t = anew_after most features n at to h xs ys none (t.anew n most features unread)
 
 pub walks_none : (s : services.Service) (h : Machine) → Walks s h [] s
-walks_none s h = record { each = λ n r st. tt; stand = λ n r st. st; anew = λ n most features unread. anew_none most features n h [] s (λ r. (tt, refl)) unread }
+walks_none s h = record { each = λ n r st. tt; stand = λ n r st. st; anew = λ n most features unread. anew_none most features n h [] s (λ r. (tt, refl)) unread; sized = λ size sized. sized }
 
 pub walks_both : (from at to : services.Service) (old : Machine) (xs ys : List Step) → Walks from old xs at → Walks at (after_all old xs) ys to → Walks from old (xs ++ ys) to
 walks_both from at to old xs ys s t = record {
   each = λ n r st. read_both n r old xs ys (s.each n r st) (t.each n (stands_behind n r old xs) (s.stand n r st));
   stand = λ n r st. subst (λ (x : Parser). StandsAt n x to) (sym (behind_both n r old xs ys)) (t.stand n (stands_behind n r old xs) (s.stand n r st));
   anew = λ n most features unread. anew_both most features n at to old xs ys (s.anew n most features unread) t;
+  sized = λ size sized. t.sized size (s.sized size sized);
 }
 
 -- nothing more is read
@@ -116,6 +117,7 @@ walks_on from at to old steps s later = record {
   each = s.each;
   stand = λ n r st. later n (There (stands_behind n r old steps)) (s.stand n r st);
   anew = λ n most features unread. stays_anew most features n at to old steps later (s.anew n most features unread);
+  sized = λ size sized. later 0 (OfSize size) (s.sized size sized);
 }
 
 -- by steps that read nothing
@@ -124,6 +126,7 @@ walks_unread from to h steps none later = record {
   each = λ n r st. (none n r).0;
   stand = λ n r st. subst (λ (x : Parser). StandsAt n x to) (sym (none n r).1) (later n (There r) st);
   anew = λ n most features unread. anew_none most features n h steps to (none n) (later n (Unread most features) unread);
+  sized = λ size sized. later 0 (OfSize size) sized;
 }
 
 makes_none : (n : ℕ) (h : Machine) (moves : List Move) → NoneRead n h (makes_all moves)
@@ -213,6 +216,7 @@ module _ (number : ℕ) (header : Header) (content : List ℕ) (way : Way) (mann
               (hands_by most features (reading_on number from) refl (subst (λ (k : ℕ). IsUnread most features k from) same.1 unread))
           | inr other ↦ hands_unread most features n (inl other.1) unread
         ];
+    sized = all.sized;
   }
 
 -- ---- From a new relay

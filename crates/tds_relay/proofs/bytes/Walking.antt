@@ -17,10 +17,11 @@ use Rattle.tds_service.specs.Parts.{Part}
 use Rattle.tds_service.specs.Refusing.{packets, refusal_in}
 use Rattle.tds_service.specs.Service as calls
 use Rattle.tds_service.specs.Service.{Service, Call, Reply, ServiceStep, Place, Leased, Cleaning, Kept, Seat, find_by, change_by, has_lease, has_ticket, has_number, is_lendable, is_idle, may_keep, clean_place, drained, rests_cleaned, does, nothing, acts_unless, opens, seat_numbered, step, service_after, new_service}
+use Rattle.tds_service.specs.Sizes.{KeepsSize}
 use Rattle.tds_service.specs.Table.{Keeps, KeepsOthers, StepsIn, reading_by, reading_on, seat_in, seats_in, service_in}
 use Rattle.tds_service.proofs.Numbered.{added_other, same_number}
 use Rattle.tds_service.proofs.Tests.{below}
-use Rattle.tds_relay.specs.TokenParsers.{AllStand, IsLed, IsUnread, StandsAt, There, Unread}
+use Rattle.tds_relay.specs.TokenParsers.{AllStand, IsLed, IsUnread, OfSize, StandsAt, There, Unread}
 use Rattle.tds_relay.proofs.promises.Seats.{each_found, found_meets, none_changed}
 use Rattle.tds_relay.proofs.promises.Tidy.{Tidy, UpTo, all_rise}
 
@@ -258,16 +259,17 @@ stand_one old new call n r is keeps h =
     }
 
 -- Nothing is read by a call that keeps all.
-call_stand : (old new : services.Service) (call : Call Token) → service_in new ≡ (step (service_in old) call).service → MakesAlike old new → Keeps old new → ((n : ℕ) → Begun old new n) → AllStand old new
-call_stand old new call is alike keeps begun n (There r) h = stand_one old new call n r is (keeps n) h
-call_stand old new call is alike keeps begun n (Unread most features) h = unread_one most features old new call n is alike (keeps n) (begun n) h
+call_stand : (old new : services.Service) (call : Call Token) → service_in new ≡ (step (service_in old) call).service → MakesAlike old new → KeepsSize old new → Keeps old new → ((n : ℕ) → Begun old new n) → AllStand old new
+call_stand old new call is alike sized keeps begun n (There r) h = stand_one old new call n r is (keeps n) h
+call_stand old new call is alike sized keeps begun n (Unread most features) h = unread_one most features old new call n is alike (keeps n) (begun n) h
+call_stand old new call is alike sized keeps begun n (OfSize size) h = sized size h
 
-pub keeps_stand : (old new : services.Service) (call : Call Token) → service_in new ≡ (step (service_in old) call).service → (Opens call → ⊥) → MakesAlike old new → Keeps old new → AllStand old new
-keeps_stand old new call is never alike keeps = call_stand old new call is alike keeps (λ n. none_begun old new call n is never)
+pub keeps_stand : (old new : services.Service) (call : Call Token) → service_in new ≡ (step (service_in old) call).service → (Opens call → ⊥) → MakesAlike old new → KeepsSize old new → Keeps old new → AllStand old new
+keeps_stand old new call is never alike sized keeps = call_stand old new call is alike sized keeps (λ n. none_begun old new call n is never)
 
 -- one that is refused
-pub same_stand : (old new : services.Service) → service_in new ≡ service_in old → MakesAlike old new → Keeps old new → AllStand old new
-same_stand old new is alike keeps = keeps_stand old new (calls.Without calls.Lease) is (λ opened. opened) alike keeps
+pub same_stand : (old new : services.Service) → service_in new ≡ service_in old → MakesAlike old new → KeepsSize old new → Keeps old new → AllStand old new
+same_stand old new is alike sized keeps = keeps_stand old new (calls.Without calls.Lease) is (λ opened. opened) alike sized keeps
 
 -- ---- One that is lent
 
@@ -309,12 +311,12 @@ lent_begun old new number had n is next begins now led none there =
 
 -- A new one has read nothing.
 pub lease_stand : (old new : services.Service) (lease number n : ℕ) (had : Bool) (before after : List ℕ) → StepsIn (step {T = Token} (service_in old) calls.Lease) (service_in new) (calls.Lent lease number had) n before after
-    → MakesAlike old new → Keeps old new → (had ≡ false → BeginsAt number old new) → AllStand old new
-lease_stand old new lease number n had before after one alike keeps begins =
+    → MakesAlike old new → KeepsSize old new → Keeps old new → (had ≡ false → BeginsAt number old new) → AllStand old new
+lease_stand old new lease number n had before after one alike sized keeps begins =
     let s = service_in old in
     let next : OpensNext s (service_in new) number had =
     subst (λ (t : Service). OpensNext s t number had) (sym one.service_is) (lends_next s (find_by is_lendable s.seats) lease number had one.reply_is) in
-    call_stand old new calls.Lease one.service_is alike keeps (λ k. lent_begun old new number had k one.service_is next begins)
+    call_stand old new calls.Lease one.service_is alike sized keeps (λ k. lent_begun old new number had k one.service_is next begins)
 
 unread_gone : (most : ℕ) (features : Features) (old new : services.Service) (call : Call Token) (n : ℕ) → service_in new ≡ (step (service_in old) call).service → MakesAlike old new
     → reading_on n new ≡ None → IsUnread most features n old → IsUnread most features n new
@@ -346,7 +348,8 @@ unread_by most features old new call number n false e is never alike keeps gone 
     unread_one most features old new call n is alike (λ q. keeps n q (differ n number e)) (none_begun old new call n is never) h
 
 -- or by one behind which this one is there no more
-pub gone_stand : (old new : services.Service) (call : Call Token) (number : ℕ) → service_in new ≡ (step (service_in old) call).service → (Opens call → ⊥) → MakesAlike old new → KeepsOthers number old new
+pub gone_stand : (old new : services.Service) (call : Call Token) (number : ℕ) → service_in new ≡ (step (service_in old) call).service → (Opens call → ⊥) → MakesAlike old new → KeepsSize old new → KeepsOthers number old new
     → (IsLed (service_in old) → seat_numbered number (service_in new).seats ≡ None) → AllStand old new
-gone_stand old new call number is never alike keeps gone n (There r) h = gone_by old new call number n r (n == number) refl is keeps gone h
-gone_stand old new call number is never alike keeps gone n (Unread most features) h = unread_by most features old new call number n (n == number) refl is never alike keeps gone h
+gone_stand old new call number is never alike sized keeps gone n (OfSize size) h = sized size h
+gone_stand old new call number is never alike sized keeps gone n (There r) h = gone_by old new call number n r (n == number) refl is keeps gone h
+gone_stand old new call number is never alike sized keeps gone n (Unread most features) h = unread_by most features old new call number n (n == number) refl is never alike keeps gone h

@@ -9,6 +9,11 @@ use Rattle.tds_relay.specs.Core.{End, EndList, Core, Move, change_whose, closes,
 use Rattle.tds_relay.specs.Core as core
 use Rattle.tds_relay.proofs.steps.Slots.{changed_at, emptied_at}
 
+-- its application is there
+abbrev pub IsEndThere : Option End → Type 0
+IsEndThere None = ⊥
+IsEndThere (Some end) = Unit {0}
+
 abbrev pub whose_by : ℕ → Option ℕ → (End → End) → Option End → Option End
 whose_by key None by o = o
 whose_by key (Some other) by o = if other == key then option_map by o else o

@@ -34,7 +34,7 @@ use Rattle.tds_relay.proofs.ends.Leading.{Lawful}
 use Rattle.tds_relay.proofs.ends.Standing.{Standing, ends_stand, puts_stand}
 use Rattle.tds_relay.proofs.ends.Stopping.{Known, Told, hears_lawful}
 use Rattle.tds_relay.proofs.ends.Feeding.{fed_lawful}
-use Rattle.tds_relay.proofs.ends.Ending.{whose_by, end_by, end_behind_is, passes_by}
+use Rattle.tds_relay.proofs.ends.Ending.{IsEndThere, whose_by, end_by, end_behind_is, passes_by}
 use Rattle.tds_relay.proofs.ends.Turning.{StepOf, StoryOf}
 use Rattle.tds_relay.proofs.ends.Moving.{Judges, LeavesBy, left_of}
 
@@ -249,7 +249,7 @@ over_silent why key h (move ∷ moves) e may stays =
 
 -- one that is there stays there
 abbrev Is : Option End → Type 0
-Is o = core.IsEndThere o
+Is o = IsEndThere o
 
 if_there : (b : Bool) (by : End → End) (o : Option End) → Is o → Is (if b then option_map by o else o)
 if_there true by None i = i

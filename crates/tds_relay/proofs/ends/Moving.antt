@@ -13,7 +13,7 @@ use Rattle.tds_relay.specs.Pool as pool
 use Rattle.tds_relay.specs.Pool.{Pool, Event, pool_after, find_key, turn, whose}
 use Rattle.tds_relay.specs.Behind.{brought, if_end_open}
 use Rattle.tds_relay.specs.Fronting.{calls_along}
-use Rattle.tds_relay.specs.Core.{End, Open, Over, EndList, Core, HasEntered, IfOpen, IfWhose, IsThereAndAway, IsHere, IsEndThere, MayDo, MayDoAlone, MayMove, MayPart, Move, closes, end_at, event_if, events_of, feeds, holder, stops_by, stops_of}
+use Rattle.tds_relay.specs.Core.{End, Open, Over, EndList, Core, HasEntered, IfOpen, IfWhose, IsThereAndAway, IsHere, IsOpenEnd, MayDo, MayDoAlone, MayMove, MayPart, Move, closes, end_at, event_if, events_of, feeds, holder, stops_by, stops_of}
 use Rattle.tds_relay.specs.Core as core
 use Rattle.tds_relay.proofs.promises.Caring.{Sound}
 use Rattle.tds_relay.proofs.held.Lists.{places}
@@ -24,7 +24,7 @@ use Rattle.tds_relay.proofs.ends.Tying as tying
 use Rattle.tds_relay.proofs.ends.Standing.{Leaves, Standing, at_pool, stays_next}
 use Rattle.tds_relay.proofs.ends.Stopping.{Known}
 use Rattle.tds_relay.proofs.ends.Feeding.{LeavesIf, fed_next}
-use Rattle.tds_relay.proofs.ends.Ending.{end_by, passes_by}
+use Rattle.tds_relay.proofs.ends.Ending.{IsEndThere, end_by, passes_by}
 use Rattle.tds_relay.proofs.ends.Turning.{StepOf, StoryOf, apart_step, comes_whose, action_if, lets_if, loses_whose, never, quits_if, renews_if, replaces_whose, sends_if, waits_if}
 use Rattle.tds_relay.proofs.steps.Parked.{lets_here}
 
@@ -134,9 +134,14 @@ module _ (h : Core) (key : ℕ) (outs outs2 : ℕ → Bool) (sound : Sound h.poo
   abbrev pub Steps : Move → ServerIsAt → Type 0
   Steps move p = StepOf outs2 (pool_after d (events_of h move)) key p (passes_by key h move o) o (end_by key h move o)
 
+  there_if : (e : Option End) → IsOpenEnd e → IsEndThere e
+  there_if None not = absurd not
+  there_if (Some (Open front withdrawn asks)) is = tt
+  there_if (Some (Over why)) not = absurd not
+
   away_of : (k : ℕ) → IsThereAndAway h k → k ≡ key → IsEndThere o × (find_key key d.holds ≡ None) × (places key d.line ≡ [])
   away_of k away is = (
-    subst (λ (x : ℕ). IsEndThere (end_at h.ends x)) is away.there,
+    there_if (end_at h.ends key) (subst (λ (x : ℕ). IsOpenEnd (end_at h.ends x)) is away.there),
     subst (λ (x : ℕ). find_key x d.holds ≡ None) is away.holds,
     subst (λ (x : ℕ). places x d.line ≡ []) is (no_place k d.line away.waits),
   )

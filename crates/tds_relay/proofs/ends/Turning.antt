@@ -14,7 +14,7 @@ use Rattle.tds_service.specs.Parts.{Part}
 use Rattle.tds_relay.specs.Pool as pool
 use Rattle.tds_relay.specs.Pool.{Action, Pool, Event, Way, find_key, turn, whose}
 use Rattle.tds_relay.specs.Behind.{gone_on, if_end_open, if_whose, said_in, unless_withdrawn}
-use Rattle.tds_relay.specs.Core.{End, Open, Over, IfOpen, IsHere, IsNotPut, IsPut, IsEndThere, MayDo, closes, dones_of_part, end_goes_on, holder, lets_go, sent_by, end_told, what_in}
+use Rattle.tds_relay.specs.Core.{End, Open, Over, IfOpen, IsHere, IsNotPut, IsPut, MayDo, closes, dones_of_part, end_goes_on, holder, lets_go, sent_by, end_told, what_in}
 use Rattle.tds_relay.proofs.promises.Caring.{Sound}
 use Rattle.tds_relay.proofs.held.Lists.{places}
 use Rattle.tds_relay.proofs.held.Seated.{AllSit}
@@ -24,7 +24,7 @@ use Rattle.tds_relay.proofs.held.Away.{WaitsNot, WaitsOnce, stays_gone}
 use Rattle.tds_relay.proofs.ends.Tying.{went_by}
 use Rattle.tds_relay.proofs.ends.Standing.{AtPool, Leaves, Sent, Standing, apart_stands, asks_stand, at_pool, ends_stand, lacks_stand, lets_stand, puts_stand, renews_stand, replaced_stands, stays_next, stops_stand, unheard_stands, unlost_stands}
 use Rattle.tds_relay.proofs.ends.Stopping.{Known, Told, pool_next, hears_stand, never_waits, quits_gone}
-use Rattle.tds_relay.proofs.ends.Ending.{whose_by}
+use Rattle.tds_relay.proofs.ends.Ending.{IsEndThere, whose_by}
 
 -- ---- What is told of it
 

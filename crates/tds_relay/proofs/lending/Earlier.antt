@@ -3,7 +3,6 @@ use Rattle.std.proofs.Common.{◌≡◌, ◌≢◌, ◌⊎◌, ◌∙◌, ◌==�
 use Rattle.std.specs.Prelude.{Result, Ok, Err, OnOk, filter, nat_lt}
 use Rattle.std.proofs.lemmas.Bool.{eqb-true}
 use Rattle.tds_wire.specs.declared.told.Token.{Token}
-use Rattle.tds_service.specs.Parts.{Part}
 use Rattle.tds_service.specs.Service as calls
 use Rattle.tds_service.specs.Service.{Call, Seat, Service, find_by, has_ticket, is_idle, is_lendable, lease_at, seat_numbered, step}
 use Rattle.tds_relay.specs.declared.link.Link.{Link}
@@ -16,7 +15,6 @@ use Rattle.tds_relay.specs.Fronting.{calls_along}
 use Rattle.tds_relay.specs.Lent.{AnewIfLent, KeepsAnswers}
 use Rattle.tds_relay.specs.Pool as pool
 use Rattle.tds_relay.specs.Pool.{Action, Event, Hearing, Loan, Pool, Way, brings_by, comes_by, find_key, find_number, hearing, holder_does, holding, keeps_by, leaves, lent_in, pool_after, renews, renews_by, serves, serves_by, ticket_in, turn, without_lease}
-use Rattle.tds_relay.specs.Promises.{Each}
 use Rattle.tds_relay.specs.Reads.{StaysAt, answer_at, answer_on}
 use Rattle.tds_relay.specs.Sparing.{IsRenewed}
 use Rattle.tds_relay.specs.Ties.{Cause, IsReached, LedOn, LedTo, Neither, Serving, Turns, pool_in}
@@ -173,7 +171,7 @@ held_along d (event ∷ events) n h reached le e =
     let less : h.lease ≤ (turn d event).pool.service.given = at_most h.lease d.service.given (turn d event).pool.service.given le (given_next d event tidy) in
     turn_was d n h (apart_at d reached) tidy le event (held_along (turn d event).pool events n h (reached_next d event reached) less e)
 
-held_led : (by : Cause) (d e : Pool) (n : ℕ) (h : Hold) → IsReached d → LedTo by d e → h.lease ≤ d.service.given → find_number n e.holds ≡ Some h → find_number n d.holds ≡ Some h
+pub held_led : (by : Cause) (d e : Pool) (n : ℕ) (h : Hold) → IsReached d → LedTo by d e → h.lease ≤ d.service.given → find_number n e.holds ≡ Some h → find_number n d.holds ≡ Some h
 held_led by d e n h reached goes le found =
     let r = goes d (record { events = []; are = refl; caused = tt }) in
     held_along d r.events n h reached le (ap (λ (x : Pool). find_number n x.holds) r.are ∙ found)

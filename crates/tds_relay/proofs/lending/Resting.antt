@@ -18,9 +18,9 @@ use Rattle.tds_relay.specs.Bodies.{AskAsBefore, AskOn, Astray, Body, Closed, Clo
 use Rattle.tds_relay.specs.Pool as pool
 use Rattle.tds_relay.specs.Pool.{Pool, find_key, find_number, key_of}
 use Rattle.tds_relay.specs.Reads.{link_at, bytes_on, waits_on}
-use Rattle.tds_relay.specs.Sparing.{AllGo, AllHold, AllRest, HeldConnection, HoldsOn, IsOff, OffHold, OthersHold, OthersRest, Rests, held_at, held_with_client}
+use Rattle.tds_relay.specs.Sparing.{AllGo, AllHold, AllRest, HeldConnection, HoldsOn, HoldsStill, IsOff, OffHold, OthersHold, OthersRest, Rests, held_at, held_with_client}
 use Rattle.tds_relay.specs.Ties.{CausesAction, LedOn, IsReached, Neither, Turns, pool_in}
-use Rattle.tds_relay.proofs.spared.Held.{holder_is, off_others}
+use Rattle.tds_relay.proofs.spared.Held.{holder_is, off_others, on_both}
 use Rattle.tds_relay.proofs.steps.Reaching.{reached_on, reaches_turn}
 use Rattle.tds_relay.specs.Places.{is_closed, own_asking, own_held}
 
@@ -34,21 +34,6 @@ rests_both a b c (inl (inl e)) (inr f) = inr (sym e ∙ f)
 rests_both a b c (inl (inr e)) (inr f) = absurd (let u : Closed ≡ Astray = sym e ∙ f in let v : ⊥ = cc in v)
 rests_both a b c (inr e) k = inr e
 
-pub all_refl : (r : code.Relay) → AllRest r r
-all_refl r = record { rest = λ key. inl (inl refl) }
-
-pub all_both : (a b c : code.Relay) → AllRest a b → AllRest b c → AllRest a c
-all_both a b c h k = record { rest = λ key. rests_both (body_of key a) (body_of key b) (body_of key c) (h.rest key) (k.rest key) }
-
-pub others_refl : (key : ℕ) (r : code.Relay) → OthersRest key r r
-others_refl key r = record { rest = λ other differs. inl (inl refl) }
-
-pub others_both : (key : ℕ) (a b c : code.Relay) → OthersRest key a b → OthersRest key b c → OthersRest key a c
-others_both key a b c h k = record { rest = λ other differs. rests_both (body_of other a) (body_of other b) (body_of other c) (h.rest other differs) (k.rest other differs) }
-
-pub all_others : (key : ℕ) (a b : code.Relay) → AllRest a b → OthersRest key a b
-all_others key a b h = record { rest = λ other differs. h.rest other }
-
 pub starts_both : {a b c : Body} → Starts a b → Starts b c → Starts a c
 starts_both s Stays = s
 starts_both s Closes = Closes
@@ -61,6 +46,43 @@ pub rests_start : (a b : Body) → Rests a b → Starts a b
 rests_start a b (inl (inl e)) = subst (λ (x : Body). Starts a x) (sym e) Stays
 rests_start a b (inl (inr e)) = subst (λ (x : Body). Starts a x) (sym e) Closes
 rests_start a b (inr e) = subst (λ (x : Body). Starts x b) (sym e) Strays
+
+pub closed_on : {b : Body} → Starts Closed b → Closed ≡ b
+closed_on Stays = refl
+closed_on Closes = refl
+
+-- what it holds, where its body stays or starts behind that
+pub still_both : (key : ℕ) (a b c : code.Relay) → HoldsStill key a b → Starts (body_of key b) (body_of key c) → HoldsStill key b c → HoldsStill key a c
+still_both key a b c (inl h) starts (inl k) = inl (on_both a.pool b.pool c.pool key h k)
+still_both key a b c h starts (inr shut) = inr shut
+still_both key a b c (inr shut) starts (inl k) = inr (sym (closed_on (subst (λ (x : Body). Starts x (body_of key c)) shut starts)))
+
+pub still_rests : (key : ℕ) (a b c : code.Relay) → HoldsStill key a b → Rests (body_of key b) (body_of key c) → HoldsStill key b c → HoldsStill key a c
+still_rests key a b c h rests k = still_both key a b c h (rests_start (body_of key b) (body_of key c) rests) k
+
+pub still_at : (key : ℕ) (a b : code.Relay) → b.pool ≡ a.pool → HoldsStill key a b
+still_at key a b at = inl (inl (ap (held_at key) at))
+
+pub all_refl : (r : code.Relay) → AllRest r r
+all_refl r = record { rest = λ key. inl (inl refl); holds = λ key. inl (inl refl) }
+
+pub all_both : (a b c : code.Relay) → AllRest a b → AllRest b c → AllRest a c
+all_both a b c h k = record {
+  rest = λ key. rests_both (body_of key a) (body_of key b) (body_of key c) (h.rest key) (k.rest key);
+  holds = λ key. still_rests key a b c (h.holds key) (k.rest key) (k.holds key);
+}
+
+pub others_refl : (key : ℕ) (r : code.Relay) → OthersRest key r r
+others_refl key r = record { rest = λ other differs. inl (inl refl); holds = λ other differs. inl (inl refl) }
+
+pub others_both : (key : ℕ) (a b c : code.Relay) → OthersRest key a b → OthersRest key b c → OthersRest key a c
+others_both key a b c h k = record {
+  rest = λ other differs. rests_both (body_of other a) (body_of other b) (body_of other c) (h.rest other differs) (k.rest other differs);
+  holds = λ other differs. still_rests other a b c (h.holds other differs) (k.rest other differs) (k.holds other differs);
+}
+
+pub all_others : (key : ℕ) (a b : code.Relay) → AllRest a b → OthersRest key a b
+all_others key a b h = record { rest = λ other differs. h.rest other; holds = λ other differs. h.holds other }
 
 pub go_refl : (r : code.Relay) → AllGo r r
 go_refl r = record { go = λ reached key. Stays }
@@ -161,11 +183,15 @@ all_rest old new at links asks = record {
   rest = λ key.
       let holds : HoldsOn key old.pool new.pool = inl (ap (held_at key) at) in
       rests_by key old new (asks key) (goes_as key old new holds (λ held e. inl (ap (waits_on held.0) links)));
+  holds = λ key. still_at key old new at;
 }
 
 -- The connections are, on which the same waits, and each application holds what it held.
 pub held_rest : (old new : code.Relay) → ((key : ℕ) → HoldsOn key old.pool new.pool) → ((n : ℕ) → waits_on n new.links.items ≡ waits_on n old.links.items) → AskOn old.applications new.applications → AllRest old new
-held_rest old new holds waits asks = record { rest = λ key. rests_by key old new (asks key) (goes_as key old new (holds key) (λ held e. inl (waits held.0))) }
+held_rest old new holds waits asks = record {
+  rest = λ key. rests_by key old new (asks key) (goes_as key old new (holds key) (λ held e. inl (waits held.0)));
+  holds = λ key. inl (holds key);
+}
 
 -- It holds another connection than that on which something waits, or nothing does any more.
 off_waits : (number key : ℕ) (old new : code.Relay) → IsOff number key old.pool → ((other : ℕ) → other ≢ number → waits_on other new.links.items ≡ waits_on other old.links.items) → WaitsAs key old new
@@ -182,6 +208,7 @@ pub others_rest : (key : ℕ) (g : Hold) (old new : code.Relay) → IsReached (p
 others_rest key g old new reached its holds waits asks = record {
   rest = λ other differs.
       off_rests g.number other old new (off_others old.pool key other g reached its differs) (holds.hold reached other differs) waits (asks other);
+  holds = λ other differs. inl (holds.hold reached other differs);
 }
 
 -- One application alone is written back.
@@ -192,26 +219,29 @@ written_rest key a old new at links apps = record {
       ap (λ (s : Slab Application). get s other) apps ∙ get_or-set_other old.applications.slots key other (Some a) None differs in
       let holds : HoldsOn other old.pool new.pool = inl (ap (held_at other) at) in
       rests_by other old new (λ goes. inl (ap (λ (o : Option Application). body_in o goes) same)) (goes_as other old new holds (λ held e. inl (ap (waits_on held.0) links)));
+  holds = λ other differs. still_at other old new at;
 }
 
 -- ---- A connection that is lost
 
 shut : (key number : ℕ) (old new : code.Relay) (held : HeldConnection) (o : Option ℕ) → IsReached (pool_in old.pool) → held_at key old.pool ≡ Some held → held.0 ≡ number → o ≡ key_of (find_number number old.pool.holds.items)
-    → ((k : ℕ) → o ≡ Some k → (goes : Body) → body_in (get new.applications k) goes ≡ Closed) → Rests (body_of key old) (body_of key new)
+    → ((k : ℕ) → o ≡ Some k → (goes : Body) → body_in (get new.applications k) goes ≡ Closed) → body_of key new ≡ Closed
 shut key number old new held o reached e same whose shuts =
-    let is : o ≡ Some key = whose ∙ ap (λ (n : ℕ). key_of (find_number n old.pool.holds.items)) (sym same) ∙ holder_is old.pool key held reached e in
-    inl (inr (shuts key is (going_of key new)))
+    shuts key (whose ∙ ap (λ (n : ℕ). key_of (find_number n old.pool.holds.items)) (sym same) ∙ holder_is old.pool key held reached e) (going_of key new)
+
+pub off_by : (key number : ℕ) (d : pools.Pool) (held : HeldConnection) → held.0 ≢ number → held_at key d ≡ Some held → IsOff number key d
+off_by key number d held differs e = λ client is.
+    let x : HeldConnection = (number, client) in
+    let same : held ≡ x = (let u : Some held ≡ Some x = sym e ∙ is in cc) in
+    differs (ap (λ (y : HeldConnection). y.0) same)
 
 lost_by : (key number : ℕ) (old new : code.Relay) (held : HeldConnection) (o : Option ℕ) → (held.0 ≡ number) ⊎ (held.0 ≢ number) → IsReached (pool_in old.pool) → held_at key old.pool ≡ Some held
     → o ≡ key_of (find_number number old.pool.holds.items) → ((k : ℕ) → o ≡ Some k → (goes : Body) → body_in (get new.applications k) goes ≡ Closed)
     → OffHold number old.pool new.pool → ((other : ℕ) → other ≢ number → waits_on other new.links.items ≡ waits_on other old.links.items) → AsksAt key old new
     → Rests (body_of key old) (body_of key new)
-lost_by key number old new held o (inl same) reached e whose shuts holds waits asks = shut key number old new held o reached e same whose shuts
+lost_by key number old new held o (inl same) reached e whose shuts holds waits asks = inl (inr (shut key number old new held o reached e same whose shuts))
 lost_by key number old new held o (inr differs) reached e whose shuts holds waits asks =
-    let off : IsOff number key old.pool = λ client is.
-    let x : HeldConnection = (number, client) in
-    let same : held ≡ x = (let u : Some held ≡ Some x = sym e ∙ is in cc) in
-    differs (ap (λ (y : HeldConnection). y.0) same) in
+    let off : IsOff number key old.pool = off_by key number old.pool held differs e in
     off_rests number key old new off (holds.hold reached key off) waits asks
 
 lost_at : (key number : ℕ) (old new : code.Relay) (p : Option HeldConnection) (o : Option ℕ) → held_at key old.pool ≡ p → IsReached (pool_in old.pool)
@@ -222,12 +252,25 @@ lost_at key number old new None o e reached whose shuts holds waits asks = rests
 lost_at key number old new (Some held) o e reached whose shuts holds waits asks =
     lost_by key number old new held o (cases_eq held.0 number) reached e whose shuts holds waits asks
 
+still_by : (key number : ℕ) (old new : code.Relay) (held : HeldConnection) (o : Option ℕ) → (held.0 ≡ number) ⊎ (held.0 ≢ number) → IsReached (pool_in old.pool) → held_at key old.pool ≡ Some held
+    → o ≡ key_of (find_number number old.pool.holds.items) → ((k : ℕ) → o ≡ Some k → (goes : Body) → body_in (get new.applications k) goes ≡ Closed) → OffHold number old.pool new.pool → HoldsStill key old new
+still_by key number old new held o (inl same) reached e whose shuts holds = inr (shut key number old new held o reached e same whose shuts)
+still_by key number old new held o (inr differs) reached e whose shuts holds = inl (holds.hold reached key (off_by key number old.pool held differs e))
+
+lost_still : (key number : ℕ) (old new : code.Relay) (p : Option HeldConnection) (o : Option ℕ) → held_at key old.pool ≡ p → IsReached (pool_in old.pool) → o ≡ key_of (find_number number old.pool.holds.items)
+    → ((k : ℕ) → o ≡ Some k → (goes : Body) → body_in (get new.applications k) goes ≡ Closed) → OffHold number old.pool new.pool → HoldsStill key old new
+lost_still key number old new None o e reached whose shuts holds = inl (inr e)
+lost_still key number old new (Some held) o e reached whose shuts holds = still_by key number old new held o (cases_eq held.0 number) reached e whose shuts holds
+
 -- and whoever held it is to be closed
 pub lost_rest : (number : ℕ) (old new : code.Relay) (o : Option ℕ) → IsReached (pool_in old.pool) → o ≡ key_of (find_number number old.pool.holds.items)
     → ((k : ℕ) → o ≡ Some k → (goes : Body) → body_in (get new.applications k) goes ≡ Closed)
     → OffHold number old.pool new.pool → ((other : ℕ) → other ≢ number → waits_on other new.links.items ≡ waits_on other old.links.items) → AskOn old.applications new.applications
     → AllRest old new
-lost_rest number old new o reached whose shuts holds waits asks = record { rest = λ key. lost_at key number old new (held_at key old.pool) o refl reached whose shuts holds waits (asks key) }
+lost_rest number old new o reached whose shuts holds waits asks = record {
+  rest = λ key. lost_at key number old new (held_at key old.pool) o refl reached whose shuts holds waits (asks key);
+  holds = λ key. lost_still key number old new (held_at key old.pool) o refl reached whose shuts holds;
+}
 
 -- ---- One more connection
 
@@ -251,6 +294,7 @@ pushed_rest y old new at apps links = record {
       rests_by key old new (λ goes. inl (ap (λ (s : Slab Application). body_in (get s key) goes) apps))
       (goes_as key old new holds (λ held e. pushed_waits held.0 old.links.items new.links.items
       (subst (λ (ls : List Link). (link_at held.0 ls ≡ link_at held.0 old.links.items) ⊎ (link_at held.0 old.links.items ≡ None)) (sym links) (pushed held.0 y old.links.items))));
+  holds = λ key. still_at key old new at;
 }
 
 -- ---- Reached
@@ -329,4 +373,6 @@ none_waits key old (Some held) e none = going_is key old (Some held) e ∙ ap (�
 
 -- nothing goes on
 pub none_go : (old new : code.Relay) → old.links.items ≡ [] → AskOn old.applications new.applications → AllGo old new
-none_go old new none asks = rest_go old new (λ reached. record { rest = λ key. rests_by key old new (asks key) (inr (none_waits key old (held_at key old.pool) refl none)) })
+none_go old new none asks = record {
+  go = λ reached key. rests_start (body_of key old) (body_of key new) (rests_by key old new (asks key) (inr (none_waits key old (held_at key old.pool) refl none)));
+}

@@ -3,7 +3,7 @@ use Rattle.std.proofs.Common.{◌≡◌, ◌≢◌, ◌⊎◌, ◌∙◌, ◌==�
 use Rattle.std.specs.Prelude.{filter}
 use Rattle.std.proofs.lemmas.Bool.{cases_eq, eq-eqb, eqb-true}
 use Rattle.tds_service.specs.Line.{new_line}
-use Rattle.tds_service.specs.Service.{Free, Seat, Service, find_by, has_number, seat_numbered}
+use Rattle.tds_service.specs.Service.{Free, Seat, Service, seat_numbered}
 use Rattle.tds_relay.specs.Few.{has_seat}
 use Rattle.tds_relay.specs.Promises.{one_if}
 use Rattle.tds_relay.proofs.promises.Seats.{Distinct}

@@ -23,7 +23,7 @@ use Rattle.tds_relay.specs.Places.{is_closed, own_asking, own_held}
 
 -- ---- One after the other
 
-along_then : {a b c : Body} → GoesAlong a b → GoesAlong b c → GoesAlong a c
+pub along_then : {a b c : Body} → GoesAlong a b → GoesAlong b c → GoesAlong a c
 along_then Ends k = k
 along_then (Begins s more) k = Begins s (along_then more k)
 along_then (Hears h more) k = Hears h (along_then more k)

@@ -4,6 +4,7 @@ use Rattle.std.specs.Prelude.{filter}
 use Rattle.std.proofs.lemmas.Bool.{eqb-true, eq-eqb}
 use Rattle.tds_client.specs.Session.{ClientSession}
 use Rattle.tds_service.specs.declared.seat.Seat as seats
+use Rattle.tds_service.specs.declared.service.Service as services
 use Rattle.tds_service.specs.Service.{Leased, Seat, find_by, has_lease, has_number, seat_numbered}
 use Rattle.tds_service.specs.Table.{KeepsClients, KeepsClientsOff, client_by, client_of, seat_in, seats_in}
 use Rattle.tds_relay.specs.declared.pool.Pool as pools
@@ -132,6 +133,10 @@ holds_on d e key stays = on_by d e key (held_at key d) refl stays
 
 pub on_refl : (d : pools.Pool) (key : ℕ) → HoldsOn key d d
 on_refl d key = inl refl
+
+pub held_as : (key : ℕ) (old new : pools.Pool) → new.holds.items ≡ old.holds.items → new.service ≡ old.service → HoldsOn key old new
+held_as key old new holds service =
+    inl (ap (λ (s : services.Service). held_with_client s (find_key key new.holds.items)) service ∙ ap (λ (hs : List Hold). held_with_client old.service (find_key key hs)) holds)
 
 pub on_both : (d e f : pools.Pool) (key : ℕ) → HoldsOn key d e → HoldsOn key e f → HoldsOn key d f
 on_both d e f key (inl h) (inl k) = inl (k ∙ h)

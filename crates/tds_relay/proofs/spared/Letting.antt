@@ -16,7 +16,7 @@ use Rattle.tds_relay.specs.Sparing.{AllGo, AllRest, HeldConnection, HoldsOn, IsO
 use Rattle.tds_relay.specs.Ties.{Application as ByApplication, IsNumberOf, IsReached, Turns, pool_in}
 use Rattle.tds_relay.proofs.spared.Held.{holder_is}
 use Rattle.tds_relay.proofs.steps.Reaching.{reached_on, reaches_turn}
-use Rattle.tds_relay.proofs.lending.Resting.{AsksAt, all_others, go_one, going_is, goes_as, off_rests, others_both, others_rest, put_rest, rests_both, rests_by, rests_start}
+use Rattle.tds_relay.proofs.lending.Resting.{AsksAt, all_others, go_one, going_is, goes_as, off_by, off_rests, others_both, others_rest, put_rest, rests_both, rests_by, rests_start, still_at, still_rests}
 
 -- ---- A connection that is let go
 
@@ -28,10 +28,7 @@ sent_held key number old mid new held (inl same) e reached at asks waits all shu
     ap (λ (d : pools.Pool). key_of (find_number number d.holds.items)) at ∙ ap (λ (n : ℕ). key_of (find_number n old.pool.holds.items)) (sym same) ∙ holder_is old.pool key held reached e in
     inl (inr (shuts key whose (going_of key new)))
 sent_held key number old mid new held (inr differs) e reached at asks waits all shuts =
-    let off : IsOff number key old.pool = λ client is.
-    let x : HeldConnection = (number, client) in
-    let same : held ≡ x = (let u : Some held ≡ Some x = sym e ∙ is in cc) in
-    differs (ap (λ (y : HeldConnection). y.0) same) in
+    let off : IsOff number key old.pool = off_by key number old.pool held differs e in
     rests_both (body_of key old) (body_of key mid) (body_of key new) (off_rests number key old mid off (inl (ap (held_at key) at)) waits asks) (all.rest key)
 
 sent_at : (key number : ℕ) (old mid new : code.Relay) (p : Option HeldConnection) → held_at key old.pool ≡ p → IsReached (pool_in old.pool) → mid.pool ≡ old.pool → AsksAt key old mid
@@ -46,7 +43,11 @@ sent_at key number old mid new (Some held) e reached at asks waits all shuts =
 pub sent_all : {A E : Type 0} (r : Result A E) (number : ℕ) (old mid new : code.Relay) → IsReached (pool_in old.pool) → mid.pool ≡ old.pool → AskAsBefore old.applications mid.applications
     → ((other : ℕ) → other ≢ number → waits_on other mid.links.items ≡ waits_on other old.links.items) → OnOk r (AllRest mid new)
     → OnOk r ((k : ℕ) → key_of (find_number number (pool_in mid.pool).holds) ≡ Some k → (goes : Body) → body_in (get new.applications k) goes ≡ Closed) → OnOk r (SendsOn number old new)
-sent_all (Ok x) number old mid new reached at asks waits all shuts = inr (record { rest = λ key. sent_at key number old mid new (held_at key old.pool) refl reached at (λ goes. inl (asks key goes)) waits all shuts })
+sent_all (Ok x) number old mid new reached at asks waits all shuts =
+    inr (record {
+      rest = λ key. sent_at key number old mid new (held_at key old.pool) refl reached at (λ goes. inl (asks key goes)) waits all shuts;
+      holds = λ key. still_rests key old mid new (still_at key old mid at) (all.rest key) (all.holds key);
+    })
 sent_all (Err e) number old mid new reached at asks waits all shuts = tt
 
 number_by : (h : Hold) (left : Left) → left.number ≡ h.number → (x : Hold) × (Some h ≡ Some x) × (left.number ≡ x.number)
@@ -62,6 +63,7 @@ unheld_rest key old new d reached holds at links asks = record {
   rest = λ other differs.
       let on : HoldsOn other old.pool new.pool = subst (λ (e : pools.Pool). HoldsOn other old.pool e) (sym at) (holds.hold reached other differs) in
       rests_by other old new (λ goes. inl (asks other goes)) (goes_as other old new on (λ held e. inl (ap (waits_on held.0) links)));
+  holds = λ other differs. inl (subst (λ (e : pools.Pool). HoldsOn other old.pool e) (sym at) (holds.hold reached other differs));
 }
 
 sent_by : (key number : ℕ) (g : Hold) (old mid new : code.Relay) (d : pools.Pool) → number ≡ g.number → IsReached (pool_in old.pool) → find_key key old.pool.holds.items ≡ Some g → OthersHold key old.pool d → mid.pool ≡ d
@@ -111,6 +113,7 @@ removed_rest key old new at links same = record {
   rest = λ other differs.
       let holds : HoldsOn other old.pool new.pool = inl (ap (held_at other) at) in
       rests_by other old new (λ goes. inl (ap (λ (o : Option Application). body_in o goes) (same other differs))) (goes_as other old new holds (λ held e. inl (ap (waits_on held.0) links)));
+  holds = λ other differs. still_at other old new at;
 }
 
 pub left_reached : (key : ℕ) (d e f : pools.Pool) (gives : Bool) (way : pool.Way) (before after : List ℕ) → Turns (pool.Leaves key gives way) (pool_in d) (pool_in e) before after → f ≡ e → IsReached (pool_in d) → IsReached (pool_in f)

@@ -45,7 +45,7 @@ kept_by h key other es (inr differs) e is = ap (λ (xs : EndList). end_at xs oth
 pub ends_stay : (h : Core) (key : ℕ) (es : EndList) → may_park h key ≡ true → es ≡ change_end key lets_go h.ends → (other : ℕ) → end_at es other ≡ end_at h.ends other
 ends_stay h key es e is other = kept_by h key other es (cases_eq other key) e is
 
-out_by : (b c : Bool) → (b ≡ true → c ≡ true) → c ≡ false → b ≡ false
+pub out_by : (b c : Bool) → (b ≡ true → c ≡ true) → c ≡ false → b ≡ false
 out_by true c f e = absurd (let u : true ≡ false = sym (f refl) ∙ e in let v : ⊥ = cc in v)
 out_by false c f e = refl
 

@@ -3,7 +3,6 @@ use Rattle.std.proofs.Common.{◌≡◌, ◌≢◌, ◌∙◌, ℕ, List, Option
 use Rattle.std.specs.Prelude.{Result, Ok, Err, OnOk}
 use Rattle.std.proofs.lemmas.List.{get_or-set_other}
 use Rattle.slab.specs.Slab.{Slab, get, with_value}
-use Rattle.tds_service.specs.declared.service.Service as services
 use Rattle.tds_relay.specs.declared.application.Application.{Application}
 use Rattle.tds_relay.specs.declared.pool.Pool as pools
 use Rattle.tds_relay.specs.declared.pool.Hold.{Hold}
@@ -11,9 +10,9 @@ use Rattle.tds_relay.specs.declared.relay.Relay as code
 use Rattle.tds_relay.specs.Bodies.{AskAsBefore, AskOn, ClientStops, IsHalting, Starts, body_in, body_of, going_of}
 use Rattle.tds_relay.specs.Pool.{find_key}
 use Rattle.tds_relay.specs.Reads.{waits_on}
-use Rattle.tds_relay.specs.Sparing.{AllGo, HoldsOn, OthersGo, OthersHold, OthersRest, held_with_client}
+use Rattle.tds_relay.specs.Sparing.{AllGo, OthersGo, OthersHold, OthersRest}
 use Rattle.tds_relay.specs.Ties.{Application as ByApplication, LedTo, IsReached, Leaving, pool_in}
-use Rattle.tds_relay.proofs.spared.Held.{action_same}
+use Rattle.tds_relay.proofs.spared.Held.{action_same, held_as}
 use Rattle.tds_relay.proofs.lending.Resting.{asks_on, goes_as, others_rest, rests_by, rests_start, starts_both}
 use Rattle.tds_relay.proofs.steps.Reaching.{reached_on, reaches_left}
 
@@ -23,21 +22,19 @@ use Rattle.tds_relay.proofs.steps.Reaching.{reached_on, reaches_left}
 pub done_rest : (key : ℕ) (old new : code.Relay) → IsReached (pool_in old.pool) → OthersHold key old.pool new.pool → new.links.items ≡ old.links.items → AskOn old.applications new.applications → OthersRest key old new
 done_rest key old new reached holds links asks = record {
   rest = λ other differs. rests_by other old new (asks other) (goes_as other old new (holds.hold reached other differs) (λ held e. inl (ap (waits_on held.0) links)));
+  holds = λ other differs. inl (holds.hold reached other differs);
 }
 
 pub done_as : (key : ℕ) (old new : code.Relay) → IsReached (pool_in old.pool) → OthersHold key old.pool new.pool → new.links.items ≡ old.links.items → AskAsBefore old.applications new.applications → OthersRest key old new
 done_as key old new reached holds links asks = done_rest key old new reached holds links (asks_on old new asks)
 
 -- One waits no more: all hold what they held, and its application alone is written back.
-held_as : (key : ℕ) (old new : pools.Pool) → new.holds.items ≡ old.holds.items → new.service ≡ old.service → HoldsOn key old new
-held_as key old new holds service =
-    inl (ap (λ (s : services.Service). held_with_client s (find_key key new.holds.items)) service ∙ ap (λ (hs : List Hold). held_with_client old.service (find_key key hs)) holds)
-
 pub unwaited_rest : (key : ℕ) (old new : code.Relay) → new.pool.holds.items ≡ old.pool.holds.items → new.pool.service ≡ old.pool.service → new.links.items ≡ old.links.items → new.applications ≡ old.applications → OthersRest key old new
 unwaited_rest key old new holds service links apps = record {
   rest = λ other differs.
       rests_by other old new (λ goes. inl (ap (λ (s : Slab Application). body_in (get s other) goes) apps))
       (goes_as other old new (held_as other old.pool new.pool holds service) (λ held e. inl (ap (waits_on held.0) links)));
+  holds = λ other differs. inl (held_as other old.pool new.pool holds service);
 }
 
 pub forgotten_rest : (key : ℕ) (a : Application) (old new : code.Relay) → new.pool.holds.items ≡ old.pool.holds.items → new.pool.service ≡ old.pool.service → new.links.items ≡ old.links.items
@@ -48,18 +45,24 @@ forgotten_rest key a old new holds service links apps = record {
       ap (λ (s : Slab Application). get s other) apps ∙ get_or-set_other old.applications.slots key other (Some a) None differs in
       rests_by other old new (λ goes. inl (ap (λ (o : Option Application). body_in o goes) same))
       (goes_as other old new (held_as other old.pool new.pool holds service) (λ held e. inl (ap (waits_on held.0) links)));
+  holds = λ other differs. inl (held_as other old.pool new.pool holds service);
 }
 
 -- One begins to wait.
-pub waited_rest : (key : ℕ) (old new : code.Relay) → ((other : ℕ) → body_of other new ≡ body_of other old) → OthersRest key old new
-waited_rest key old new same = record { rest = λ other differs. inl (inl (same other)) }
+pub waited_rest : {A E : Type 0} (r : Result A E) (key : ℕ) (old new : code.Relay) → ((other : ℕ) → body_of other new ≡ body_of other old) → new.pool.service ≡ old.pool.service
+    → OnOk r (new.pool.holds.items ≡ old.pool.holds.items) → OnOk r (OthersRest key old new)
+waited_rest (Ok x) key old new same service holds = record { rest = λ other differs. inl (inl (same other)); holds = λ other differs. inl (held_as other old.pool new.pool holds service) }
+waited_rest (Err e) key old new same service holds = tt
 
 -- behind being written back
-pub written_waited : (key : ℕ) (a : Application) (old new : code.Relay) → ((other : ℕ) → body_of other new ≡ body_in (get (with_value old.applications key a) other) (going_of other old)) → OthersRest key old new
-written_waited key a old new waits = record {
+pub written_waited : {A E : Type 0} (r : Result A E) (key : ℕ) (a : Application) (old new : code.Relay) → ((other : ℕ) → body_of other new ≡ body_in (get (with_value old.applications key a) other) (going_of other old))
+    → new.pool.service ≡ old.pool.service → OnOk r (new.pool.holds.items ≡ old.pool.holds.items) → OnOk r (OthersRest key old new)
+written_waited (Err e) key a old new waits service holds = tt
+written_waited (Ok x) key a old new waits service holds = record {
   rest = λ other differs.
       let same : get (with_value old.applications key a) other ≡ get old.applications other = get_or-set_other old.applications.slots key other (Some a) None differs in
       inl (inl (waits other ∙ ap (λ (o : Option Application). body_in o (going_of other old)) same));
+  holds = λ other differs. inl (held_as other old.pool new.pool holds service);
 }
 
 -- ---- What is put

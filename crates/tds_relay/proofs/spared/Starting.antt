@@ -23,7 +23,7 @@ use Rattle.tds_relay.specs.Sparing as sparing
 use Rattle.tds_relay.specs.Sparing.{AllGo, AllRest, AreCalls, Drains, HasGone, HeldConnection, IsHeldBack, IsKept, IsLeft, IsUnkept, Opens, Rests, StartsBehind, StartsOn, StartsThere, behind_all, held_at}
 use Rattle.tds_relay.specs.Ties.{IsReached, pool_in}
 use Rattle.tds_relay.proofs.spared.Held.{holder_is, holds}
-use Rattle.tds_relay.proofs.lending.Resting.{starts_both}
+use Rattle.tds_relay.proofs.lending.Resting.{closed_on, starts_both}
 use Rattle.tds_relay.proofs.steps.Bodied.{written_body, by_asking}
 use Rattle.tds_relay.proofs.steps.Fed.{end_open, end_there}
 use Rattle.tds_relay.specs.Places.{is_closed, own_asking, own_held, took_back}
@@ -118,10 +118,6 @@ kept_rest Strays kept = absurd kept
 kept_rest (Goes waits out from puts) kept = inl tt
 
 -- ---- Behind what waited there
-
-closed_on : {b : Body} → Starts Closed b → Closed ≡ b
-closed_on Stays = refl
-closed_on Closes = refl
 
 not_kept : (b : Body) → IsKept b → IsUnkept b → ⊥
 not_kept Closed kept un = kept

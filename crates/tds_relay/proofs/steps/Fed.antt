@@ -15,7 +15,7 @@ use Rattle.tds_relay.specs.declared.application.Application.{Application}
 use Rattle.tds_relay.specs.Pool as pool
 use Rattle.tds_relay.specs.Pool.{Pool, Event, pool_after, turn}
 use Rattle.tds_relay.specs.Fronts.{IsFed, own_end, ends_in, given_by, core_of_ends, withdraws}
-use Rattle.tds_relay.specs.Core.{End, EndList, Feeds, IsEndThere, Open, Over, end_acknowledged, asks_by, change_end, closes, closes_for, end_at, end_behind, event_if, feeds, hands_on, end_hears, moved, stops_by, stops_of, takes_back}
+use Rattle.tds_relay.specs.Core.{End, EndList, Feeds, IsOpenEnd, Open, Over, end_acknowledged, asks_by, change_end, closes, closes_for, end_at, end_behind, event_if, feeds, hands_on, end_hears, moved, stops_by, stops_of, takes_back}
 use Rattle.tds_relay.specs.Machine.{owed, owed_by, put_some}
 use Rattle.tds_relay.specs.Queues.{Queues, change}
 use Rattle.tds_relay.specs.Ties.{Turns}
@@ -151,8 +151,12 @@ is_fed key s a b bytes count answer is begins still withdrawn asks front says = 
       ∙ ap (λ (w : Bool). Open (fed a.front bytes).front w (own_reset b)) withdrawn ∙ ap (λ (x : Option Reset). Open (fed a.front bytes).front (took_back a) x) asks);
 }
 
-pub is_there : (s : Slab Application) (key : ℕ) (a : Application) → Some a ≡ get s key → IsEndThere (end_at (ends_in s) key)
-is_there s key a is = subst IsEndThere (sym (end_there s key a is)) tt
+open_if : (over : Bool) (why : Option FrontFault) (front : Front) (withdrawn : Bool) (asks : Option Reset) → over ≡ false → IsOpenEnd (Some (if over then Over why else Open front withdrawn asks))
+open_if true why front withdrawn asks e = absurd (let u : ⊥ = cc in u)
+open_if false why front withdrawn asks e = tt
+
+pub is_open_there : (s : Slab Application) (key : ℕ) (a : Application) → Some a ≡ get s key → is_closed a ≡ false → IsOpenEnd (end_at (ends_in s) key)
+is_open_there s key a is e = subst IsOpenEnd (sym (end_there s key a is)) (open_if (is_closed a) (own_fault a) a.front (took_back a) (own_reset a) e)
 
 -- its attention has the acknowledgement; or what it took back has
 pub acked_if : (why : Option FrontFault) (over : Bool) (front : Front) (withdrawn : Bool) (asks : Option Reset) → withdrawn ≡ false

@@ -1,17 +1,15 @@
 -- What an application's end is, and where its request, behind each change of what it is at.
-use Rattle.std.proofs.Common.{◌≡◌, ◌∙◌, ℕ, ◌≤◌, Bool, true, false, List, [], length, Option, Some, None, not, ◌&&◌, refl, sym, ap, arith, if◌then◌else◌}
+use Rattle.std.proofs.Common.{◌≡◌, ◌∙◌, ◌≤◌, Bool, true, false, [], length, Option, Some, None, not, ◌&&◌, refl, sym, ap, arith, if◌then◌else◌}
 use Rattle.tds_packet.specs.declared.status.Reset.{Reset}
 use Rattle.tds_front.specs.declared.fault.FrontFault.{FrontFault}
 use Rattle.tds_front.specs.declared.front.Front.{Front}
 use Rattle.tds_front.specs.Rules as rules
-use Rattle.tds_relay.specs.declared.state.Asking.{Asking}
 use Rattle.tds_relay.specs.declared.state.Request.{Request}
 use Rattle.tds_relay.specs.declared.state.Request.TheVariants as requests
 use Rattle.tds_relay.specs.declared.state.State.{State}
 use Rattle.tds_relay.specs.declared.state.State.TheVariants as states
 use Rattle.tds_relay.specs.Bodies.{Body, Closed, body_by}
 use Rattle.tds_relay.specs.Core.{End, Open, Over, closes_for, end_acknowledged, end_hears, lets_go}
-
 use Rattle.tds_relay.specs.Fronts.{withdraws}
 use Rattle.tds_relay.specs.Machine.{closes_connection, is_said}
 use Rattle.tds_relay.specs.declared.pool.coming.What.{What}

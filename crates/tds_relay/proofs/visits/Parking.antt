@@ -3,7 +3,7 @@ use Rattle.std.proofs.Common.{◌≡◌, ◌∙◌, ◌||◌, ℕ, Bool, true, f
 use Rattle.tds_relay.specs.Apart.{UnlessServed}
 use Rattle.tds_relay.specs.Pool as pool
 use Rattle.tds_relay.specs.Pool.{Pool, Event, Sharing, pool_after, turn}
-use Rattle.tds_relay.specs.Core.{Core, IsThereAndAway, IsEndThere, change_end, is_in, lets_go, may_park, moved_all, new_core}
+use Rattle.tds_relay.specs.Core.{Core, IsThereAndAway, IsOpenEnd, change_end, is_in, lets_go, may_park, moved_all, new_core}
 use Rattle.tds_relay.specs.Giving.{moves_in}
 use Rattle.tds_relay.specs.Machine.{Machine, IsLedTo, new_machine}
 use Rattle.tds_relay.specs.Promises.{Each}
@@ -61,7 +61,7 @@ parked_away sharing key old mid new led parks is leaving goes served =
     let left : Gone key mid.pool = gone_on key (turn old.core.pool (pool.Leaves key leaving.0 leaving.1)).pool mid.pool leaving.2 (quits_gone old.core.pool key leaving.0 leaving.1 at.0 at.1) in
     let gone : Gone key new.pool = gone_on key mid.pool new.pool goes left in
     record {
-      there = subst IsEndThere (sym (served key (out_of key mid.pool.line left.waits) ∙ ends_stay old.core key mid.ends parks is key ∙ (rested old.core key parks).end)) tt;
+      there = subst IsOpenEnd (sym (served key (out_of key mid.pool.line left.waits) ∙ ends_stay old.core key mid.ends parks is key ∙ (rested old.core key parks).end)) tt;
       holds = theirs_none key new.pool.holds gone.holds;
       waits = out_of key new.pool.line gone.waits;
     }

@@ -13,8 +13,8 @@ use Rattle.tds_front.specs.declared.fault.FrontFault.{FrontFault}
 use Rattle.tds_service.specs.Service.{Seat, seat_numbered}
 use Rattle.tds_relay.specs.Behind.{StaysIn, events_along, passes}
 use Rattle.tds_relay.specs.Pool.{Pool, Event, Sharing, new_pool}
-use Rattle.tds_relay.specs.Core.{End, Open, Over, EndList, Enters, Core, HasEntered, IsEndThere, MayMove, MayMoveAll, Move, end_at, events_of, moved, moved_all, new_core}
-use Rattle.tds_relay.proofs.ends.Ending.{end_behind_is, passes_by}
+use Rattle.tds_relay.specs.Core.{End, Open, Over, EndList, Enters, Core, HasEntered, MayMove, MayMoveAll, Move, end_at, events_of, moved, moved_all, new_core}
+use Rattle.tds_relay.proofs.ends.Ending.{IsEndThere, end_behind_is, passes_by}
 use Rattle.tds_relay.proofs.ends.Folding.{Alone, ByHistory, IsAt, append_more, known_at, leaves_at, next_at, outs_of, passes_is, sits_at, sound_at, stays_there, step_story}
 use Rattle.tds_relay.proofs.ends.Fronting.{out_of}
 use Rattle.tds_relay.proofs.ends.Leading.{Leads}

@@ -1,7 +1,7 @@
 //! What comes on connections, and whose it is.
 ghost use Rattle.std.specs.Prelude.{◌≡◌, ◌≢◌, ℕ, List, Some, IfOk, OnOk, true, if◌then◌else◌};
 ghost use Rattle.tds_service.specs.Table.{reading_on, service_in};
-ghost use Rattle.tds_relay.specs.Cleaning.{MayClean, PutsByLease};
+ghost use Rattle.tds_relay.specs.Cleaning.{CleansHere, MayClean, PutsByLease};
 ghost use Rattle.tds_relay.specs.Pool.{Comes, Way, cleaned_by, settles, whose, whose_by};
 ghost use Rattle.tds_relay.specs.Fronts.{IsWhat};
 ghost use Rattle.tds_relay.specs.Core.{dones_of_part};
@@ -40,6 +40,12 @@ pub struct Heard {
     pub what: What,
 }
 
+/// Nothing came of it, and nobody is handed anything.
+pub const NOTHING: Heard = Heard {
+    key: None,
+    what: What::Goes,
+};
+
 /// A cleaning has its answer. False where the connection is in the service no longer.
 fn cleaned(service: &mut Service, number: u64, lease: u64) -> Result<bool, NoMemory>
     ensures makes { OnOk result ((out : List ℕ)
@@ -74,18 +80,14 @@ fn unheard(refusal: Refusal) -> Result<Heard, NoMemory>
     ensures unknown { OnOk result (refusal ≢ Refusal.Memory) }
     ensures nobody { IfOk result (λ heard. heard.key ≡ None) }
 {
-    let nothing = Heard {
-        key: None,
-        what: What::Goes,
-    };
     match refusal {
         Refusal::Memory => Err(AllocError),
-        Refusal::Unknown => Ok(nothing),
-        Refusal::AllInUse => Ok(nothing),
-        Refusal::NotNow => Ok(nothing),
-        Refusal::NotIdle => Ok(nothing),
-        Refusal::NotSending => Ok(nothing),
-        Refusal::Broken => Ok(nothing),
+        Refusal::Unknown => Ok(NOTHING),
+        Refusal::AllInUse => Ok(NOTHING),
+        Refusal::NotNow => Ok(NOTHING),
+        Refusal::NotIdle => Ok(NOTHING),
+        Refusal::NotSending => Ok(NOTHING),
+        Refusal::Broken => Ok(NOTHING),
     }
 }
 
@@ -124,6 +126,9 @@ impl Pool {
             (MayForget number self.old.holds.items self.new.holds.items) }
         ensures leases { IfOk result (λ heard. heard.what ≢ Closed → PutsByLease out.old.items
             out.new.items self.old.service.given self.new.service.given) }
+        ensures newly { IsReached (pool_in self.old) → IfOk result (λ heard. heard.what ≢ Closed
+            → CleansHere heard.key number out.old.items out.new.items
+            (pool_in self.old).service (pool_in self.new).service) }
     {
         let came = match self.service.heard(number, bytes, ends) {
             Ok(came) => came,
@@ -182,6 +187,9 @@ impl Pool {
         ensures holds { self.new.holds ≡ self.old.holds }
         ensures leases { IfOk result (λ heard. heard ≢ Closed → PutsByLease out.old.items
             out.new.items self.old.service.given self.new.service.given) }
+        ensures newly { IsLed (pool_in self.old).service → IfOk result (λ heard. heard ≢ Closed
+            → CleansHere lease number out.old.items out.new.items (pool_in self.old).service
+            (pool_in self.new).service) }
     {
         match lease {
             Some(lease) => match find_lease(&self.holds, lease) {

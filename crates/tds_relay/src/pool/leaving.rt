@@ -1,13 +1,11 @@
 //! Connections that are let go, and cleaned; that come without being asked for; and that are lost.
 ghost use Rattle.std.specs.Prelude.{◌≡◌, ◌≤◌, [], ℕ, Bool, IfOk, IfSome, None, OnOk, suc, true};
 ghost use Rattle.tds_service.specs.Table.{KeepsClientsOff, client_of, reading_on, service_in};
-ghost use Rattle.tds_relay.specs.Cleaning.{CleansFirst, GoesOutAtEnd, GoesOutBy, IsBatch, IsCleaning, IsLentBy, IsPutBehind};
-ghost use Rattle.tds_relay.specs.Pool.{Brings, Leaves, Loses, Renews, Way, cleaning, find_key, find_number};
-ghost use Rattle.tds_relay.specs.Pool.{key_of, releasing, without_number};
+ghost use Rattle.tds_relay.specs.Cleaning.{CleansFirst, CleansIfPut, GoesOutAtEnd, GoesOutBy, IsBatch, IsCleaning, IsLentBy, IsPutBehind, text_of_cleaning};
+ghost use Rattle.tds_relay.specs.Pool.{Brings, Leaves, Loses, Renews, Way, cleaning, find_key, find_number, key_of, releasing, without_number};
 ghost use Rattle.tds_relay.specs.Sparing.{AsideStay, IsKeptBy, IsLentLater, IsRenewed, OffHold, OthersHold};
 ghost use Rattle.tds_relay.specs.Ties.{IsNumberOf, IsReached, Makes, Turns, pool_in, is_sent, lost_by};
 ghost use Rattle.tds_relay.specs.TokenParsers.{AllStand, IsLed};
-ghost use Rattle.tds_relay.specs.Cleaning.{text_of_cleaning};
 ghost use Rattle.tds_relay.specs.Few.{BringsSeat, HasNumber, LeavesSeat, RenewsSeat, SeatStays};
 
 use super::holds::{find_key, find_number, remove_lease, remove_number};
@@ -114,6 +112,9 @@ fn release(
     ensures seats { IsLed (service_in service.old)
         → HasNumber hold.lease hold.number (service_in service.old) → IfOk result (λ is_there.
         SeatStays is_there hold.number (service_in service.old) (service_in service.new)) }
+    ensures newly { IsLed (service_in service.old) → IfOk result (λ is_there. is_there ≡ true
+        → CleansIfPut text.now out.old.items out.new.items (service_in service.old)
+        (service_in service.new)) }
 {
     match service.give_back(hold.lease, out) {
         Ok((_, Rest::Free)) => clean(service, hold.number, text, out),
@@ -142,6 +143,9 @@ impl Pool {
             out.new.items) }
         ensures seats { IsReached (pool_in self.old) → IfOk result (λ left. LeavesSeat left
             (pool_in self.old).service (pool_in self.new).service) }
+        ensures newly { IsReached (pool_in self.old) → IfOk result (λ left. IfSome left (λ it.
+            it.is_there ≡ true → CleansIfPut text_of_cleaning out.old.items out.new.items
+            (pool_in self.old).service (pool_in self.new).service)) }
     {
         remove_key(&mut self.line, key);
         let Some(hold) = find_key(&self.holds, key) else {

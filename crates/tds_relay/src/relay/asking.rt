@@ -1,19 +1,16 @@
 //! What applications say: requests, and cancels.
-ghost use Rattle.std.specs.Prelude.{◌≡◌, ◌≤◌, [], Bool, None, IfOk, IsSome, OnOk, Some};
-ghost use Rattle.std.specs.Prelude.{drop, false, length, true};
+ghost use Rattle.std.specs.Prelude.{◌≡◌, ◌≤◌, [], Bool, None, IfOk, IsSome, OnOk, Some, drop, false, length, true};
 ghost use Rattle.slab.specs.Slab.{get};
-ghost use Rattle.tds_relay.specs.Lent.{AnewIfLent, DialsNewAt, KeepsGiven};
+ghost use Rattle.tds_relay.specs.Cleaning.{CleaningsWaitAt};
+ghost use Rattle.tds_relay.specs.Lent.{AnewIfLent, DialsNewAt, KeepsGiven, KeepsAnswers, OthersKeepAt, PutsOnly};
 ghost use Rattle.tds_relay.specs.Asking.{AsksByBytes, AsksOn, IsObeyed, IsUnderway, waits_of};
-ghost use Rattle.tds_relay.specs.Bodies.{Body, HeedsAll, HeedsOn, HeedsServed, CancelsSaid, Carries};
-ghost use Rattle.tds_relay.specs.Bodies.{CarriesOn, Grows, GrowsFrom, Obeys, PutsSaid, Starts, GoesFrom, body_of};
-ghost use Rattle.tds_relay.specs.Bodies.{last_of, standing_in};
-ghost use Rattle.tds_relay.specs.Closings.{ClosesOnly, register_in};
+ghost use Rattle.tds_relay.specs.Bodies.{Body, HeedsAll, HeedsOn, HeedsServed, CancelsSaid, Carries, CarriesOn, Grows, GrowsFrom, Obeys, PutsSaid, Starts, GoesFrom, body_of, last_of, standing_in};
+ghost use Rattle.tds_relay.specs.Closings.{ClosesOnly, register_in, Itself};
 ghost use Rattle.tds_relay.specs.Pool.{find_key};
 ghost use Rattle.tds_relay.specs.Few.{Few, IsSeated, NobodyWaits};
 ghost use Rattle.tds_relay.specs.Fronts.{FedOn, Moved, ends_in, given_by, core_in, machine_in};
 ghost use Rattle.tds_relay.specs.Core.{IfOpen, IsBegun, end_at, holder};
 ghost use Rattle.tds_relay.specs.Machine.{Steps};
-ghost use Rattle.tds_relay.specs.Lent.{KeepsAnswers, OthersKeepAt, PutsOnly};
 ghost use Rattle.tds_relay.specs.Queues.{names_in, queues_in};
 ghost use Rattle.tds_relay.specs.Reads.{Opens, LinksStay};
 ghost use Rattle.tds_relay.specs.Reasons.{CannotGoOnAt, GivesReason, IsTurnedAwayAt, ItselfFor, MayCloseAt};
@@ -22,7 +19,7 @@ ghost use Rattle.tds_relay.specs.Ties.{Application, LedTo, IsReached, pool_in};
 ghost use Rattle.tds_relay.specs.Waiting.{KeepsInLine, KeepsSaid, ForReasonOrWaiting, HasReason, IsRightlyKept};
 ghost use Rattle.tds_relay.specs.TokenParsers.{AllStand};
 ghost use Rattle.tds_relay.specs.Ordering.{GrowsByOrders, OpensNew, opens_in};
-ghost use Rattle.tds_relay.specs.Sparing.{OthersGo, OthersRest};
+ghost use Rattle.tds_relay.specs.Sparing.{OthersGo, OthersRest, ClientsStay};
 
 use super::Relay;
 use crate::NoMemory;
@@ -67,6 +64,9 @@ impl Relay {
         ensures fresh { OnOk result (DialsNewAt self.old self.new) }
         ensures anew { IsReached (pool_in self.old.pool)
             → OnOk result (AnewIfLent self.old self.new) }
+        ensures clients { IsReached (pool_in self.old.pool)
+            → OnOk result (ClientsStay (Itself key) self.old self.new) }
+        ensures awaits { OnOk result (CleaningsWaitAt self.old self.new) }
     {
         self.take_all(key, piece)?;
         self.serve_line()
@@ -100,6 +100,7 @@ impl Relay {
         ensures right { IsRightlyKept key self.old → OnOk result (IsRightlyKept key self.new) }
         ensures anew { IsReached (pool_in self.old.pool)
             → OnOk result (AnewIfLent self.old self.new) }
+        ensures awaits { OnOk result (CleaningsWaitAt self.old self.new) }
     {
         let mut rest = piece;
         'taking: for _ in 0..piece.len() {
@@ -144,6 +145,7 @@ impl Relay {
         ensures right { IsRightlyKept key self.old → OnOk result (IsRightlyKept key self.new) }
         ensures anew { IsReached (pool_in self.old.pool)
             → OnOk result (AnewIfLent self.old self.new) }
+        ensures awaits { OnOk result (CleaningsWaitAt self.old self.new) }
     {
         let Some(application) = self.applications.get_mut(key) else {
             return Ok(piece.len());
@@ -197,6 +199,7 @@ impl Relay {
         ensures right { IsRightlyKept key self.old → OnOk result (IsRightlyKept key self.new) }
         ensures anew { IsReached (pool_in self.old.pool)
             → OnOk result (AnewIfLent self.old self.new) }
+        ensures awaits { OnOk result (CleaningsWaitAt self.old self.new) }
     {
         bytes_are_packets();
         match said {
@@ -243,6 +246,7 @@ impl Relay {
             (standing_in key self.new)) }
         ensures right { OnOk result (IsRightlyKept key self.new) }
         ensures answers { OnOk result (KeepsAnswers self.old.links.items self.new.links.items) }
+        ensures awaits { OnOk result (CleaningsWaitAt self.old self.new) }
     {
         match self.pool.hold_of(key) {
             Some(_) => self.start_kept(key),
@@ -283,6 +287,7 @@ impl Relay {
             (standing_in key self.new)) }
         ensures right { OnOk result (IsRightlyKept key self.new) }
         ensures answers { OnOk result (KeepsAnswers self.old.links.items self.new.links.items) }
+        ensures awaits { OnOk result (CleaningsWaitAt self.old self.new) }
     {
         let Some(application) = self.applications.get_mut(key) else {
             return Ok(());

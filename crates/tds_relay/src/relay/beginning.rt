@@ -1,12 +1,11 @@
 //! Requests that begin: asked, or kept for a connection.
-ghost use Rattle.std.specs.Prelude.{◌≡◌, ◌⊎◌, Bool, IfNone, None, IfSome, OnOk, Some};
-ghost use Rattle.std.specs.Prelude.{false, true};
+ghost use Rattle.std.specs.Prelude.{◌≡◌, ◌⊎◌, Bool, IfNone, None, IfSome, OnOk, Some, false, true};
 ghost use Rattle.slab.specs.Slab.{get};
 ghost use Rattle.tds_relay.specs.Asking.{IsTakenBack, IsUnderway, waits_of};
 ghost use Rattle.tds_client.specs.Streams.{packets_are};
 ghost use Rattle.tds_packet.specs.declared.status.Reset.TheVariants.{KeepTransaction};
-ghost use Rattle.tds_relay.specs.Bodies.{BeginsBody, BeginsFrom, Body, Spared, Starts, StartsInPlace};
-ghost use Rattle.tds_relay.specs.Bodies.{body_of, standing_in};
+ghost use Rattle.tds_relay.specs.Bodies.{BeginsBody, BeginsFrom, Body, Spared, Starts, StartsInPlace, body_of, standing_in};
+ghost use Rattle.tds_relay.specs.Cleaning.{CleaningsWaitAt};
 ghost use Rattle.tds_relay.specs.Closings.{ClosesOnly, IsNoRequest, register_in};
 ghost use Rattle.tds_relay.specs.Few.{IsSeated};
 ghost use Rattle.tds_relay.specs.Fronts.{Moved, ends_in, core_in};
@@ -17,8 +16,7 @@ ghost use Rattle.tds_relay.specs.Ordering.{opens_in};
 ghost use Rattle.tds_relay.specs.Places.{HasNoTransaction};
 ghost use Rattle.tds_relay.specs.Queues.{queues_in};
 ghost use Rattle.tds_relay.specs.Reads.{LinksStay};
-ghost use Rattle.tds_relay.specs.Reasons.{CannotBegin, CannotPart, HasTransaction};
-ghost use Rattle.tds_relay.specs.Reasons.{IsUnrenewed, ItselfFor};
+ghost use Rattle.tds_relay.specs.Reasons.{CannotBegin, CannotPart, HasTransaction, IsUnrenewed, ItselfFor};
 ghost use Rattle.tds_relay.specs.Ties.{Application, LedTo, IsReached, pool_in};
 ghost use Rattle.tds_relay.specs.TokenParsers.{AllStand};
 ghost use Rattle.tds_relay.specs.Sparing.{OthersRest};
@@ -32,8 +30,7 @@ use tds_packet::{Kind, Reset};
 
 impl Relay {
     /// A request begins. Where it asks for a reset itself, its application gives back what it holds; but
-    /// where the transaction is to stay, its connection stays too: whether there is one is known once the
-    /// server has acknowledged what was taken back before.
+    /// where the transaction is to stay, and one is open as far as is heard, its connection stays too.
     #[tactic(auto, using(crate::proofs::steps::Reaching::reaches_turn, crate::proofs::steps::Reaching::reaches_left, crate::proofs::steps::Queueing::kept_more, crate::proofs::steps::Queueing::queues_kept, crate::proofs::steps::Fronts::ends_more, crate::proofs::steps::Fronts::ends_kept, crate::proofs::steps::Staying::stays_refl, crate::proofs::steps::Underway::of_none))]
     pub(super) fn begin(
         &mut self,
@@ -69,6 +66,7 @@ impl Relay {
         ensures right { OnOk result (IsRightlyKept key self.new) }
         ensures anew { IsReached (pool_in self.old.pool)
             → OnOk result (AnewIfLent self.old self.new) }
+        ensures awaits { OnOk result (CleaningsWaitAt self.old self.new) }
     {
         let Some(application) = self.applications.get_mut(key) else {
             return Ok(());
@@ -146,6 +144,7 @@ impl Relay {
             → OnOk result (OthersKeepAt key self.old self.new) }
         ensures right { OnOk result (IsRightlyKept key self.new) }
         ensures answers { OnOk result (KeepsAnswers self.old.links.items self.new.links.items) }
+        ensures awaits { OnOk result (CleaningsWaitAt self.old self.new) }
     {
         if !self.has_nothing_out(key) {
             return self.expel(key);
@@ -192,6 +191,7 @@ impl Relay {
             (body_of key self.new)) }
         ensures anew { IsReached (pool_in self.old.pool)
             → OnOk result (AnewIfLent self.old self.new) }
+        ensures awaits { OnOk result (CleaningsWaitAt self.old self.new) }
     {
         match self.pool.renew(key)? {
             Renewed::Kept(hold) => {

@@ -1,6 +1,6 @@
 //! The first connection of all, which has come before any application asked.
 ghost use Rattle.std.specs.Prelude.{◌≡◌, IfNone, IfOk, IfSome, List, None, OnOk, Some};
-ghost use Rattle.std.specs.Prelude.{IsSome, true};
+ghost use Rattle.std.specs.Prelude.{[], IsSome, false, true};
 ghost use Rattle.tds_relay.specs.Cleaning.{CleaningWaits, CountsBrought, CountsSince, IsFirst, IsLentBy};
 ghost use Rattle.tds_relay.specs.Cleaning.{IsNotBrought, IsTooLong, LosesWaiting, cleaned_in};
 ghost use Rattle.tds_relay.specs.Closings.{ClosesOnly, IsWaiting};
@@ -10,9 +10,9 @@ ghost use Rattle.tds_relay.specs.Fronts.{ends_in, core_in, machine_in};
 ghost use Rattle.tds_relay.specs.Core.{holder};
 ghost use Rattle.tds_relay.specs.Machine.{Steps};
 ghost use Rattle.tds_relay.specs.Queues.{names_in, queues_in};
-ghost use Rattle.tds_relay.specs.Lent.{FirstStays};
+ghost use Rattle.tds_relay.specs.Lent.{FirstStays, IsMade};
 ghost use Rattle.tds_relay.specs.Reads.{IsCalled, OpensFirst};
-ghost use Rattle.tds_relay.specs.Reads.{open_waits, seen_at};
+ghost use Rattle.tds_relay.specs.Reads.{bytes_on, open_waits, seen_at};
 ghost use Rattle.tds_relay.specs.Ordering.{GrowsBrought, OpensAbove, OpensNew, StayOrdered};
 ghost use Rattle.tds_relay.specs.Sparing.{AllGo};
 ghost use Rattle.tds_relay.specs.Ties.{LedTo, IsReached, Neither};
@@ -26,7 +26,7 @@ use crate::link::Link;
 
 impl Relay {
     /// A connection that is open and logged in has come before any application asked: the first one of
-    /// all. It is cleaned first. Answers its number, or none where it isn't wanted.
+    /// all. It is cleaned first. Answers its number, or none where there are others, or the pool gave it up.
     #[tactic(auto, using(crate::proofs::steps::Reaching::reaches_turn, crate::proofs::steps::Reaching::reaches_turned, crate::proofs::lending::Resting::go_refl, crate::proofs::spared::Ordered::ordered_refl))]
     pub fn bring(&mut self, tag: usize) -> Result<Option<u64>, NoMemory>
         ensures goes { OnOk result (LedTo Neither (pool_in self.old.pool) (pool_in self.new.pool)) }
@@ -87,5 +87,16 @@ impl Relay {
         self.send_unheld(left.number)?;
         self.serve_line()?;
         Ok(Some(left.number))
+    }
+
+    pub(super) fn new_link(&self, number: u64) -> Result<Link, NoMemory>
+        ensures closed { IfOk result (λ link. link.is_open ≡ false) }
+        ensures number { IfOk result (λ link. link.number ≡ number) }
+        ensures unread { IfOk result (λ link. link.reader.taken ≡ []) }
+        ensures unnamed { IfOk result (λ link. link.tag ≡ None) }
+        ensures nothing { IfOk result (λ link. bytes_on link ≡ []) }
+        ensures made { IfOk result (IsMade self.now.size self.now.features) }
+    {
+        Link::new(self.alloc, number, self.size, self.features)
     }
 }

@@ -1,37 +1,30 @@
 //! What comes on connections.
-ghost use Rattle.std.specs.Prelude.{◌≡◌, ◌⊎◌, ◌≤◌, ◌+◌, ◌&&◌, [], ℕ, not, None, Some, drop, false};
-ghost use Rattle.std.specs.Prelude.{IfOk, IsSome, OnOk, length, true};
+ghost use Rattle.std.specs.Prelude.{◌≡◌, ◌⊎◌, ◌≤◌, ◌+◌, ◌&&◌, [], ℕ, not, None, Some, drop, false, IfOk, IsSome, OnOk, length, true};
+ghost use Rattle.tds_service.specs.Sizes.{KeepsSize};
 ghost use Rattle.tds_service.specs.Table.{reading_on};
-ghost use Rattle.tds_relay.specs.Lent.{Any, DialsNewAt, HearsAny, HearsGiven, ShutGiven, ShutStay};
+ghost use Rattle.tds_relay.specs.Lent.{Any, DialsNewAt, HearsAny, HearsGiven, ShutGiven, ShutStay, FirstKeeps, MayForget, PutsOnly};
 ghost use Rattle.tds_relay.specs.Apart.{LosesOnly, SparesOthers};
 ghost use Rattle.tds_relay.specs.Bodies.{AskAsBefore, Body, body_in};
-ghost use Rattle.tds_relay.specs.Cleaning.{CleansAlone, CleansOn, CountsGone, CountsLost, PutsByLease};
-ghost use Rattle.tds_relay.specs.Cleaning.{cleaned_in};
-ghost use Rattle.tds_relay.specs.Closings.{ClosesOnly, but_told, is_shut};
-ghost use Rattle.tds_relay.specs.Closings.{register_in, settings_in};
-ghost use Rattle.tds_relay.specs.Coming.{AllAlong, ComesAnew, ComesTold, ContinuesAnew, ContinuesTold};
-ghost use Rattle.tds_relay.specs.Coming.{StreamsAnew, StreamsTold, asking_in};
+ghost use Rattle.tds_relay.specs.Cleaning.{CleansAlone, CleansOn, CountsGone, CountsLost, PutsByLease, cleaned_in, CleaningsWaitAt, CleansNobodys};
+ghost use Rattle.tds_relay.specs.Closings.{ClosesOnly, but_told, is_shut, IsWho, register_in, settings_in};
+ghost use Rattle.tds_relay.specs.Coming.{AllAlong, ComesAnew, ComesTold, ContinuesAnew, ContinuesTold, StreamsAnew, StreamsTold, asking_in};
 ghost use Rattle.tds_relay.specs.Pool.{whose};
 ghost use Rattle.tds_relay.specs.Faults.{IsHeaderOf, IsRefusedOn};
 ghost use Rattle.tds_relay.specs.Few.{Few, HearsSeat, IsSeated, IsSeatedBehind, NobodyWaits, NoneNew};
-ghost use Rattle.tds_relay.specs.Fronts.{own_end, ends_in, core_in, told_by, machine_in, machine_of};
-ghost use Rattle.tds_relay.specs.Fronts.{machine_with};
+ghost use Rattle.tds_relay.specs.Fronts.{own_end, ends_in, core_in, told_by, machine_in, machine_of, machine_with};
 ghost use Rattle.tds_relay.specs.Core.{holder, end_told};
-ghost use Rattle.tds_relay.specs.Handing.{BringsPacket, HearsBy, IsKnown, KnowsOn, Passes, news_for, filled};
-ghost use Rattle.tds_relay.specs.Lent.{FirstKeeps, MayForget, PutsOnly};
+ghost use Rattle.tds_relay.specs.Handing.{BringsPacket, HearsBy, IsKnown, KnowsOn, Passes, filled, heard_key, news_for};
 ghost use Rattle.tds_relay.specs.Machine.{Steps};
 ghost use Rattle.tds_relay.specs.Reasons.{Cleans, IsHeardAs, IsIdle, IsLeftOpen, HearsNothing};
 ghost use Rattle.tds_relay.specs.Queues.{names_in, queue_of, queues_in};
 ghost use Rattle.tds_packet.specs.Stream.{IsLess};
-ghost use Rattle.tds_relay.specs.Reads.{BytesCome, IsLessAt, OpensOthers, StreamsAll};
-ghost use Rattle.tds_relay.specs.Reads.{answer_at, if_heard, open_at, open_waits, waits_on};
-ghost use Rattle.tds_relay.specs.Reads.{queue_on, seen_at};
+ghost use Rattle.tds_relay.specs.Reads.{BytesCome, IsLessAt, OpensOthers, StreamsAll, answer_at, if_heard, open_at, open_waits, waits_on, queue_on, seen_at};
 ghost use Rattle.tds_relay.specs.Told.{IsRoom};
 ghost use Rattle.tds_relay.specs.Ordering.{GrowsByOrders, OpensNew, StayOrdered, opens_in};
 ghost use Rattle.tds_relay.specs.Sending.{sending_at};
-ghost use Rattle.tds_relay.specs.Sparing.{OffGo, OffHold};
+ghost use Rattle.tds_relay.specs.Sparing.{OffGo, OffHold, ClientsStay};
 ghost use Rattle.tds_relay.specs.Ties.{Connection, LedTo, IsReached, pool_in};
-ghost use Rattle.tds_relay.specs.Waiting.{IsItsHolders, KeepsQueues, KeepsWaiting, HeardFor};
+ghost use Rattle.tds_relay.specs.Waiting.{HeardFor, IsItsHolders, KeepsQueues, KeepsWaiting, RestsForHolder};
 ghost use Rattle.tds_relay.specs.Waking.{HandsTo, IsWoken, PutsFor, Wakes};
 ghost use Rattle.tds_relay.specs.TokenParsers.{AllStand, HasRead, ReadsBy};
 
@@ -42,7 +35,7 @@ use crate::application::Application;
 use crate::fault::Refused;
 use crate::link::{Answer, Link, News};
 use crate::links::place_in;
-use crate::pool::{Heard, Pool, What};
+use crate::pool::{Heard, NOTHING, Pool, What};
 use crate::reading::reads_packets;
 use slab::Slab;
 use tds_packet::PacketRef;
@@ -91,6 +84,12 @@ impl Relay {
         ensures given { OnOk result (HearsGiven number self.old self.new) }
         ensures fresh { OnOk result (DialsNewAt self.old self.new) }
         ensures still { OnOk result (ShutGiven self.old self.new) }
+        ensures clients { IsReached (pool_in self.old.pool) → OnOk result
+            (ClientsStay (IsWho (holder (pool_in self.old.pool) number)) self.old self.new) }
+        ensures awaits { OnOk result (CleaningsWaitAt self.old self.new) }
+        ensures rests { IsSeated self.old
+            → OnOk result (RestsForHolder number self.old self.new) }
+        ensures sizes { OnOk result (KeepsSize self.old.pool.service self.new.pool.service) }
     {
         self.hear_all(number, piece)?;
         self.serve_line()
@@ -141,6 +140,7 @@ impl Relay {
             ((key : ℕ) → KeepsWaiting number self.old self.new key) }
         ensures given { OnOk result (HearsAny number self.old.links.items self.new.links.items) }
         ensures still { OnOk result (ShutStay Any self.old.links.items self.new.links.items) }
+        ensures awaits { OnOk result (CleaningsWaitAt self.old self.new) }
     {
         let mut rest = piece;
         'taking: for _ in 0..piece.len() + 1 {
@@ -210,6 +210,9 @@ impl Relay {
             self.new.outbox.items self.old.pool.service.given self.new.pool.service.given) }
         ensures given { OnOk result (HearsAny number self.old.links.items self.new.links.items) }
         ensures still { OnOk result (ShutStay Any self.old.links.items self.new.links.items) }
+        ensures newly { IsReached (pool_in self.old.pool) → IfOk result (λ heard.
+            CleansNobodys (heard_key heard.1) number [] self.new.outbox.items
+            (pool_in self.old.pool).service (pool_in self.new.pool).service) }
     {
         let Relay {
             pool,
@@ -230,11 +233,6 @@ impl Relay {
         hear_on(pool, applications, link, refused, number, outbox, piece)
     }
 }
-
-const NOTHING: Heard = Heard {
-    key: None,
-    what: What::Goes,
-};
 
 /// Takes bytes of this connection up to the end of a packet.
 fn hear_on(
@@ -279,6 +277,9 @@ fn hear_on(
         (MayForget number pool.old.holds.items pool.new.holds.items) }
     ensures leases { IfOk result (λ heard. IsLeftOpen heard.1 → PutsByLease outbox.old.items
         outbox.new.items pool.old.service.given pool.new.service.given) }
+    ensures newly { IsReached (pool_in pool.old) → IfOk result (λ heard. CleansNobodys
+        (heard_key heard.1) number outbox.old.items outbox.new.items (pool_in pool.old).service
+        (pool_in pool.new).service) }
 {
     let count = match link.reader.feed(piece) {
         Ok(count) => count,
@@ -327,6 +328,9 @@ fn hear_packet(
         (MayForget number pool.old.holds.items pool.new.holds.items) }
     ensures leases { IfOk result (λ heard. IsLeftOpen (Some heard) → PutsByLease outbox.old.items
         outbox.new.items pool.old.service.given pool.new.service.given) }
+    ensures newly { IsReached (pool_in pool.old) → IfOk result (λ heard. CleansNobodys
+        heard.key number outbox.old.items outbox.new.items (pool_in pool.old).service
+        (pool_in pool.new).service) }
 {
     let Some(packet) = link.reader.packet() else {
         return Ok(NOTHING);

@@ -1,6 +1,7 @@
 //! Applications of which nothing more is taken.
 ghost use Rattle.std.specs.Prelude.{◌≡◌, None, OnOk, false};
 ghost use Rattle.tds_relay.specs.Bodies.{AskOn};
+ghost use Rattle.tds_relay.specs.Cleaning.{CleaningsWaitAt};
 ghost use Rattle.tds_relay.specs.Lent.{KeepsAnswers, OthersKeepAt};
 ghost use Rattle.tds_relay.specs.Few.{IsSeated};
 ghost use Rattle.tds_relay.specs.Fronts.{Moved, ends_in, core_in, core_of_ends};
@@ -42,6 +43,7 @@ impl Relay {
         ensures aside { IsReached (pool_in self.old.pool)
             → OnOk result (OthersKeepAt key self.old self.new) }
         ensures answers { OnOk result (KeepsAnswers self.old.links.items self.new.links.items) }
+        ensures awaits { OnOk result (CleaningsWaitAt self.old self.new) }
     {
         self.expel_for(key, None)
     }
@@ -71,6 +73,7 @@ impl Relay {
         ensures aside { IsReached (pool_in self.old.pool)
             → OnOk result (OthersKeepAt key self.old self.new) }
         ensures answers { OnOk result (KeepsAnswers self.old.links.items self.new.links.items) }
+        ensures awaits { OnOk result (CleaningsWaitAt self.old self.new) }
     {
         self.end_for(key, why)?;
         self.release(key)

@@ -1,22 +1,18 @@
 //! What is done behind a packet that was heard.
-ghost use Rattle.std.specs.Prelude.{◌≡◌, ℕ, None, Some};
-ghost use Rattle.std.specs.Prelude.{IsNone, OnOk};
-ghost use Rattle.tds_relay.specs.Waiting.{RestsElse};
+ghost use Rattle.std.specs.Prelude.{◌≡◌, ℕ, None, Some, IsNone, OnOk};
+ghost use Rattle.tds_relay.specs.Waiting.{RestsElse, KeepsHeard, LosesAt};
 ghost use Rattle.tds_relay.specs.Apart.{SparesOthers};
 ghost use Rattle.tds_relay.specs.Cleaning.{CountsHeard};
-ghost use Rattle.tds_relay.specs.Closings.{ClosesOnly};
-ghost use Rattle.tds_relay.specs.Closings.{register_in};
+ghost use Rattle.tds_relay.specs.Closings.{ClosesOnly, register_in};
 ghost use Rattle.tds_relay.specs.Coming.{AllAlong, AskAsTold, BeginAnyIf, acknowledged_in, asking_in};
 ghost use Rattle.tds_relay.specs.Few.{IsSeated, IsSeatedBehind};
 ghost use Rattle.tds_relay.specs.Fronts.{Moved, ends_in, core_in, core_of_ends, told_by};
 ghost use Rattle.tds_relay.specs.Handing.{heard_key};
 ghost use Rattle.tds_relay.specs.Queues.{queues_in};
-ghost use Rattle.tds_relay.specs.Reads.{LinksStay};
-ghost use Rattle.tds_relay.specs.Reads.{FillsBy, reader_at, waits_on};
+ghost use Rattle.tds_relay.specs.Reads.{LinksStay, FillsBy, reader_at, waits_on};
 ghost use Rattle.tds_relay.specs.Ordering.{StayOrdered, opens_in};
 ghost use Rattle.tds_relay.specs.Sparing.{OffGo};
 ghost use Rattle.tds_relay.specs.Ties.{Connection, LedTo, IsReached, pool_in};
-ghost use Rattle.tds_relay.specs.Waiting.{KeepsHeard, LosesAt};
 ghost use Rattle.tds_relay.specs.Waking.{HandsTo, IsWoken};
 ghost use Rattle.tds_relay.specs.TokenParsers.{AllStand};
 
@@ -27,7 +23,7 @@ use crate::pool::{Heard, What};
 impl Relay {
     /// What came of a packet is done; a header that isn't one loses its connection.
     pub(super) fn heard(&mut self, number: u64, heard: Option<Heard>) -> Result<(), NoMemory>
-        ensures goes { OnOk result (LedTo (Connection number)
+        ensures goes { OnOk result ((other : ℕ) → LedTo (Connection other)
             (pool_in self.old.pool) (pool_in self.new.pool)) }
         ensures kept { OnOk result (queues_in self.new.applications
             ≡ queues_in self.old.applications) }
@@ -73,7 +69,7 @@ impl Relay {
     /// What came of a packet is done.
     #[tactic(auto, using(crate::proofs::steps::Staying::stays_both, crate::proofs::bytes::Calls::stand_back, crate::proofs::spared::Ordered::ordered_both, crate::proofs::seats::Relays::kept_seated, crate::proofs::spared::Coming::told_along, crate::proofs::steps::Answering::told_on, crate::proofs::steps::Answering::told_more, crate::proofs::steps::Answering::told_same))]
     fn heard_packet(&mut self, number: u64, heard: Heard) -> Result<(), NoMemory>
-        ensures goes { OnOk result (LedTo (Connection number)
+        ensures goes { OnOk result ((other : ℕ) → LedTo (Connection other)
             (pool_in self.old.pool) (pool_in self.new.pool)) }
         ensures kept { OnOk result (queues_in self.new.applications
             ≡ queues_in self.old.applications) }

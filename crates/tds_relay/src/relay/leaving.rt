@@ -1,12 +1,11 @@
 //! Applications that leave, and connections that are lost.
 ghost use Rattle.std.specs.Prelude.{◌≡◌, ◌≢◌, ℕ, None, OnOk, Some, slice_set};
 ghost use Rattle.slab.specs.Slab.{get};
-ghost use Rattle.tds_relay.specs.Lent.{DialsNewAt, KeepsGiven, OffRest};
+ghost use Rattle.tds_relay.specs.Lent.{DialsNewAt, KeepsGiven, OffRest, IsLetGo, IsOnItsOwn, OthersKeepAt, PutsOnly, AllLastBut, KeepsAnswers, LastBesides};
 ghost use Rattle.tds_relay.specs.Apart.{Alone, LendsInTurn, LosesOnly};
 ghost use Rattle.tds_relay.specs.Bodies.{AskAsBefore, AskOn, Body, Closed, body_in};
-ghost use Rattle.tds_relay.specs.Cleaning.{CountsAtEnd, CountsHold, CountsSinceEnd, OfItsHold, WaitsAtEnd, WaitsSinceEnd, cleaned_in};
+ghost use Rattle.tds_relay.specs.Cleaning.{CleaningsWaitAt, CountsAtEnd, CountsHold, CountsSinceEnd, OfItsHold, WaitsAtEnd, WaitsSinceEnd, cleaned_in};
 ghost use Rattle.tds_relay.specs.Pool.{Loses, find_key, find_number, key_of, turn, without, without_number};
-ghost use Rattle.tds_relay.specs.Lent.{IsLetGo, IsOnItsOwn, OthersKeepAt, PutsOnly, AllLastBut, KeepsAnswers, LastBesides};
 ghost use Rattle.tds_relay.specs.Few.{Few, IsSeated, IsSeatedOff, NobodyWaits, TakenOut};
 ghost use Rattle.tds_relay.specs.Fronts.{LetsGoFirst, MovedOn, ends_in, core_in, machine_in};
 ghost use Rattle.tds_relay.specs.Core.{change_end, change_whose, closes, closes_for, holder, lets_go};
@@ -18,7 +17,7 @@ ghost use Rattle.tds_relay.specs.Places.{held_by};
 ghost use Rattle.tds_relay.specs.Queues.{names_in, queues_in};
 ghost use Rattle.tds_relay.specs.Ordering.{GrowsByOrders, OpensNew, StayOrdered, opens_in};
 ghost use Rattle.tds_relay.specs.Reads.{Opens, LinksStay, queue_on, reader_at, waits_on};
-ghost use Rattle.tds_relay.specs.Sparing.{AllGo, AllRest, OthersRest};
+ghost use Rattle.tds_relay.specs.Sparing.{AllGo, AllRest, OthersRest, ClientsStay};
 ghost use Rattle.tds_relay.specs.Ties.{Application, LedOn, IsReached, Leaving, pool_in};
 ghost use Rattle.tds_relay.specs.TokenParsers.{AllStand};
 
@@ -68,6 +67,9 @@ impl Relay {
             self.old self.new) }
         ensures given { OnOk result (KeepsGiven self.old self.new) }
         ensures fresh { OnOk result (DialsNewAt self.old self.new) }
+        ensures clients { IsReached (pool_in self.old.pool)
+            → OnOk result (ClientsStay (Itself key) self.old self.new) }
+        ensures awaits { OnOk result (CleaningsWaitAt self.old self.new) }
     {
         let _ = self.applications.try_remove(key).is_some();
         self.release(key)?;
@@ -107,6 +109,8 @@ impl Relay {
             → OnOk result (PutsOnly (λ other. other ≡ number) self.old self.new) }
         ensures given { OnOk result (KeepsGiven self.old self.new) }
         ensures fresh { OnOk result (DialsNewAt self.old self.new) }
+        ensures clients { IsReached (pool_in self.old.pool)
+            → OnOk result (ClientsStay NoKey self.old self.new) }
     {
         self.lose(number)?;
         self.serve_line()
@@ -201,6 +205,7 @@ impl Relay {
         ensures frees { IsReached (pool_in self.old.pool) → OnOk result
             (IsLetGo key self.old.pool.holds.items self.new.pool.holds.items) }
         ensures answers { OnOk result (KeepsAnswers self.old.links.items self.new.links.items) }
+        ensures awaits { OnOk result (CleaningsWaitAt self.old self.new) }
     {
         self.outbox.clear();
         let left = self.pool.leave(key, &mut self.outbox)?;

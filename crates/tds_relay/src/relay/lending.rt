@@ -1,7 +1,7 @@
 //! Connections that are lent to those who wait, opened, and asked.
 ghost use Rattle.std.specs.Prelude.{◌≡◌, ◌≢◌, ◌⊎◌, ◌++◌, ◌<◌, ◌≤◌, [], ℕ, Bool, IfOk, List, None, OnOk, Some, false, length, option_map, true};
 ghost use Rattle.slab.specs.Slab.{get};
-ghost use Rattle.tds_relay.specs.Lent.{AllLast, AnewIfLent, Any, BeginsOn, DialsNewAt, FirstKeeps, GivenStay, IsMade, IsMadeOn, IsOnItsOwn, IsWithHolder, KeepsAnswers, KeepsGiven, LastBut, LendsInLine, OffRest, OpensGiven, PutsOnly, ShutGiven, ShutRest, ShutStay, StaysDialledAt, seen_in};
+ghost use Rattle.tds_relay.specs.Lent.{AllLast, AnewIfLent, Any, BeginsOn, DialsNewAt, FirstKeeps, GivenStay, IsMadeOn, IsOnItsOwn, IsWithHolder, KeepsAnswers, KeepsGiven, LastBut, LendsInLine, OffRest, OpensGiven, PutsOnly, ShutGiven, ShutRest, ShutStay, StaysDialledAt, seen_in};
 ghost use Rattle.tds_relay.specs.Apart.{Alone, AloneWho, LendsAfter, LendsInTurn, UnlessServed};
 ghost use Rattle.tds_relay.specs.Asking.{HasBegun, IsUnderway, waits_of};
 ghost use Rattle.tds_relay.specs.Bodies.{AskAsBefore, AskOn, Grows, Starts, GoesFrom, body_of, going_of, held_of, standing_in};
@@ -11,15 +11,15 @@ ghost use Rattle.tds_relay.specs.Few.{Few, FewBy, IsSeated, IsSeatedIf, NobodyWa
 ghost use Rattle.tds_relay.specs.Fronts.{MovedOn, ends_in, core_in, machine_in};
 ghost use Rattle.tds_relay.specs.Core.{IsReset, end_at, holder};
 ghost use Rattle.tds_relay.specs.Machine.{StepsOn};
-ghost use Rattle.tds_relay.specs.Waiting.{GoesOrWaits, IsUnheldOrTurnedAway, IsLentInVain, OpensOrLends};
+ghost use Rattle.tds_relay.specs.Waiting.{GoesOrWaits, IsUnheldOrTurnedAway, IsLentInVain, OpensOrLends, RestsForHolder, RestsIfStill};
 ghost use Rattle.tds_relay.specs.Queues.{names_in, queues_in};
 ghost use Rattle.tds_relay.specs.Cutting.{at_its_beginning};
-ghost use Rattle.tds_relay.specs.Reads.{Opens, OpensOne, LinksStay, StaysAt, answer_at, named_seen, open_at, bytes_on, link_at, opened_at, opened_seen, queue_on, seen_at, waits_on};
+ghost use Rattle.tds_relay.specs.Reads.{Opens, OpensOne, LinksStay, StaysAt, answer_at, named_seen, open_at, link_at, opened_at, opened_seen, queue_on, seen_at, waits_on};
 ghost use Rattle.tds_relay.specs.Ordering.{GrowsByOrders, OpensNew, StayOrdered, opens_if, opens_in};
 ghost use Rattle.tds_relay.specs.Reasons.{CannotPut, CannotStartAt, HasNoRoom, IsTurnedAwayAt, IsUnheld, ItselfFor};
 ghost use Rattle.tds_relay.specs.Sending.{IsToWrite, called_at};
 ghost use Rattle.tds_relay.specs.Coming.{AskOrGo, MayBeginAny};
-ghost use Rattle.tds_relay.specs.Sparing.{AllGo, AllRest, AwayRest, IsHeldBack, IsKept, IsUnkept, OthersRest, StartsOn, StartsThere};
+ghost use Rattle.tds_relay.specs.Sparing.{AllGo, AllRest, AwayRest, IsHeldBack, IsKept, IsUnkept, OthersRest, StartsOn, StartsThere, ClientsStay};
 ghost use Rattle.tds_relay.specs.Taking.{IsDeaf};
 ghost use Rattle.tds_relay.specs.Ties.{LedTo, LedOn, IsReached, pool_in};
 ghost use Rattle.tds_relay.specs.Told.{TellsTheSame};
@@ -29,24 +29,12 @@ ghost use Rattle.tds_relay.specs.Cleaning.{cleaned_in};
 use super::Relay;
 use super::putting::unless_memory;
 use crate::NoMemory;
-use crate::link::Link;
 use crate::links::{restart, set_open, set_tag};
 use crate::order::Order;
 use crate::pool::Served;
 use crate::state::Asking;
 
 impl Relay {
-    pub(super) fn new_link(&self, number: u64) -> Result<Link, NoMemory>
-        ensures closed { IfOk result (λ link. link.is_open ≡ false) }
-        ensures number { IfOk result (λ link. link.number ≡ number) }
-        ensures unread { IfOk result (λ link. link.reader.taken ≡ []) }
-        ensures unnamed { IfOk result (λ link. link.tag ≡ None) }
-        ensures nothing { IfOk result (λ link. bytes_on link ≡ []) }
-        ensures made { IfOk result (IsMade self.now.size self.now.features) }
-    {
-        Link::new(self.alloc, number, self.size, self.features)
-    }
-
     /// The connection of this number is being opened, and is called so.
     pub fn opening(&mut self, number: u64, tag: usize)
         ensures pool { self.new.pool ≡ self.old.pool }
@@ -99,6 +87,10 @@ impl Relay {
             (core_in self.old) (core_in self.new)) }
         ensures given { OnOk result (OpensGiven number self.old self.new) }
         ensures fresh { OnOk result (DialsNewAt self.old self.new) }
+        ensures clients { IsReached (pool_in self.old.pool) → OnOk result
+            (ClientsStay (IsWho (holder (pool_in self.old.pool) number)) self.old self.new) }
+        ensures rests { IsReached (pool_in self.old.pool)
+            → OnOk result (RestsForHolder number self.old self.new) }
     {
         self.set_open(number);
         self.order_write_on(number)?;
@@ -159,6 +151,9 @@ impl Relay {
             (FirstKeeps (IsWithHolder number self.old) self.old self.new) }
         ensures alone { OnOk result (AloneWho (holder (pool_in self.old.pool) number)
             (core_in self.old) (core_in self.new)) }
+        ensures clients { IsReached (pool_in self.old.pool) → OnOk result
+            (ClientsStay (IsWho (holder (pool_in self.old.pool) number)) self.old self.new) }
+        ensures rests { OnOk result (RestsIfStill number self.old self.new) }
     {
         match self.pool.key_on(number) {
             Some(key) => self.start_kept(key),
@@ -232,13 +227,11 @@ impl Relay {
         ensures stand { OnOk result (AllStand self.old.pool.service self.new.pool.service) }
         ensures goes_on { OnOk result (AllGo self.old self.new) }
         ensures asks { OnOk result (AskOrGo self.old.applications self.new.applications) }
-        ensures alone { OnOk result (Alone served.hold.key (core_in self.old)
-            (core_in self.new)) }
+        ensures alone { OnOk result (Alone served.hold.key (core_in self.old) (core_in self.new)) }
         ensures ordered { OnOk result (StayOrdered self.old.orders.items self.new.orders.items) }
         ensures begins { served.had ≡ true → OnOk result (BeginsOn served.hold.number
             self.old.links.items self.new.links.items) }
-        ensures made { served.had ≡ false
-            → link_at served.hold.number self.old.links.items ≡ None
+        ensures made { served.had ≡ false → link_at served.hold.number self.old.links.items ≡ None
             → OnOk result (IsMadeOn self.old.size self.old.features served.hold.number
             self.new.links.items) }
         ensures closes { OnOk result (ClosesOnly

@@ -12,7 +12,7 @@ ghost use Rattle.tds_relay.specs.Fronts.{MovedOn, ends_in, core_in};
 ghost use Rattle.tds_relay.specs.Ordering.{GrowsByOrders, OpensNew, StayOrdered};
 ghost use Rattle.tds_relay.specs.Queues.{queues_in};
 ghost use Rattle.tds_relay.specs.Reads.{Opens};
-ghost use Rattle.tds_relay.specs.Sparing.{AllGo};
+ghost use Rattle.tds_relay.specs.Sparing.{AllGo, ClientsStay};
 ghost use Rattle.tds_relay.specs.Ties.{LedOn, IsReached, pool_in};
 ghost use Rattle.tds_relay.specs.TokenParsers.{AllStand};
 
@@ -50,6 +50,8 @@ impl Relay {
             → OnOk result (PutsOnly NoKey self.old self.new) }
         ensures given { OnOk result (KeepsGiven self.old self.new) }
         ensures fresh { OnOk result (DialsNewAt self.old self.new) }
+        ensures clients { IsReached (pool_in self.old.pool)
+            → OnOk result (ClientsStay NoKey self.old self.new) }
     {
         self.most = most;
         self.serve_line()

@@ -1,22 +1,20 @@
 //! Applications that are parked: each is parted from its connection at rest, for those who wait.
 ghost use Rattle.std.specs.Prelude.{◌≡◌, OnOk, IfOk, false, true, Some};
-ghost use Rattle.tds_relay.specs.Lent.{DialsNewAt, KeepsGiven};
+ghost use Rattle.tds_relay.specs.Lent.{DialsNewAt, KeepsGiven, LastBesides, PutsOnly};
 ghost use Rattle.tds_relay.specs.Apart.{LendsInTurn, UnlessServed};
-ghost use Rattle.tds_relay.specs.Cleaning.{CountsHold, CountsSinceEnd, WaitsSinceEnd, cleaned_in};
-ghost use Rattle.tds_relay.specs.Closings.{ClosesOnly, IsWaiting, register_in};
+ghost use Rattle.tds_relay.specs.Cleaning.{CountsHold, CountsSinceEnd, WaitsSinceEnd, cleaned_in, CleaningsWaitAt};
+ghost use Rattle.tds_relay.specs.Closings.{ClosesOnly, IsWaiting, register_in, Itself};
 ghost use Rattle.tds_relay.specs.Pool.{Sharing, find_key, without};
-ghost use Rattle.tds_relay.specs.Lent.{LastBesides, PutsOnly};
 ghost use Rattle.tds_relay.specs.Waiting.{IsLentByParting};
 ghost use Rattle.tds_relay.specs.Few.{Few, IsSeated, NobodyWaits};
-ghost use Rattle.tds_relay.specs.Fronts.{ends_in, core_in, machine_in};
+ghost use Rattle.tds_relay.specs.Fronts.{ends_in, core_in, machine_in, may_park_in};
 ghost use Rattle.tds_relay.specs.Core.{IsThereAndAway, change_end, holder, lets_go};
 ghost use Rattle.tds_relay.specs.Machine.{IsLedTo, Steps};
 ghost use Rattle.tds_relay.specs.Ordering.{GrowsByOrders, OpensNew, StayOrdered};
-ghost use Rattle.tds_relay.specs.Fronts.{may_park_in};
 ghost use Rattle.tds_relay.specs.Places.{held_by};
 ghost use Rattle.tds_relay.specs.Queues.{queues_in};
 ghost use Rattle.tds_relay.specs.Reads.{Opens};
-ghost use Rattle.tds_relay.specs.Sparing.{AllGo};
+ghost use Rattle.tds_relay.specs.Sparing.{AllGo, ClientsStay};
 ghost use Rattle.tds_relay.specs.Ties.{Application, LedTo, IsReached, Leaving, Parking, pool_in};
 ghost use Rattle.tds_relay.specs.TokenParsers.{AllStand};
 
@@ -79,6 +77,9 @@ impl Relay {
             self.old self.new) }
         ensures given { OnOk result (KeepsGiven self.old self.new) }
         ensures fresh { OnOk result (DialsNewAt self.old self.new) }
+        ensures clients { IsReached (pool_in self.old.pool)
+            → OnOk result (ClientsStay (Itself key) self.old self.new) }
+        ensures awaits { OnOk result (CleaningsWaitAt self.old self.new) }
     {
         if !self.may_park(key) {
             return Ok(false);

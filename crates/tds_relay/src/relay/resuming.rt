@@ -1,7 +1,7 @@
 //! What an application that took its request back asks next, once the server has acknowledged that.
 ghost use Rattle.std.specs.Prelude.{◌≡◌, ℕ, false, true, None, OnOk, Some};
 ghost use Rattle.tds_packet.specs.declared.status.Reset.TheVariants.{KeepTransaction};
-ghost use Rattle.tds_relay.specs.Lent.{ShutElse};
+ghost use Rattle.tds_relay.specs.Lent.{ShutElse, FirstKeeps};
 ghost use Rattle.tds_relay.specs.Apart.{SparesOthers};
 ghost use Rattle.tds_relay.specs.Bodies.{body_of};
 ghost use Rattle.tds_relay.specs.Cleaning.{cleaned_in};
@@ -9,7 +9,6 @@ ghost use Rattle.tds_relay.specs.Closings.{ClosesOnly, IsWho, register_in};
 ghost use Rattle.tds_relay.specs.Coming.{AllAlong, AskOrGo, MayBeginAny};
 ghost use Rattle.tds_relay.specs.Fronts.{Moved, ends_in, core_in};
 ghost use Rattle.tds_relay.specs.Core.{AsksFor, IfOpen, IfWhose, IsBegun, MayPart, end_at, holder};
-ghost use Rattle.tds_relay.specs.Lent.{FirstKeeps};
 ghost use Rattle.tds_relay.specs.Ordering.{StayOrdered, opens_in};
 ghost use Rattle.tds_relay.specs.Queues.{queues_in};
 ghost use Rattle.tds_relay.specs.Reads.{LinksStay};
@@ -27,7 +26,7 @@ use crate::pool::Renewed;
 impl Relay {
     /// The server has acknowledged that an application's request was taken back: its next one goes on.
     pub(super) fn resume(&mut self, number: u64, key: usize) -> Result<(), NoMemory>
-        ensures goes { OnOk result (LedTo (Connection number)
+        ensures goes { OnOk result ((other : ℕ) → LedTo (Connection other)
             (pool_in self.old.pool) (pool_in self.new.pool)) }
         ensures kept { OnOk result (queues_in self.new.applications
             ≡ queues_in self.old.applications) }
@@ -80,7 +79,7 @@ impl Relay {
     /// The application keeps its connection with its transaction, for a request that has waited.
     #[tactic(auto, using(crate::proofs::steps::Reaching::reaches_turn))]
     fn keep(&mut self, number: u64, key: usize) -> Result<(), NoMemory>
-        ensures goes { OnOk result (LedTo (Connection number)
+        ensures goes { OnOk result ((other : ℕ) → LedTo (Connection other)
             (pool_in self.old.pool) (pool_in self.new.pool)) }
         ensures kept { OnOk result (queues_in self.new.applications
             ≡ queues_in self.old.applications) }
@@ -124,7 +123,7 @@ impl Relay {
     /// for another, if it may be parted from it.
     #[tactic(auto, using(crate::proofs::steps::Reaching::reaches_turn))]
     fn replace(&mut self, number: u64) -> Result<(), NoMemory>
-        ensures goes { OnOk result (LedTo (Connection number)
+        ensures goes { OnOk result ((other : ℕ) → LedTo (Connection other)
             (pool_in self.old.pool) (pool_in self.new.pool)) }
         ensures kept { OnOk result (queues_in self.new.applications
             ≡ queues_in self.old.applications) }

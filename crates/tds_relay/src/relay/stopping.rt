@@ -1,12 +1,10 @@
 //! What applications take back: requests that are forgotten, and attentions.
 ghost use Rattle.slab.specs.Slab.{get};
-ghost use Rattle.std.specs.Prelude.{◌≡◌, ◌⊎◌, [], ℕ, IfNone, IfOk, IfSome, List, OnOk, Some, false};
-ghost use Rattle.std.specs.Prelude.{true};
+ghost use Rattle.std.specs.Prelude.{◌≡◌, ◌⊎◌, [], ℕ, IfNone, IfOk, IfSome, List, OnOk, Some, false, true};
 ghost use Rattle.tds_front.specs.declared.front.Said.TheVariants.{Forget, HandOn};
 ghost use Rattle.tds_relay.specs.Anew.{AsksNothing};
-ghost use Rattle.tds_relay.specs.Bodies.{AskAsBefore, AskOn, Body, Halts, IsStoppedOnce, IsHalting, IsUnsent};
-ghost use Rattle.tds_relay.specs.Bodies.{Nowhere, Spared, Starts, StopsOn, body_in, body_of};
-ghost use Rattle.tds_relay.specs.Bodies.{PutsNothing, going_of, standing_in};
+ghost use Rattle.tds_relay.specs.Bodies.{AskAsBefore, AskOn, Body, Halts, IsStoppedOnce, IsHalting, IsUnsent, Nowhere, Spared, Starts, StopsOn, body_in, body_of, PutsNothing, going_of, standing_in};
+ghost use Rattle.tds_relay.specs.Cleaning.{CleaningsWaitAt};
 ghost use Rattle.tds_relay.specs.Closings.{ClosesOnly, NoKey, register_in};
 ghost use Rattle.tds_relay.specs.Pool.{Does, Stops, Unwaits, find_key};
 ghost use Rattle.tds_relay.specs.declared.pool.Hold.{Hold};
@@ -16,8 +14,7 @@ ghost use Rattle.tds_relay.specs.Lent.{KeepsAnswers, OthersKeepAt};
 ghost use Rattle.tds_relay.specs.Waiting.{IsRightlyKept};
 ghost use Rattle.tds_relay.specs.Queues.{acknowledgement, give, queue_at, queues_in};
 ghost use Rattle.tds_relay.specs.Reads.{LinksStay};
-ghost use Rattle.tds_relay.specs.Reasons.{CannotForget, CannotStop, CannotUnask, HasNoRoom};
-ghost use Rattle.tds_relay.specs.Reasons.{IsOverfull, IsUnheld, IsUnstopped, ItselfFor};
+ghost use Rattle.tds_relay.specs.Reasons.{CannotForget, CannotStop, CannotUnask, HasNoRoom, IsOverfull, IsUnheld, IsUnstopped, ItselfFor};
 ghost use Rattle.tds_relay.specs.Sparing.{OthersRest};
 ghost use Rattle.tds_relay.specs.Ties.{Application, LedTo, LedOn, IsReached, Turns, pool_in};
 ghost use Rattle.tds_relay.specs.TokenParsers.{AllStand};
@@ -64,6 +61,7 @@ impl Relay {
         ensures puts { OnOk result (PutsNothing (standing_in key self.old)
             (standing_in key self.new)) }
         ensures answers { OnOk result (KeepsAnswers self.old.links.items self.new.links.items) }
+        ensures awaits { OnOk result (CleaningsWaitAt self.old self.new) }
     {
         let was_asked = self.forget_request(key);
         if was_asked { self.unask(key) } else { Ok(()) }
@@ -89,6 +87,7 @@ impl Relay {
         ensures unasked { result ≡ false
             → (goes : Body) → IsUnsent (body_in (get self.old.applications key) goes) }
         ensures opening { opens_in self.new.orders.items ≡ opens_in self.old.orders.items }
+        ensures awaits { CleaningsWaitAt self.old self.new }
     {
         self.pool.unwait(key);
         let Some(application) = self.applications.get_mut(key) else {
@@ -125,6 +124,7 @@ impl Relay {
         ensures aside { IsReached (pool_in self.old.pool)
             → OnOk result (OthersKeepAt key self.old self.new) }
         ensures answers { OnOk result (KeepsAnswers self.old.links.items self.new.links.items) }
+        ensures awaits { OnOk result (CleaningsWaitAt self.old self.new) }
     {
         if !self.has_nothing_out(key) {
             return self.expel(key);
@@ -167,6 +167,7 @@ impl Relay {
         ensures aside { IsReached (pool_in self.old.pool)
             → OnOk result (OthersKeepAt key self.old self.new) }
         ensures answers { OnOk result (KeepsAnswers self.old.links.items self.new.links.items) }
+        ensures awaits { OnOk result (CleaningsWaitAt self.old self.new) }
     {
         let _ = self.forget_request(key);
         match self.stop(key)? {
@@ -202,6 +203,7 @@ impl Relay {
         ensures seated { IsSeated self.old → IsSeated self.new }
         ensures opening { opens_in self.new.orders.items ≡ opens_in self.old.orders.items }
         ensures holds { self.new.pool.holds.items ≡ self.old.pool.holds.items }
+        ensures awaits { CleaningsWaitAt self.old self.new }
     {
         self.outbox.clear();
         match self.pool.cancel(key, &mut self.outbox) {
@@ -282,6 +284,7 @@ impl Relay {
             → OnOk result (OthersKeepAt key self.old self.new) }
         ensures right { IsRightlyKept key self.old → OnOk result (IsRightlyKept key self.new) }
         ensures answers { OnOk result (KeepsAnswers self.old.links.items self.new.links.items) }
+        ensures awaits { OnOk result (CleaningsWaitAt self.old self.new) }
     {
         match self.stop(key)? {
             Some(number) => self.send_stop(key, number),

@@ -1,10 +1,9 @@
-use Rattle.std.proofs.Common.{◌≡◌, ◌∙◌, None, ap, false, if◌then◌else◌, rules}
+use Rattle.std.proofs.Common.{◌≡◌, ◌∙◌, ap, false, rules}
 use Rattle.tds_front.specs.declared.front.Front.{Front}
-use Rattle.tds_relay.specs.Core.{End, Open, Over}
 use Rattle.tds_front.specs.Rules as fronts
 use Rattle.tds_relay.proofs.steps.States.{acknowledged_end, end_with}
 use Rattle.tds_relay.proofs.application.Application.acknowledged.Goals as goal
-use Rattle.tds_relay.specs.Places.{is_closed, own_fault, own_reset, took_back}
+use Rattle.tds_relay.specs.Places.{took_back}
 
 pub returns-clause-end : goal.returns-clause-end
 returns-clause-end c =

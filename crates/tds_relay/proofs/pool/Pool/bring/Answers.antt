@@ -9,10 +9,10 @@ use Rattle.tds_relay.proofs.steps.Made.{brought_turns}
 use Rattle.tds_relay.proofs.pool.Pool.bring.Goals as goal
 
 pub returns-clause-stand : goal.returns-clause-stand
-returns-clause-stand c = λ n r h. c.in_ok-is_there.ensures.stand n r (lease_stand c.args.self.now.service c.lease.new.self c.in-Ok.lent.lease c.in-Ok.lent.number _ c.in-Ok.lent.had _ _ c.in-Ok.ensures.ok c.in-Ok.ensures.makes c.in-Ok.ensures.keeps c.in-Ok.ensures.begins n r h)
+returns-clause-stand c = λ n r h. c.in_ok-is_there.ensures.stand n r (lease_stand c.args.self.now.service c.lease.new.self c.in-Ok.lent.lease c.in-Ok.lent.number _ c.in-Ok.lent.had _ _ c.in-Ok.ensures.ok c.in-Ok.ensures.makes c.in-Ok.ensures.sizes c.in-Ok.ensures.keeps c.in-Ok.ensures.begins n r h)
 
 pub returns-in-Err-clause-stand : goal.returns-in-Err-clause-stand
-returns-in-Err-clause-stand c = same_stand c.args.self.now.service c.lease.new.self c.in-Err.ensures.err c.in-Err.ensures.makes c.in-Err.ensures.keeps
+returns-in-Err-clause-stand c = same_stand c.args.self.now.service c.lease.new.self c.in-Err.ensures.err c.in-Err.ensures.makes c.in-Err.ensures.sizes c.in-Err.ensures.keeps
 
 pub returns-clause-cleans : goal.returns-clause-cleans
 returns-clause-cleans c = λ reached there.

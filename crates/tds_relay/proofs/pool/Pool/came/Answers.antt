@@ -26,8 +26,9 @@ use Rattle.tds_relay.proofs.seats.Rests.{came_on, heard_stays, kept_stays}
 use Rattle.tds_relay.proofs.spared.Aside.{came_off, held_same, kept_off, led_at, lost_held}
 use Rattle.tds_relay.proofs.spared.Cleaned.{nobodys}
 use Rattle.tds_relay.specs.Holding.{Held as Holds}
-use Rattle.tds_relay.specs.Cleaning.{PutsByLease}
+use Rattle.tds_relay.specs.Cleaning.{PutsByLease, IsCleanedBy}
 use Rattle.tds_relay.proofs.lending.Leases.{came_given, if_all}
+use Rattle.tds_relay.proofs.lending.Awaiting.{came_here, came_was}
 use Rattle.tds_relay.proofs.pool.Pool.came.Goals as goal
 
 pub returns-in_ok-what-in-Finished-clause-ok : goal.returns-in_ok-what-in-Finished-clause-ok
@@ -127,23 +128,23 @@ returns-in-Err-clause-read c =
 pub returns-in-More-clause-read : goal.returns-in-More-clause-read
 returns-in-More-clause-read c =
     let came = c.in-Ok.ensures.ok in
-    came_read c.args.self.now.service c.heard.new.self _ (packet_part came.0 c.args.bytes.now c.args.ends) c.args.number c.args.ends c.args.bytes.now came.0 came.1 came.2.1.steps.service_is (λ r e. rw c.in-More.is at (c.in-Ok.ensures.reads r e)) c.in-Ok.ensures.makes c.in-Ok.ensures.others (λ n r h. h)
+    came_read c.args.self.now.service c.heard.new.self _ (packet_part came.0 c.args.bytes.now c.args.ends) c.args.number c.args.ends c.args.bytes.now came.0 came.1 came.2.1.steps.service_is (λ r e. rw c.in-More.is at (c.in-Ok.ensures.reads r e)) c.in-Ok.ensures.makes c.in-Ok.ensures.sizes c.in-Ok.ensures.others (λ n r h. h)
 
 pub returns-in_ok-what-in-Finished-clause-read : goal.returns-in_ok-what-in-Finished-clause-read
 returns-in_ok-what-in-Finished-clause-read c =
     let came = c.in-Ok.ensures.ok in
-    came_read c.args.self.now.service c.heard.new.self _ (packet_part came.0 c.args.bytes.now c.args.ends) c.args.number c.args.ends c.args.bytes.now came.0 came.1 came.2.1.steps.service_is (λ r e. rw c.in-Finished.is at (c.in-Ok.ensures.reads r e)) c.in-Ok.ensures.makes c.in-Ok.ensures.others c.in_ok-what-in-Finished.ensures.stand
+    came_read c.args.self.now.service c.heard.new.self _ (packet_part came.0 c.args.bytes.now c.args.ends) c.args.number c.args.ends c.args.bytes.now came.0 came.1 came.2.1.steps.service_is (λ r e. rw c.in-Finished.is at (c.in-Ok.ensures.reads r e)) c.in-Ok.ensures.makes c.in-Ok.ensures.sizes c.in-Ok.ensures.others c.in_ok-what-in-Finished.ensures.stand
 
 pub returns-in_ok-what-in-Acknowledged-clause-read : goal.returns-in_ok-what-in-Acknowledged-clause-read
 returns-in_ok-what-in-Acknowledged-clause-read c =
     let came = c.in-Ok.ensures.ok in
-    came_read c.args.self.now.service c.heard.new.self _ (packet_part came.0 c.args.bytes.now c.args.ends) c.args.number c.args.ends c.args.bytes.now came.0 came.1 came.2.1.steps.service_is (λ r e. rw c.in-Acknowledged.is at (c.in-Ok.ensures.reads r e)) c.in-Ok.ensures.makes c.in-Ok.ensures.others c.in_ok-what-in-Acknowledged.ensures.stand
+    came_read c.args.self.now.service c.heard.new.self _ (packet_part came.0 c.args.bytes.now c.args.ends) c.args.number c.args.ends c.args.bytes.now came.0 came.1 came.2.1.steps.service_is (λ r e. rw c.in-Acknowledged.is at (c.in-Ok.ensures.reads r e)) c.in-Ok.ensures.makes c.in-Ok.ensures.sizes c.in-Ok.ensures.others c.in_ok-what-in-Acknowledged.ensures.stand
 
 pub returns-in_ok-lose-in-Fault-clause-read : goal.returns-in_ok-lose-in-Fault-clause-read
 returns-in_ok-lose-in-Fault-clause-read c =
     let came = c.in-Ok.ensures.ok in
     let next = c.in-Ok.ensures.reads came.0 came.1 in
-    lost_read c.args.self.now.service c.heard.new.self _ (packet_part came.0 c.args.bytes.now c.args.ends) c.args.number c.args.ends c.args.bytes.now came.0 next.0 came.1 next.1 came.2.1.steps.service_is c.in-Ok.ensures.makes c.in-Ok.ensures.others c.in_ok-lose-in-Fault.ensures.stand c.in_ok-lose-in-Fault.ensures.gone
+    lost_read c.args.self.now.service c.heard.new.self _ (packet_part came.0 c.args.bytes.now c.args.ends) c.args.number c.args.ends c.args.bytes.now came.0 next.0 came.1 next.1 came.2.1.steps.service_is c.in-Ok.ensures.makes c.in-Ok.ensures.sizes c.in-Ok.ensures.others c.in_ok-lose-in-Fault.ensures.stand c.in_ok-lose-in-Fault.ensures.gone
 
 pub returns-in_ok-lose-in-Fault-clause-ok : goal.returns-in_ok-lose-in-Fault-clause-ok
 returns-in_ok-lose-in-Fault-clause-ok c =
@@ -269,3 +270,41 @@ returns-in_ok-what-in-Acknowledged-clause-leases c =
 
 pub returns-in_ok-lose-in-Fault-clause-leases : goal.returns-in_ok-lose-in-Fault-clause-leases
 returns-in_ok-lose-in-Fault-clause-leases c = λ left. absurd (left refl)
+
+pub returns-in-Err-clause-newly : goal.returns-in-Err-clause-newly
+returns-in-Err-clause-newly c = λ reached.
+    let same : c.heard.new.self ≡ c.args.self.now.service = search rules in
+    if_all c.unheard.result (λ heard left. record { here = λ l at. inl (subst (λ (x : services.Service). IsCleanedBy c.args.number l (service_in x)) same at, refl) })
+
+pub returns-in-More-clause-newly : goal.returns-in-More-clause-newly
+returns-in-More-clause-newly c = λ reached left.
+    let came = c.in-Ok.ensures.ok in
+    record {
+      here = λ l at. inl (
+        came_was c.args.number l (service_in c.args.self.now.service) (service_in c.heard.new.self) c.args.number (packet_part came.0 c.args.bytes.now c.args.ends) (led_at (pool_in c.args.self.now) reached) came.2.1.steps.service_is at,
+        refl,
+      );
+    }
+
+pub returns-in_ok-what-in-Finished-clause-newly : goal.returns-in_ok-what-in-Finished-clause-newly
+returns-in_ok-what-in-Finished-clause-newly c = λ reached left.
+    let came = c.in-Ok.ensures.ok in
+    let s = service_in c.args.self.now.service in
+    let t = service_in c.heard.new.self in
+    let part = packet_part came.0 c.args.bytes.now c.args.ends in
+    let led = led_at (pool_in c.args.self.now) reached in
+    came_here c.in-Ok.came.lease c.key_by-key.result (pool_in c.args.self.now).holds c.args.number c.args.out.now.items c.settle.new.out.items s t (service_in c.settle.new.self.service) c.args.number part led came.2.1.steps.service_is c.key_by-key.ensures
+    (c.in_ok-what-in-Finished.ensures.newly (led_on s t (calls.Came c.args.number part) came.2.1.steps.service_is led) left)
+
+pub returns-in_ok-what-in-Acknowledged-clause-newly : goal.returns-in_ok-what-in-Acknowledged-clause-newly
+returns-in_ok-what-in-Acknowledged-clause-newly c = λ reached left.
+    let came = c.in-Ok.ensures.ok in
+    let s = service_in c.args.self.now.service in
+    let t = service_in c.heard.new.self in
+    let part = packet_part came.0 c.args.bytes.now c.args.ends in
+    let led = led_at (pool_in c.args.self.now) reached in
+    came_here c.in-Ok.came.lease c.key_by-key.result (pool_in c.args.self.now).holds c.args.number c.args.out.now.items c.settle-in-Acknowledged.new.out.items s t (service_in c.settle-in-Acknowledged.new.self.service) c.args.number part led came.2.1.steps.service_is c.key_by-key.ensures
+    (c.in_ok-what-in-Acknowledged.ensures.newly (led_on s t (calls.Came c.args.number part) came.2.1.steps.service_is led) left)
+
+pub returns-in_ok-lose-in-Fault-clause-newly : goal.returns-in_ok-lose-in-Fault-clause-newly
+returns-in_ok-lose-in-Fault-clause-newly c = λ reached left. absurd (left refl)

@@ -10,7 +10,7 @@ use Rattle.tds_relay.proofs.steps.Made.{turns_stopped}
 use Rattle.tds_relay.proofs.pool.Pool.cancel.Goals as goal
 
 pub returns-in-Ok-clause-stand : goal.returns-in-Ok-clause-stand
-returns-in-Ok-clause-stand c = keeps_stand _ _ (calls.Cancel c.in-Some.hold.lease) c.in-Ok.ensures.ok.service_is (λ opens. opens) c.in-Ok.ensures.makes c.in-Ok.ensures.keeps
+returns-in-Ok-clause-stand c = keeps_stand _ _ (calls.Cancel c.in-Some.hold.lease) c.in-Ok.ensures.ok.service_is (λ opens. opens) c.in-Ok.ensures.makes c.in-Ok.ensures.sizes c.in-Ok.ensures.keeps
 
 pub returns-in-Ok-clause-others : goal.returns-in-Ok-clause-others
 returns-in-Ok-clause-others c = action_others c.args.self.now _ c.args.key c.in-Some.hold (search rules) refl c.in-Ok.ensures.clients

@@ -17,7 +17,7 @@ returns-in-Ok-clause-sends c =
     sent.ends_on (pool_in c.args.self.now) (service_in c.finish.new.self) c.args.key (puts_on c.in-Some.hold.lease c.args.self.now.service []) c.in-Some.hold (search rules) c.in-Ok.ensures.ok.service_is c.in-Ok.ensures.ok.reply_is
 
 pub returns-in-Ok-clause-stand : goal.returns-in-Ok-clause-stand
-returns-in-Ok-clause-stand c = keeps_stand _ _ (calls.Finish c.in-Some.hold.lease (puts_on c.in-Some.hold.lease c.args.self.now.service [])) c.in-Ok.ensures.ok.service_is (λ opens. opens) c.in-Ok.ensures.makes c.in-Ok.ensures.keeps
+returns-in-Ok-clause-stand c = keeps_stand _ _ (calls.Finish c.in-Some.hold.lease (puts_on c.in-Some.hold.lease c.args.self.now.service [])) c.in-Ok.ensures.ok.service_is (λ opens. opens) c.in-Ok.ensures.makes c.in-Ok.ensures.sizes c.in-Ok.ensures.keeps
 
 pub returns-in-Ok-clause-others : goal.returns-in-Ok-clause-others
 returns-in-Ok-clause-others c = action_others c.args.self.now _ c.args.key c.in-Some.hold (search rules) refl c.in-Ok.ensures.clients

@@ -4,6 +4,7 @@ use Rattle.tds_relay.specs.Pool.{find_key}
 use Rattle.tds_relay.proofs.spared.Cleaned.{ends_none, ends_some, text_is}
 use Rattle.tds_relay.specs.Ties.{pool_in}
 use Rattle.tds_relay.proofs.seats.Rests.{held_on}
+use Rattle.tds_relay.proofs.lending.Tending.{put_text}
 use Rattle.tds_relay.proofs.pool.Pool.leave.Goals as goal
 
 pub returns-in_default-clause-others : goal.returns-in_default-clause-others
@@ -24,3 +25,7 @@ returns-in_default-clause-seats c = λ reached n. refl
 
 pub returns-clause-seats : goal.returns-clause-seats
 returns-clause-seats c = λ reached. c.in_ok-is_there.ensures.seats (led_at (pool_in c.args.self.now) reached) (held_on (pool_in c.args.self.now) c.args.key c.in-Some.hold reached (search rules))
+
+pub returns-clause-newly : goal.returns-clause-newly
+returns-clause-newly c = λ reached there.
+    put_text c.cleaning_text.result.now _ _ _ _ c.cleaning_text.ensures (c.in_ok-is_there.ensures.newly (led_at (pool_in c.args.self.now) reached) there)

@@ -26,10 +26,10 @@ returns-clause-turns c =
     c.in-Ok.ensures.ok.1 c.in-Ok-resume.ensures.ok held
 
 pub returns-clause-stand : goal.returns-clause-stand
-returns-clause-stand c = λ n r h. keeps_stand c.keep.new.self c.resume.new.self (calls.Resume c.in-Ok.ticket) c.in-Ok-resume.ensures.ok.service_is (λ opens. opens) c.in-Ok-resume.ensures.makes c.in-Ok-resume.ensures.keeps n r (keeps_stand c.args.self.now.service c.keep.new.self (calls.Keep c.in-Some.hold.lease) c.in-Ok.ensures.ok.1.service_is (λ opens. opens) c.in-Ok.ensures.makes c.in-Ok.ensures.keeps n r h)
+returns-clause-stand c = λ n r h. keeps_stand c.keep.new.self c.resume.new.self (calls.Resume c.in-Ok.ticket) c.in-Ok-resume.ensures.ok.service_is (λ opens. opens) c.in-Ok-resume.ensures.makes c.in-Ok-resume.ensures.sizes c.in-Ok-resume.ensures.keeps n r (keeps_stand c.args.self.now.service c.keep.new.self (calls.Keep c.in-Some.hold.lease) c.in-Ok.ensures.ok.1.service_is (λ opens. opens) c.in-Ok.ensures.makes c.in-Ok.ensures.sizes c.in-Ok.ensures.keeps n r h)
 
 pub returns-in-Err-clause-stand : goal.returns-in-Err-clause-stand
-returns-in-Err-clause-stand c = same_stand c.args.self.now.service c.keep.new.self c.in-Err.ensures.err c.in-Err.ensures.makes c.in-Err.ensures.keeps
+returns-in-Err-clause-stand c = same_stand c.args.self.now.service c.keep.new.self c.in-Err.ensures.err c.in-Err.ensures.makes c.in-Err.ensures.sizes c.in-Err.ensures.keeps
 
 pub returns-in_default-clause-seats : goal.returns-in_default-clause-seats
 returns-in_default-clause-seats c = λ reached n. refl

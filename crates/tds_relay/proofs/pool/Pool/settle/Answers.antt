@@ -1,4 +1,4 @@
-use Rattle.std.proofs.Common.{◌≡◌, ◌∙◌, ap, rules, ℕ, subst, sym, Bool, inl, inr, refl}
+use Rattle.std.proofs.Common.{◌≡◌, ◌∙◌, ap, rules, ℕ, subst, sym, Bool, inl, inr, refl, List}
 use Rattle.std.specs.Prelude.{Option, None}
 use Rattle.tds_service.specs.Table.{service_in}
 use Rattle.tds_relay.specs.declared.pool.Hold.{Hold}
@@ -10,6 +10,8 @@ use Rattle.tds_relay.proofs.seats.Counting.{stays_refl}
 use Rattle.tds_relay.proofs.seats.Rests.{if_left, made_stays}
 use Rattle.tds_relay.proofs.spared.Aside.{drained_held}
 use Rattle.tds_relay.proofs.lending.Leases.{is_left_there}
+use Rattle.tds_relay.proofs.lending.Awaiting.{settled_was}
+use Rattle.tds_relay.specs.Cleaning.{IsCleaning, IsPutBehind}
 use Rattle.tds_relay.proofs.pool.Pool.settle.Goals as goal
 
 pub returns-in_ok-is_there-in-None-find_lease-clause-settles : goal.returns-in_ok-is_there-in-None-find_lease-clause-settles
@@ -50,3 +52,23 @@ returns-in_ok-is_there-in-None-find_lease-clause-leases c = λ left. inl refl
 pub returns-in_ok-is_there-in-None-clause-leases : goal.returns-in_ok-is_there-in-None-clause-leases
 returns-in_ok-is_there-in-None-clause-leases c = λ left.
     inr (c.in_ok-is_there-in-None.ensures.leases (is_left_there c.in_ok-is_there-in-None.is_there c.what_of-in-None.result c.what_of-in-None.ensures left))
+
+pub returns-in-Some-find_lease-clause-newly : goal.returns-in-Some-find_lease-clause-newly
+returns-in-Some-find_lease-clause-newly c = λ led left. record { here = λ l at. inl (at, refl) }
+
+pub returns-in_ok-is_there-in-None-find_lease-clause-newly : goal.returns-in_ok-is_there-in-None-find_lease-clause-newly
+returns-in_ok-is_there-in-None-find_lease-clause-newly c = λ led left. record {
+  here = λ l at. inl (
+    settled_was c.args.number l (service_in c.args.self.now.service) (service_in c.cleaned.new.service) c.args.number c.in-Some.lease led (c.in_ok-is_there-in-None-find_lease.ensures.makes c.args.out.now.items).service_is at,
+    refl,
+  );
+}
+
+pub returns-in_ok-is_there-in-None-clause-newly : goal.returns-in_ok-is_there-in-None-clause-newly
+returns-in_ok-is_there-in-None-clause-newly c = λ led left. record {
+  here = λ l at. inr (
+    c.in-None.is,
+    subst (λ (text : List ℕ). IsPutBehind (IsCleaning text) c.args.out.now.items c.clean.new.out.items) c.cleaning_text.ensures
+        (c.in_ok-is_there-in-None.ensures.cleans led (is_left_there c.in_ok-is_there-in-None.is_there c.what_of-in-None.result c.what_of-in-None.ensures left)),
+  );
+}

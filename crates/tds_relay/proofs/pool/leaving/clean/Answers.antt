@@ -39,19 +39,19 @@ returns-clause-makes c =
     )
 
 pub returns-in_default-clause-stand : goal.returns-in_default-clause-stand
-returns-in_default-clause-stand c = λ n r h. c.in_ok-forget.ensures.stand n r (same_stand c.args.service.now c.clean.new.self c.in_default.ensures.err c.in_default.ensures.makes c.in_default.ensures.keeps n r h)
+returns-in_default-clause-stand c = λ n r h. c.in_ok-forget.ensures.stand n r (same_stand c.args.service.now c.clean.new.self c.in_default.ensures.err c.in_default.ensures.makes c.in_default.ensures.sizes c.in_default.ensures.keeps n r h)
 
 pub returns-in_default-ask-clause-stand : goal.returns-in_default-ask-clause-stand
-returns-in_default-ask-clause-stand c = λ n r h. c.in_ok-forget-2.ensures.stand n r (same_stand c.clean.new.self c.ask.new.self (ap service_in c.in_default-ask.ensures.err) c.in_default-ask.ensures.makes c.in_default-ask.ensures.keeps n r (keeps_stand c.args.service.now c.clean.new.self (calls.Clean c.args.number) c.in-Ok.ensures.ok.service_is (λ opens. opens) c.in-Ok.ensures.makes c.in-Ok.ensures.keeps n r h))
+returns-in_default-ask-clause-stand c = λ n r h. c.in_ok-forget-2.ensures.stand n r (same_stand c.clean.new.self c.ask.new.self (ap service_in c.in_default-ask.ensures.err) c.in_default-ask.ensures.makes c.in_default-ask.ensures.sizes c.in_default-ask.ensures.keeps n r (keeps_stand c.args.service.now c.clean.new.self (calls.Clean c.args.number) c.in-Ok.ensures.ok.service_is (λ opens. opens) c.in-Ok.ensures.makes c.in-Ok.ensures.sizes c.in-Ok.ensures.keeps n r h))
 
 pub returns-in_default-put-clause-stand : goal.returns-in_default-put-clause-stand
-returns-in_default-put-clause-stand c = λ n r h. c.in_ok-forget-3.ensures.stand n r (same_stand c.ask.new.self c.put.new.self (ap service_in c.in_default-put.ensures.err) c.in_default-put.ensures.makes c.in_default-put.ensures.keeps n r (keeps_stand c.clean.new.self c.ask.new.self (calls.Ask c.in-Ok.lent.lease) c.in-Ok-ask.ensures.ok.service_is (λ opens. opens) c.in-Ok-ask.ensures.makes c.in-Ok-ask.ensures.keeps n r (keeps_stand c.args.service.now c.clean.new.self (calls.Clean c.args.number) c.in-Ok.ensures.ok.service_is (λ opens. opens) c.in-Ok.ensures.makes c.in-Ok.ensures.keeps n r h)))
+returns-in_default-put-clause-stand c = λ n r h. c.in_ok-forget-3.ensures.stand n r (same_stand c.ask.new.self c.put.new.self (ap service_in c.in_default-put.ensures.err) c.in_default-put.ensures.makes c.in_default-put.ensures.sizes c.in_default-put.ensures.keeps n r (keeps_stand c.clean.new.self c.ask.new.self (calls.Ask c.in-Ok.lent.lease) c.in-Ok-ask.ensures.ok.service_is (λ opens. opens) c.in-Ok-ask.ensures.makes c.in-Ok-ask.ensures.sizes c.in-Ok-ask.ensures.keeps n r (keeps_stand c.args.service.now c.clean.new.self (calls.Clean c.args.number) c.in-Ok.ensures.ok.service_is (λ opens. opens) c.in-Ok.ensures.makes c.in-Ok.ensures.sizes c.in-Ok.ensures.keeps n r h)))
 
 pub returns-in_default-finish-clause-stand : goal.returns-in_default-finish-clause-stand
-returns-in_default-finish-clause-stand c = λ n r h. c.in_ok-forget-4.ensures.stand n r (same_stand c.put.new.self c.finish.new.self (ap service_in c.in_default-finish.ensures.err) c.in_default-finish.ensures.makes c.in_default-finish.ensures.keeps n r (keeps_stand c.ask.new.self c.put.new.self (calls.Put c.in-Ok.lent.lease (puts_on c.in-Ok.lent.lease c.ask.new.self c.args.text.now)) c.in-Ok-put.ensures.ok.service_is (λ opens. opens) c.in-Ok-put.ensures.makes c.in-Ok-put.ensures.keeps n r (keeps_stand c.clean.new.self c.ask.new.self (calls.Ask c.in-Ok.lent.lease) c.in-Ok-ask.ensures.ok.service_is (λ opens. opens) c.in-Ok-ask.ensures.makes c.in-Ok-ask.ensures.keeps n r (keeps_stand c.args.service.now c.clean.new.self (calls.Clean c.args.number) c.in-Ok.ensures.ok.service_is (λ opens. opens) c.in-Ok.ensures.makes c.in-Ok.ensures.keeps n r h))))
+returns-in_default-finish-clause-stand c = λ n r h. c.in_ok-forget-4.ensures.stand n r (same_stand c.put.new.self c.finish.new.self (ap service_in c.in_default-finish.ensures.err) c.in_default-finish.ensures.makes c.in_default-finish.ensures.sizes c.in_default-finish.ensures.keeps n r (keeps_stand c.ask.new.self c.put.new.self (calls.Put c.in-Ok.lent.lease (puts_on c.in-Ok.lent.lease c.ask.new.self c.args.text.now)) c.in-Ok-put.ensures.ok.service_is (λ opens. opens) c.in-Ok-put.ensures.makes c.in-Ok-put.ensures.sizes c.in-Ok-put.ensures.keeps n r (keeps_stand c.clean.new.self c.ask.new.self (calls.Ask c.in-Ok.lent.lease) c.in-Ok-ask.ensures.ok.service_is (λ opens. opens) c.in-Ok-ask.ensures.makes c.in-Ok-ask.ensures.sizes c.in-Ok-ask.ensures.keeps n r (keeps_stand c.args.service.now c.clean.new.self (calls.Clean c.args.number) c.in-Ok.ensures.ok.service_is (λ opens. opens) c.in-Ok.ensures.makes c.in-Ok.ensures.sizes c.in-Ok.ensures.keeps n r h))))
 
 pub returns-clause-stand : goal.returns-clause-stand
-returns-clause-stand c = λ n r h. keeps_stand c.put.new.self c.finish.new.self (calls.Finish c.in-Ok.lent.lease (puts_on c.in-Ok.lent.lease c.put.new.self [])) c.in-Ok-finish.ensures.ok.service_is (λ opens. opens) c.in-Ok-finish.ensures.makes c.in-Ok-finish.ensures.keeps n r (keeps_stand c.ask.new.self c.put.new.self (calls.Put c.in-Ok.lent.lease (puts_on c.in-Ok.lent.lease c.ask.new.self c.args.text.now)) c.in-Ok-put.ensures.ok.service_is (λ opens. opens) c.in-Ok-put.ensures.makes c.in-Ok-put.ensures.keeps n r (keeps_stand c.clean.new.self c.ask.new.self (calls.Ask c.in-Ok.lent.lease) c.in-Ok-ask.ensures.ok.service_is (λ opens. opens) c.in-Ok-ask.ensures.makes c.in-Ok-ask.ensures.keeps n r (keeps_stand c.args.service.now c.clean.new.self (calls.Clean c.args.number) c.in-Ok.ensures.ok.service_is (λ opens. opens) c.in-Ok.ensures.makes c.in-Ok.ensures.keeps n r h)))
+returns-clause-stand c = λ n r h. keeps_stand c.put.new.self c.finish.new.self (calls.Finish c.in-Ok.lent.lease (puts_on c.in-Ok.lent.lease c.put.new.self [])) c.in-Ok-finish.ensures.ok.service_is (λ opens. opens) c.in-Ok-finish.ensures.makes c.in-Ok-finish.ensures.sizes c.in-Ok-finish.ensures.keeps n r (keeps_stand c.ask.new.self c.put.new.self (calls.Put c.in-Ok.lent.lease (puts_on c.in-Ok.lent.lease c.ask.new.self c.args.text.now)) c.in-Ok-put.ensures.ok.service_is (λ opens. opens) c.in-Ok-put.ensures.makes c.in-Ok-put.ensures.sizes c.in-Ok-put.ensures.keeps n r (keeps_stand c.clean.new.self c.ask.new.self (calls.Ask c.in-Ok.lent.lease) c.in-Ok-ask.ensures.ok.service_is (λ opens. opens) c.in-Ok-ask.ensures.makes c.in-Ok-ask.ensures.sizes c.in-Ok-ask.ensures.keeps n r (keeps_stand c.args.service.now c.clean.new.self (calls.Clean c.args.number) c.in-Ok.ensures.ok.service_is (λ opens. opens) c.in-Ok.ensures.makes c.in-Ok.ensures.sizes c.in-Ok.ensures.keeps n r h)))
 
 pub returns-in_default-clause-aside : goal.returns-in_default-clause-aside
 returns-in_default-clause-aside c = λ but lease client differs aside there.

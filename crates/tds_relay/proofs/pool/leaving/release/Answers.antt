@@ -14,6 +14,8 @@ use Rattle.tds_service.specs.Service.{Service}
 use Rattle.tds_relay.specs.Ties.{lost_by}
 use Rattle.tds_relay.proofs.seats.Rests.{back_stays, forgot_stays, free_stays}
 use Rattle.tds_relay.proofs.spared.Marking.{drains_once, free_once}
+use Rattle.tds_relay.proofs.lending.Tending.{cleaned_put, given_was}
+use Rattle.tds_service.specs.Ties.{cancel_out}
 use Rattle.tds_relay.proofs.pool.leaving.release.Goals as goal
 
 pub returns-in-Ok-default-Free-clause-makes : goal.returns-in-Ok-default-Free-clause-makes
@@ -29,16 +31,16 @@ returns-in-Ok-default-Free-clause-makes c =
     c.clean.ensures.makes
 
 pub returns-in-Ok-default-Free-clause-stand : goal.returns-in-Ok-default-Free-clause-stand
-returns-in-Ok-default-Free-clause-stand c = stand_on c.clean.result _ _ _ (given_back_stand c.args.service.now c.give_back.new.self c.args.hold.lease c.in-Ok-default-Free.field-0-0 c.in-Ok-default-Free.field-0-1 _ _ c.in-Ok-default-Free.ensures.ok c.in-Ok-default-Free.ensures.makes c.in-Ok-default-Free.ensures.keeps) c.clean.ensures.stand
+returns-in-Ok-default-Free-clause-stand c = stand_on c.clean.result _ _ _ (given_back_stand c.args.service.now c.give_back.new.self c.args.hold.lease c.in-Ok-default-Free.field-0-0 c.in-Ok-default-Free.field-0-1 _ _ c.in-Ok-default-Free.ensures.ok c.in-Ok-default-Free.ensures.makes c.in-Ok-default-Free.ensures.sizes c.in-Ok-default-Free.ensures.keeps) c.clean.ensures.stand
 
 pub returns-in-Ok-default-Draining-clause-stand : goal.returns-in-Ok-default-Draining-clause-stand
-returns-in-Ok-default-Draining-clause-stand c = given_back_stand c.args.service.now c.give_back.new.self c.args.hold.lease c.in-Ok-default-Draining.field-0-0 c.in-Ok-default-Draining.field-0-1 _ _ c.in-Ok-default-Draining.ensures.ok c.in-Ok-default-Draining.ensures.makes c.in-Ok-default-Draining.ensures.keeps
+returns-in-Ok-default-Draining-clause-stand c = given_back_stand c.args.service.now c.give_back.new.self c.args.hold.lease c.in-Ok-default-Draining.field-0-0 c.in-Ok-default-Draining.field-0-1 _ _ c.in-Ok-default-Draining.ensures.ok c.in-Ok-default-Draining.ensures.makes c.in-Ok-default-Draining.ensures.sizes c.in-Ok-default-Draining.ensures.keeps
 
 pub returns-in-Ok-default-Closed-clause-stand : goal.returns-in-Ok-default-Closed-clause-stand
-returns-in-Ok-default-Closed-clause-stand c = given_back_stand c.args.service.now c.give_back.new.self c.args.hold.lease c.in-Ok-default-Closed.field-0-0 c.in-Ok-default-Closed.field-0-1 _ _ c.in-Ok-default-Closed.ensures.ok c.in-Ok-default-Closed.ensures.makes c.in-Ok-default-Closed.ensures.keeps
+returns-in-Ok-default-Closed-clause-stand c = given_back_stand c.args.service.now c.give_back.new.self c.args.hold.lease c.in-Ok-default-Closed.field-0-0 c.in-Ok-default-Closed.field-0-1 _ _ c.in-Ok-default-Closed.ensures.ok c.in-Ok-default-Closed.ensures.makes c.in-Ok-default-Closed.ensures.sizes c.in-Ok-default-Closed.ensures.keeps
 
 pub returns-in_ok-forget-in-Err-clause-stand : goal.returns-in_ok-forget-in-Err-clause-stand
-returns-in_ok-forget-in-Err-clause-stand c = λ n r h. c.in_ok-forget-in-Err.ensures.stand n r (same_stand c.args.service.now c.give_back.new.self c.in-Err.ensures.err c.in-Err.ensures.makes c.in-Err.ensures.keeps_all n r h)
+returns-in_ok-forget-in-Err-clause-stand c = λ n r h. c.in_ok-forget-in-Err.ensures.stand n r (same_stand c.args.service.now c.give_back.new.self c.in-Err.ensures.err c.in-Err.ensures.makes c.in-Err.ensures.sizes c.in-Err.ensures.keeps_all n r h)
 
 pub returns-in-Ok-default-Free-clause-aside : goal.returns-in-Ok-default-Free-clause-aside
 returns-in-Ok-default-Free-clause-aside c = ok_more c.clean.result _ _ (λ later lease client differs aside there.
@@ -90,3 +92,14 @@ returns-in-Ok-default-Closed-clause-seats c = λ led on. back_stays false (servi
 pub returns-in_ok-forget-in-Err-clause-seats : goal.returns-in_ok-forget-in-Err-clause-seats
 returns-in_ok-forget-in-Err-clause-seats c = λ led on. forgot_stays c.args.hold.number (service_in c.args.service.now) (service_in c.forget.new.service) led
     (c.in_ok-forget-in-Err.ensures.lost ∙ ap (λ (s : Service). lost_by s c.args.hold.number) c.in-Err.ensures.err)
+
+pub returns-in-Ok-default-Free-clause-newly : goal.returns-in-Ok-default-Free-clause-newly
+returns-in-Ok-default-Free-clause-newly c = λ led.
+    let stops = c.in-Ok-default-Free.ensures.stops in
+    IfOk-weaker c.clean.result _ _
+    (λ is_there h there. cleaned_put c.args.text.now c.args.out.now.items c.give_back.new.out.items c.clean.new.out.items (service_in c.args.service.now) (service_in c.clean.new.service) (cancel_out stops.0.stage) stops.2 (h there))
+    (c.clean.ensures.cleans (led_on (service_in c.args.service.now) (service_in c.give_back.new.self) (calls.GiveBack c.args.hold.lease) c.in-Ok-default-Free.ensures.ok.service_is led))
+
+pub returns-in-Ok-default-Draining-clause-newly : goal.returns-in-Ok-default-Draining-clause-newly
+returns-in-Ok-default-Draining-clause-newly c = λ led there.
+    given_was c.args.text.now _ _ (service_in c.args.service.now) (service_in c.give_back.new.self) c.args.hold.lease led c.in-Ok-default-Draining.ensures.ok.service_is

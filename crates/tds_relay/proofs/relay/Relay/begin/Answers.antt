@@ -34,6 +34,7 @@ use Rattle.tds_relay.proofs.spared.Starting.{unkept_none, unkept_over}
 use Rattle.tds_relay.proofs.lending.Earlier.{anew_kept, anew_refl}
 use Rattle.tds_relay.proofs.spared.Begun.{answers_unchanged}
 use Rattle.tds_relay.specs.declared.relay.Relay as code
+use Rattle.tds_relay.proofs.lending.Tending.{none_led, tend_kept_at, tend_refl, tend_waits_at}
 use Rattle.tds_relay.proofs.relay.Relay.begin.Goals as goal
 
 pub returns-in-false-default-clause-goes : goal.returns-in-false-default-clause-goes
@@ -163,7 +164,7 @@ pub returns-in_default-message_kind-clause-others : goal.returns-in_default-mess
 returns-in_default-message_kind-clause-others c = λ reached. others_on c.expel.result c.args.key c.args.self.now _ c.expel.new.self (c.expel.ensures.others reached) (written_rest c.args.key _ c.args.self.now _ refl refl refl)
 
 pub returns-in-false-default-clause-others : goal.returns-in-false-default-clause-others
-returns-in-false-default-clause-others c = λ reached. ok_if c.wait.result _ (written_waited c.args.key c.forget.new.self c.args.self.now c.wait.new.self c.wait.ensures.body)
+returns-in-false-default-clause-others c = λ reached. written_waited c.wait.result c.args.key c.forget.new.self c.args.self.now c.wait.new.self c.wait.ensures.body c.wait.ensures.service c.wait.ensures.holds
 
 pub returns-in-true-None-clause-others : goal.returns-in-true-None-clause-others
 returns-in-true-None-clause-others c = λ reached. others_on c.start.result c.args.key c.args.self.now _ c.start.new.self (c.start.ensures.others reached) (written_rest c.args.key _ c.args.self.now _ refl refl refl)
@@ -311,6 +312,7 @@ returns-in-true-Some-Full-clause-anew c = λ reached. anew_kept c.change.result 
 
 pub returns-in-false-default-clause-anew : goal.returns-in-false-default-clause-anew
 returns-in-false-default-clause-anew c = λ reached. anew_kept c.wait.result c.args.self.now c.wait.new.self (answers_unchanged c.wait.result c.args.self.now.links.items c.wait.new.self.links.items (ok_if c.wait.result _ c.wait.ensures.links))
+
 -- ---- It is to be closed already
 
 pub returns-then-is_over-clause-kept : goal.returns-then-is_over-clause-kept
@@ -324,10 +326,8 @@ returns-then-is_over-clause-underway c =
     let r = c.args.self.now in
     let key = c.args.key in
     let a = c.in-Some.application.now in
-    let there = c.in-Some.ensures.value in
     let s = with_value r.applications key a in
-    let back : code.Relay = record r { applications = s } in
-    let its : Some a ≡ get s key = sym (written_there r.applications key a a there) in
+    let its : Some a ≡ get s key = sym (written_there r.applications key a a c.in-Some.ensures.value) in
     of_over false _ key (pool_in r.pool) s a its (sym c.is_over.ensures ∙ c.if-is_over.true)
 
 pub returns-then-is_over-clause-body : goal.returns-then-is_over-clause-body
@@ -335,10 +335,9 @@ returns-then-is_over-clause-body c =
     let r = c.args.self.now in
     let key = c.args.key in
     let a = c.in-Some.application.now in
-    let there = c.in-Some.ensures.value in
     let s = with_value r.applications key a in
     let back : code.Relay = record r { applications = s } in
-    let its : Some a ≡ get s key = sym (written_there r.applications key a a there) in
+    let its : Some a ≡ get s key = sym (written_there r.applications key a a c.in-Some.ensures.value) in
     (Closed, Refuses, shut_starts s key Closed (going_of key back) (over_deaf key s a its (sym c.is_over.ensures ∙ c.if-is_over.true)))
 
 pub returns-then-is_over-clause-closes : goal.returns-then-is_over-clause-closes
@@ -355,10 +354,9 @@ returns-then-is_over-clause-puts c =
     let r = c.args.self.now in
     let key = c.args.key in
     let a = c.in-Some.application.now in
-    let there = c.in-Some.ensures.value in
     let s = with_value r.applications key a in
     let back : code.Relay = record r { applications = s } in
-    let its : Some a ≡ get s key = sym (written_there r.applications key a a there) in
+    let its : Some a ≡ get s key = sym (written_there r.applications key a a c.in-Some.ensures.value) in
     begins_shut c.args.kind c.args.reset (standing_in key r) (standing_in key back) (shut s key (going_of key back) (over_deaf key s a its (sym c.is_over.ensures ∙ c.if-is_over.true)))
 
 pub returns-then-is_over-clause-right : goal.returns-then-is_over-clause-right
@@ -366,8 +364,34 @@ returns-then-is_over-clause-right c =
     let r = c.args.self.now in
     let key = c.args.key in
     let a = c.in-Some.application.now in
-    let there = c.in-Some.ensures.value in
     let s = with_value r.applications key a in
     let back : code.Relay = record r { applications = s } in
-    let its : Some a ≡ get s key = sym (written_there r.applications key a a there) in
+    let its : Some a ≡ get s key = sym (written_there r.applications key a a c.in-Some.ensures.value) in
     unkept_right key back (unkept_over s key a (going_of key back) its (sym c.is_over.ensures ∙ c.if-is_over.true))
+
+pub returns-in_default-clause-awaits : goal.returns-in_default-clause-awaits
+returns-in_default-clause-awaits c = tend_refl (pool_in c.args.self.now.pool) c.args.self.now.links.items
+
+pub returns-then-is_over-clause-awaits : goal.returns-then-is_over-clause-awaits
+returns-then-is_over-clause-awaits c = tend_refl (pool_in c.args.self.now.pool) c.args.self.now.links.items
+
+pub returns-then-may_keep_later-clause-awaits : goal.returns-then-may_keep_later-clause-awaits
+returns-then-may_keep_later-clause-awaits c = tend_refl (pool_in c.args.self.now.pool) c.args.self.now.links.items
+
+pub returns-in-false-default-clause-awaits : goal.returns-in-false-default-clause-awaits
+returns-in-false-default-clause-awaits c =
+    tend_waits_at c.wait.result c.args.key (pool_in c.args.self.now.pool) (pool_in c.wait.new.self.pool) c.args.self.now.links.items c.wait.new.self.links.items c.wait.ensures.goes c.wait.ensures.links
+
+pub returns-in-true-None-clause-awaits : goal.returns-in-true-None-clause-awaits
+returns-in-true-None-clause-awaits c =
+    tend_kept_at c.start.result c.args.key c.args.self.now.pool c.start.new.self.pool c.args.self.now.links.items c.start.new.self.links.items
+    (none_led c.start.result (pool_in c.args.self.now.pool) (pool_in c.start.new.self.pool) c.start.ensures.goes) (returns-in-true-None-clause-aside c)
+
+pub returns-in_default-message_kind-clause-awaits : goal.returns-in_default-message_kind-clause-awaits
+returns-in_default-message_kind-clause-awaits c = c.expel.ensures.awaits
+
+pub returns-else-may_keep_later-clause-awaits : goal.returns-else-may_keep_later-clause-awaits
+returns-else-may_keep_later-clause-awaits c = c.renew.ensures.awaits
+
+pub returns-in-true-Some-Full-clause-awaits : goal.returns-in-true-Some-Full-clause-awaits
+returns-in-true-Some-Full-clause-awaits c = c.change.ensures.awaits

@@ -135,7 +135,7 @@ returns-then-not-left-clause-closes c = (c.args.self.now.links.items, inl refl, 
 pub returns-then-not-is_empty-clause-tries : goal.returns-then-not-is_empty-clause-tries
 returns-then-not-is_empty-clause-tries c =
     let some : c.is_empty.result ≡ false = search rules in
-    inl (sym c.is_empty.ensures ∙ some)
+    inl (sym c.is_empty.ensures ∙ some, refl)
 
 pub returns-in_default-clause-tries : goal.returns-in_default-clause-tries
 returns-in_default-clause-tries c = inr (c.in_ok-left.ensures.turns.0, c.in_ok-left.ensures.turns.1, c.in_ok-left.ensures.turns.2.pool_is)

@@ -21,6 +21,7 @@ use Rattle.tds_relay.proofs.spared.Opening.{goes_last, opens_new_on, opens_same,
 use Rattle.tds_relay.proofs.spared.Off.{served_off}
 use Rattle.tds_relay.proofs.spared.Counted.{lost_served}
 use Rattle.std.proofs.Common.{◌≡◌, ◌∙◌, None, Some, sym}
+use Rattle.tds_relay.proofs.lending.Clients.{clients_off}
 use Rattle.tds_relay.proofs.lending.Drained.{served_alone}
 use Rattle.tds_relay.specs.Reads.{waits_on}
 use Rattle.tds_relay.proofs.lending.Firsts.{came_puts}
@@ -28,6 +29,9 @@ use Rattle.tds_relay.proofs.lending.Dialled.{hears_served}
 use Rattle.tds_relay.proofs.lending.Fresh.{features_kept, new_behind, size_kept}
 use Rattle.tds_relay.proofs.lending.Stilled.{still_served}
 use Rattle.tds_relay.proofs.bytes.Telling.{comes_told}
+use Rattle.tds_relay.proofs.lending.Tending.{tend_line, tend_on}
+use Rattle.tds_relay.proofs.bytes.Calls.{size_on}
+use Rattle.tds_relay.proofs.lending.Quiet.{came_rests}
 use Rattle.tds_relay.proofs.relay.Relay.came.Goals as goal
 
 pub returns-clause-steps : goal.returns-clause-steps
@@ -96,7 +100,7 @@ pub returns-clause-opening : goal.returns-clause-opening
 returns-clause-opening c = opens_new_on c.serve_line.result c.args.self.now c.hear_all.new.self c.serve_line.new.self (opens_same c.args.self.now c.hear_all.new.self c.hear_all.ensures.opening (goes_last (Connection c.args.number) (pool_in c.args.self.now.pool) (pool_in c.hear_all.new.self.pool) c.in_ok-hear_all.ensures.goes)) c.serve_line.ensures.opening
 
 pub returns-clause-apart : goal.returns-clause-apart
-returns-clause-apart c = served_off c.serve_line.result c.args.number c.args.self.now c.hear_all.new.self c.serve_line.new.self c.in_ok-hear_all.ensures.goes c.in_ok-hear_all.ensures.apart c.serve_line.ensures.goes_on
+returns-clause-apart c = served_off c.serve_line.result c.args.number c.args.self.now c.hear_all.new.self c.serve_line.new.self c.in_ok-hear_all.ensures.goes c.in_ok-hear_all.ensures.apart c.in_ok-hear_all.ensures.spares c.serve_line.ensures.goes_on c.serve_line.ensures.aside
 
 pub returns-clause-many : goal.returns-clause-many
 returns-clause-many c = grows_on c.serve_line.result c.args.self.now c.hear_all.new.self c.serve_line.new.self (grows_few c.args.self.now c.hear_all.new.self c.hear_all.ensures.opening c.in_ok-hear_all.ensures.many) c.serve_line.ensures.many
@@ -136,3 +140,20 @@ pub returns-clause-told : goal.returns-clause-told
 returns-clause-told c =
     comes_told c.serve_line.result c.args.number c.args.piece.now c.args.self.now c.hear_all.new.self c.serve_line.new.self c.in_ok-hear_all.ensures.told c.serve_line.ensures.moves c.serve_line.ensures.kept
     c.serve_line.ensures.opens c.serve_line.ensures.stand c.serve_line.ensures.asks
+
+pub returns-clause-clients : goal.returns-clause-clients
+returns-clause-clients c = λ reached. clients_off c.serve_line.result c.args.number c.args.self.now c.serve_line.new.self reached (returns-clause-apart c)
+
+pub returns-clause-awaits : goal.returns-clause-awaits
+returns-clause-awaits c =
+    tend_on c.serve_line.result c.args.self.now c.hear_all.new.self c.serve_line.new.self (reached_on (Connection c.args.number) _ _ c.in_ok-hear_all.ensures.goes) c.in_ok-hear_all.ensures.awaits
+    (tend_line c.serve_line.result c.hear_all.new.self c.serve_line.new.self c.serve_line.ensures.goes c.serve_line.ensures.fills)
+
+pub returns-clause-rests : goal.returns-clause-rests
+returns-clause-rests c = λ seated.
+    let there = reached_on (Connection c.args.number) _ _ c.in_ok-hear_all.ensures.goes seated.reached in
+    came_rests c.serve_line.result c.args.number c.args.self.now c.hear_all.new.self c.serve_line.new.self seated.reached c.in_ok-hear_all.ensures.goes (c.in_ok-hear_all.ensures.rests seated) c.serve_line.ensures.goes
+    (c.serve_line.ensures.aside there) c.serve_line.ensures.asks (c.serve_line.ensures.fills there)
+
+pub returns-clause-sizes : goal.returns-clause-sizes
+returns-clause-sizes c = size_on c.serve_line.result c.args.self.now.pool.service c.hear_all.new.self.pool.service c.serve_line.new.self.pool.service c.in_ok-hear_all.ensures.streams.streams.walks.sized c.serve_line.ensures.stand

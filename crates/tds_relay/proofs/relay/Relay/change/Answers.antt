@@ -14,13 +14,14 @@ use Rattle.tds_relay.specs.Reasons.{Held, Out}
 use Rattle.tds_relay.proofs.spared.Reasons.{for_reason}
 use Rattle.tds_relay.proofs.spared.Closings.{closes_both, closes_first, closes_nobody}
 use Rattle.tds_relay.proofs.spared.Speaking.{reached_left, waited_rest}
-use Rattle.tds_relay.proofs.lending.Resting.{others_both, others_on}
+use Rattle.tds_relay.proofs.lending.Resting.{others_on}
 use Rattle.tds_relay.specs.Core.{EndList, IfOpen, IsBegun, end_at}
 use Rattle.tds_relay.specs.Fronts.{ends_in}
 use Rattle.tds_relay.proofs.steps.Quieting.{open_lets_go}
 use Rattle.tds_relay.proofs.spared.Elsewhere.{aside_on, aside_waits}
 use Rattle.tds_relay.proofs.spared.Rightly.{deaf_right_on, waits_right_on}
 use Rattle.tds_relay.proofs.spared.Begun.{answers_on, answers_then}
+use Rattle.tds_relay.proofs.lending.Tending.{tend_on, tend_waits}
 use Rattle.tds_relay.proofs.relay.Relay.change.Goals as goal
 
 pub returns-then-not-has_nothing_out-clause-moves : goal.returns-then-not-has_nothing_out-clause-moves
@@ -102,7 +103,8 @@ returns-then-is_some-clause-others c = λ reached.
 
 pub returns-clause-others : goal.returns-clause-others
 returns-clause-others c = λ reached.
-    ok_if c.wait.result _ (others_both c.args.key c.args.self.now c.release.new.self c.wait.new.self (c.in_ok-release.ensures.others reached) (waited_rest c.args.key c.release.new.self c.wait.new.self c.wait.ensures.body))
+    others_on c.wait.result c.args.key c.args.self.now c.release.new.self c.wait.new.self (waited_rest c.wait.result c.args.key c.release.new.self c.wait.new.self c.wait.ensures.body c.wait.ensures.service c.wait.ensures.holds)
+    (c.in_ok-release.ensures.others reached)
 
 pub returns-then-not-has_nothing_out-clause-aside : goal.returns-then-not-has_nothing_out-clause-aside
 returns-then-not-has_nothing_out-clause-aside c = c.expel.ensures.aside
@@ -130,3 +132,16 @@ returns-clause-answers c = answers_then c.wait.result _ _ _ c.in_ok-release.ensu
 
 pub returns-then-is_some-clause-answers : goal.returns-then-is_some-clause-answers
 returns-then-is_some-clause-answers c = answers_on c.expel-then-is_some.result _ _ _ c.in_ok-release.ensures.answers c.expel-then-is_some.ensures.answers
+
+pub returns-then-is_some-clause-awaits : goal.returns-then-is_some-clause-awaits
+returns-then-is_some-clause-awaits c =
+    tend_on c.expel-then-is_some.result c.args.self.now c.release.new.self c.expel-then-is_some.new.self (reached_left c.args.key c.args.self.now.pool c.release.new.self.pool c.in_ok-release.ensures.leaving) c.in_ok-release.ensures.awaits
+    c.expel-then-is_some.ensures.awaits
+
+pub returns-clause-awaits : goal.returns-clause-awaits
+returns-clause-awaits c =
+    tend_on c.wait.result c.args.self.now c.release.new.self c.wait.new.self (reached_left c.args.key c.args.self.now.pool c.release.new.self.pool c.in_ok-release.ensures.leaving) c.in_ok-release.ensures.awaits
+    (tend_waits c.wait.result c.args.key c.release.new.self c.wait.new.self c.wait.ensures.goes c.wait.ensures.links)
+
+pub returns-then-not-has_nothing_out-clause-awaits : goal.returns-then-not-has_nothing_out-clause-awaits
+returns-then-not-has_nothing_out-clause-awaits c = c.expel.ensures.awaits

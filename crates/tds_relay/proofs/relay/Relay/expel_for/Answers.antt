@@ -16,6 +16,7 @@ use Rattle.tds_relay.proofs.seats.Relays.{kept_seated}
 use Rattle.tds_relay.proofs.spared.Elsewhere.{aside_on, aside_same}
 use Rattle.tds_relay.proofs.spared.Begun.{answers_from}
 use Rattle.tds_relay.proofs.steps.Underway.{out_freed}
+use Rattle.tds_relay.proofs.lending.Tending.{tend_pool}
 use Rattle.tds_relay.proofs.relay.Relay.expel_for.Goals as goal
 
 pub returns-clause-goes : goal.returns-clause-goes
@@ -67,3 +68,6 @@ returns-clause-answers c = answers_from c.release.result _ _ _ c.in_ok-end_for.e
 
 pub returns-clause-away : goal.returns-clause-away
 returns-clause-away c = out_freed c.release.result c.args.key (pool_in c.end_for.new.self.pool).line (pool_in c.release.new.self.pool).line c.release.ensures.line
+
+pub returns-clause-awaits : goal.returns-clause-awaits
+returns-clause-awaits c = tend_pool c.release.result c.args.self.now c.end_for.new.self c.release.new.self c.end_for.ensures.pool c.in_ok-end_for.ensures.links c.release.ensures.awaits

@@ -23,6 +23,7 @@ use Rattle.tds_relay.proofs.steps.Halting.{cancelled_unsent, forgot_cancelled}
 use Rattle.tds_relay.proofs.steps.Tied.{stays_closed}
 use Rattle.tds_relay.proofs.steps.Still.{asked_moves, links_same, moves}
 use Rattle.tds_relay.proofs.spared.Begun.{answers_from, answers_same}
+use Rattle.tds_relay.proofs.lending.Tending.{tend_on}
 use Rattle.tds_relay.proofs.relay.Relay.forget.Goals as goal
 
 pub returns-then-was_asked-clause-moves : goal.returns-then-was_asked-clause-moves
@@ -117,3 +118,11 @@ returns-then-was_asked-clause-away c = c.unask.ensures.away c.forget_request-was
 
 pub returns-else-was_asked-clause-away : goal.returns-else-was_asked-clause-away
 returns-else-was_asked-clause-away c = c.forget_request-was_asked.ensures.away
+
+pub returns-then-was_asked-clause-awaits : goal.returns-then-was_asked-clause-awaits
+returns-then-was_asked-clause-awaits c =
+    tend_on c.unask.result c.args.self.now c.forget_request-was_asked.new.self c.unask.new.self (reached_by c.args.key c.args.self.now.pool c.forget_request-was_asked.new.self.pool c.forget_request-was_asked.ensures.goes)
+    c.forget_request-was_asked.ensures.awaits c.unask.ensures.awaits
+
+pub returns-else-was_asked-clause-awaits : goal.returns-else-was_asked-clause-awaits
+returns-else-was_asked-clause-awaits c = c.forget_request-was_asked.ensures.awaits

@@ -1,5 +1,5 @@
 use Rattle.std.proofs.Common.{refl, rules, ◌≡◌}
-use Rattle.tds_relay.specs.Ties.{Application}
+use Rattle.tds_relay.specs.Ties.{Application, pool_in}
 use Rattle.tds_relay.proofs.steps.Fronts.{ends_kept}
 use Rattle.tds_relay.proofs.steps.Queueing.{queues_kept}
 use Rattle.tds_relay.proofs.steps.Reaching.{reaches_turn}
@@ -12,6 +12,8 @@ use Rattle.tds_relay.proofs.spared.Reasons.{asked_goes}
 use Rattle.tds_relay.specs.declared.state.Asking.TheVariants as asking
 use Rattle.slab.specs.Slab.{get}
 use Rattle.tds_relay.proofs.steps.Underway.{out_by}
+use Rattle.tds_relay.proofs.lending.Tending.{tend_here}
+use Rattle.tds_relay.proofs.lending.Newly.{turned_was}
 use Rattle.tds_relay.proofs.relay.Relay.forget_request.Goals as goal
 use Rattle.tds_relay.specs.Places.{own_asking}
 
@@ -52,3 +54,9 @@ returns-in_default-clause-away c = out_by c.args.key _ _ c.unwait.ensures.turns.
 
 pub returns-clause-away : goal.returns-clause-away
 returns-clause-away c = out_by c.args.key _ _ c.unwait.ensures.turns.pool_is
+
+pub returns-in_default-clause-awaits : goal.returns-in_default-clause-awaits
+returns-in_default-clause-awaits c = tend_here (pool_in c.args.self.now.pool) (pool_in c.unwait.new.self) c.args.self.now.links.items (λ reached n. turned_was n _ _ _ _ _ reached c.unwait.ensures.turns tt)
+
+pub returns-clause-awaits : goal.returns-clause-awaits
+returns-clause-awaits c = tend_here (pool_in c.args.self.now.pool) (pool_in c.unwait.new.self) c.args.self.now.links.items (λ reached n. turned_was n _ _ _ _ _ reached c.unwait.ensures.turns tt)

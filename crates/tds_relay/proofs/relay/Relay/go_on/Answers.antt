@@ -5,7 +5,7 @@ use Rattle.tds_relay.specs.Core.{EndList, change_end, closes, end_at, IfOpen, Is
 use Rattle.tds_relay.specs.Reasons.{CannotGoOn, CannotPut, ItselfFor, room_left, IsUnbegun}
 use Rattle.tds_relay.proofs.spared.Turned.{turned_goes}
 use Rattle.tds_relay.proofs.spared.Reasons.{for_reason, for_that, nothing_goes, put_goes, too_long, unbegun_goes}
-use Rattle.tds_relay.specs.Ties.{Application}
+use Rattle.tds_relay.specs.Ties.{Application, pool_in}
 use Rattle.tds_relay.proofs.steps.Fronts.{ends_kept, moves_closes, moves_same}
 use Rattle.tds_relay.proofs.steps.Reaching.{ok_if, ok_more}
 use Rattle.tds_relay.specs.Bodies.{Closed, Shuts, Stays, body_of, going_of, standing_in}
@@ -28,6 +28,7 @@ use Rattle.tds_relay.specs.Reads.{waits_on}
 use Rattle.tds_relay.proofs.steps.Still.{none_shut, put_going, put_shut}
 use Rattle.tds_relay.proofs.spared.Rightly.{deaf_right_on, unkept_right}
 use Rattle.tds_relay.proofs.spared.Starting.{put_unkept_on, unkept_none}
+use Rattle.tds_relay.proofs.lending.Tending.{none_led, tend_kept_at, tend_refl}
 use Rattle.tds_relay.proofs.relay.Relay.go_on.Goals as goal
 use Rattle.tds_relay.specs.Places.{own_asking}
 
@@ -273,3 +274,23 @@ pub returns-in-Goes-clause-right : goal.returns-in-Goes-clause-right
 returns-in-Goes-clause-right c =
     ok_more c.put.result _ _ (λ un. unkept_right c.args.key c.put.new.self un)
     (put_unkept_on c.put.result _ c.args.key c.args.self.now.applications c.in-Some.application.now c.in-Some.application.now c.put.new.self c.put.ensures.body c.in-Some.ensures.value (λ here. sym c.asking.ensures ∙ c.in-Goes.is))
+
+pub returns-in_default-clause-awaits : goal.returns-in_default-clause-awaits
+returns-in_default-clause-awaits c = tend_refl (pool_in c.args.self.now.pool) c.args.self.now.links.items
+
+pub returns-in-Goes-clause-awaits : goal.returns-in-Goes-clause-awaits
+returns-in-Goes-clause-awaits c =
+    tend_kept_at c.put.result c.args.key c.args.self.now.pool c.put.new.self.pool c.args.self.now.links.items c.put.new.self.links.items
+    (none_led c.put.result (pool_in c.args.self.now.pool) (pool_in c.put.new.self.pool) c.put.ensures.goes) (returns-in-Goes-clause-aside c)
+
+pub returns-in-Nothing-clause-awaits : goal.returns-in-Nothing-clause-awaits
+returns-in-Nothing-clause-awaits c = c.expel.ensures.awaits
+
+pub returns-then-not-branch-clause-awaits : goal.returns-then-not-branch-clause-awaits
+returns-then-not-branch-clause-awaits c = c.expel-then-not-branch.ensures.awaits
+
+pub returns-else-not-branch-clause-awaits : goal.returns-else-not-branch-clause-awaits
+returns-else-not-branch-clause-awaits c = c.seek.ensures.awaits
+
+pub returns-then-not-may_put-clause-awaits : goal.returns-then-not-may_put-clause-awaits
+returns-then-not-may_put-clause-awaits c = c.expel-then-not-may_put.ensures.awaits

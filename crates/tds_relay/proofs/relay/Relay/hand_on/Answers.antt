@@ -27,6 +27,7 @@ use Rattle.tds_relay.specs.Reads.{open_at}
 use Rattle.std.specs.Prelude.{IsSome}
 use Rattle.tds_relay.proofs.spared.Turned.{kept_asks}
 use Rattle.tds_relay.proofs.spared.Begun.{answers_from}
+use Rattle.tds_relay.proofs.lending.Tending.{none_led, tend_kept, tend_on}
 use Rattle.tds_relay.proofs.relay.Relay.hand_on.Goals as goal
 
 pub returns-in-Some-clause-moves : goal.returns-in-Some-clause-moves
@@ -147,3 +148,16 @@ returns-in-Some-clause-answers c = answers_from c.send_stop.result _ _ _ c.stop.
 
 pub returns-in-None-clause-answers : goal.returns-in-None-clause-answers
 returns-in-None-clause-answers c = answers_from c.expel.result _ _ _ c.stop.ensures.links c.expel.ensures.answers
+
+pub returns-in-Some-clause-awaits : goal.returns-in-Some-clause-awaits
+returns-in-Some-clause-awaits c =
+    let a = c.args.self.now in
+    let d = c.stop.new.self in
+    let halts = some_of _ c.in-Some.number _ c.in-Some.is c.in_ok-number.ensures.stops in
+    tend_on c.send_stop.result a d c.send_stop.new.self (reached_by c.args.key a.pool d.pool c.stop.ensures.goes) c.stop.ensures.awaits
+    (tend_kept c.send_stop.result c.args.key d c.send_stop.new.self (none_led c.send_stop.result (pool_in d.pool) (pool_in c.send_stop.new.self.pool) c.send_stop.ensures.goes)
+    (λ reached. c.send_stop.ensures.aside reached halts.hold (halting_held c.in-Some.number c.args.key a d halts) (sym halts.number_is)))
+
+pub returns-in-None-clause-awaits : goal.returns-in-None-clause-awaits
+returns-in-None-clause-awaits c =
+    tend_on c.expel.result c.args.self.now c.stop.new.self c.expel.new.self (reached_by c.args.key c.args.self.now.pool c.stop.new.self.pool c.stop.ensures.goes) c.stop.ensures.awaits c.expel.ensures.awaits

@@ -26,10 +26,12 @@ use Rattle.tds_relay.proofs.seats.Linked.{heard_there, seated_as}
 use Rattle.tds_relay.proofs.spared.Turned.{as_refl, keeps_written}
 use Rattle.tds_relay.specs.declared.pool.coming.What.TheVariants as whats
 use Rattle.tds_relay.proofs.lending.Firsts.{carried_written, first_may, first_may_on}
-use Rattle.tds_relay.specs.Cleaning.{PutsByLease}
+use Rattle.tds_relay.specs.Cleaning.{PutsByLease, CleansNobodys}
 use Rattle.tds_relay.proofs.lending.Dialled.{hears_stays, hears_written}
 use Rattle.tds_relay.proofs.lending.Stilled.{still_heard, still_refl}
 use Rattle.tds_relay.proofs.bytes.Telling.{tells_at, tells_nowhere, tells_shut}
+use Rattle.tds_relay.specs.Handing.{heard_key}
+use Rattle.tds_relay.proofs.lending.Awaiting.{unheard_cleaned}
 use Rattle.tds_relay.proofs.relay.Relay.hear.Goals as goal
 
 -- what comes where nothing is
@@ -284,3 +286,14 @@ returns-then-not-link-clause-told c = rw (← c.links.view_is) (
     tells_shut c.args.number c.args.piece.now (length c.args.piece.now) (record { key = None; what = whats.Goes }) c.links.inside.list.items c.in-Some.place c.index_mut-link.result.now (machine_in c.args.self.now) c.args.self.now.pool.service refl
     (ap (λ (v : Linked). place_of c.args.number v.items) c.links.view_is ∙ sym c.place_in.ensures.is ∙ c.in-Some.is)
     c.index_mut-link.ensures.value (search rules))
+
+pub returns-in_default-clause-newly : goal.returns-in_default-clause-newly
+returns-in_default-clause-newly c = λ reached. unheard_cleaned c.args.number _ _ _ (search rules)
+
+pub returns-then-not-link-clause-newly : goal.returns-then-not-link-clause-newly
+returns-then-not-link-clause-newly c = λ reached. unheard_cleaned c.args.number _ _ _ (search rules)
+
+pub returns-clause-newly : goal.returns-clause-newly
+returns-clause-newly c = λ reached.
+    subst (λ (xs : List ℕ). IfOk c.hear_on.result (λ heard. CleansNobodys (heard_key heard.1) c.args.number xs c.hear_on.new.outbox.items (pool_in c.args.self.now.pool).service (pool_in c.hear_on.new.pool).service)) (search rules)
+    (c.hear_on.ensures.newly reached)

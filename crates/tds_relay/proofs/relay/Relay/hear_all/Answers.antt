@@ -4,7 +4,7 @@ use Rattle.tds_relay.specs.Fronts.{core_in, ends_in, machine_in, told_by}
 use Rattle.tds_relay.specs.Ordering.{opens_in}
 use Rattle.tds_relay.specs.Queues.{names_of, queues_in}
 use Rattle.tds_relay.specs.Reads.{answer_at, open_at, waits_on}
-use Rattle.tds_relay.specs.Ties.{Connection}
+use Rattle.tds_relay.specs.Ties.{Connection, pool_in}
 use Rattle.tds_relay.proofs.spared.Coming.{along_refl, one_along}
 use Rattle.tds_relay.proofs.spared.Ordered.{ordered_more, ordered_refl}
 use Rattle.tds_relay.proofs.spared.Waking.{one_wakes, wakes_same}
@@ -34,6 +34,8 @@ use Rattle.tds_relay.proofs.lending.Dialled.{hears_next, hears_stays}
 use Rattle.tds_relay.specs.Coming.{acknowledged_in, asking_in}
 use Rattle.tds_relay.proofs.bytes.Telling.{tells_all, tells_begin, tells_left, tells_more}
 use Rattle.tds_relay.proofs.steps.Answering.{told_since}
+use Rattle.tds_relay.proofs.lending.Tending.{tend_all, tend_refl}
+use Rattle.tds_relay.proofs.lending.Awaiting.{one_awaits}
 use Rattle.tds_relay.proofs.relay.Relay.hear_all.Goals as goal
 
 pub taking-init : goal.taking-init
@@ -60,6 +62,7 @@ taking-init c = record {
   keeps = λ reached. first_refl (IsItsHolders c.args.number c.args.self.now) c.args.self.now;
   rests = λ seated key. rests_refl c.args.number key c.args.self.now;
   still = still_refl _ c.args.self.now.links.items;
+  awaits = tend_refl (pool_in c.args.self.now.pool) c.args.self.now.links.items;
   given = hears_stays c.args.number c.args.self.now.links.items c.args.self.now.links.items (stays_refl c.args.self.now.links.items);
 }
 
@@ -69,7 +72,7 @@ taking-preserved c = record {
       turned (open_at c.args.number c.taking.self.links.items) _ (open_at c.args.number c.heard.new.self.links.items) c.taking.rest.now _ _ c.taking.counter (length c.args.piece.now)
       (some_is c.taking.rest.now (sym c.is_empty.ensures ∙ c.if-is_empty.false)) c.behind-rest.ensures c.in_ok-count.ensures.takes c.in_ok-count.ensures.less
       (heard_stays c.args.number _ c.hear.new.self.links.items c.heard.new.self.links.items c.in_ok-heard.ensures.read c.in_ok-heard.ensures.gone) c.taking.invariant.turns;
-  goes = λ from h. c.in_ok-heard.ensures.goes from (c.in_ok-count.ensures.goes from (c.taking.invariant.goes from h));
+  goes = λ from h. c.in_ok-heard.ensures.goes c.args.number from (c.in_ok-count.ensures.goes from (c.taking.invariant.goes from h));
   names = ap names_of c.in_ok-heard.ensures.kept ∙ c.in_ok-count.ensures.names ∙ c.taking.invariant.names;
   anew =
       anew_left c.args.number _ _ _ _ _ _ _ _ _ _ _ c.behind-rest.ensures
@@ -121,7 +124,7 @@ taking-preserved c = record {
       let there = reached_on (Connection c.args.number) _ _ c.taking.invariant.goes reached in
       let behind = reached_on (Connection c.args.number) _ _ c.in_ok-count.ensures.goes there in
       one_cleans c.args.number c.args.self.now.pool.service.given c.taking.rest.now _ (waits_on c.args.number c.args.self.now.links.items) c.taking.self c.hear.new.self c.heard.new.self _ there
-      (goes_given (Connection c.args.number) _ _ there c.in_ok-count.ensures.goes) (goes_given (Connection c.args.number) _ _ behind c.in_ok-heard.ensures.goes) c.in_ok-count.ensures.leases
+      (goes_given (Connection c.args.number) _ _ there c.in_ok-count.ensures.goes) (goes_given (Connection c.args.number) _ _ behind (c.in_ok-heard.ensures.goes c.args.number)) c.in_ok-count.ensures.leases
       (λ key. (c.taking.invariant.spares reached key (λ e. let u : None ≡ Some key = e in let v : ⊥ = cc in v) (λ e. let u : None ≡ Some key = sym free ∙ e in let v : ⊥ = cc in v)).0)
       c.in_ok-count.ensures.hears refl c.in_ok-count.ensures.cleans (λ other. (c.in_ok-count.ensures.same other).0) c.in_ok-heard.ensures.gone c.in_ok-heard.ensures.counts c.in_ok-heard.ensures.sent (c.taking.invariant.cleans reached free);
   keeps = λ reached.
@@ -137,6 +140,9 @@ taking-preserved c = record {
       still_next c.args.number c.taking.rest.now _ c.args.self.now.links.items c.taking.self c.hear.new.self c.heard.new.self _ c.taking.invariant.given c.in_ok-count.ensures.given c.taking.invariant.still c.in_ok-count.ensures.still
       c.in_ok-count.ensures.hears c.in_ok-heard.ensures.others c.in_ok-heard.ensures.sent;
   given = hears_next c.args.number c.args.self.now.links.items c.taking.self.links.items c.hear.new.self.links.items c.heard.new.self.links.items c.taking.invariant.given c.in_ok-count.ensures.given c.in_ok-heard.ensures.read;
+  awaits =
+      tend_all c.args.self.now c.taking.self c.heard.new.self (reached_on (Connection c.args.number) _ _ c.taking.invariant.goes) c.taking.invariant.awaits
+      (one_awaits c.args.number c.in_ok-count.heard c.taking.self c.hear.new.self c.heard.new.self c.in_ok-count.ensures.goes c.in_ok-heard.ensures.goes c.in_ok-count.ensures.newly (λ n. (c.in_ok-count.ensures.same n).0) c.in_ok-heard.ensures.keeps c.in_ok-heard.ensures.sent);
   opening = c.heard.ensures.opening ∙ ap opens_in c.hear.ensures.orders ∙ c.taking.invariant.opening;
   many = many_on (length c.args.self.now.links.items) (length c.taking.self.links.items) (length c.hear.new.self.links.items) (length c.heard.new.self.links.items) c.taking.invariant.many c.in_ok-count.ensures.many c.in_ok-heard.ensures.read.few;
 }

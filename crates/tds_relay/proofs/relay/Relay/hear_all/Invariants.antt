@@ -1,5 +1,5 @@
 use Rattle.std.proofs.Common.{◌≡◌, ◌≤◌, length, ℕ}
-use Rattle.tds_relay.specs.Cleaning.{CleansAlone, CountsLost}
+use Rattle.tds_relay.specs.Cleaning.{CleansAlone, CountsLost, CleaningsWaitAt}
 use Rattle.tds_relay.specs.Closings.{ClosesOnly, but_told, register_in}
 use Rattle.tds_relay.specs.Waiting.{HeardFor, IsItsHolders, KeepsWaiting}
 use Rattle.tds_relay.specs.Coming.{AllAlong, StreamsAnew, StreamsTold, asking_in}
@@ -43,6 +43,7 @@ invariant-taking l = record {
   cleans : IsReached (pool_in l.fn.self.pool) → holder (pool_in l.fn.self.pool) l.fn.number ≡ None → CleansAlone l.fn.self.pool.service.given l.self.pool.service.given (waits_on l.fn.number l.fn.self.links.items) (waits_on l.fn.number l.self.links.items);
   keeps : IsReached (pool_in l.fn.self.pool) → FirstKeeps (IsItsHolders l.fn.number l.fn.self) l.fn.self l.self;
   rests : IsSeated l.fn.self → (key : ℕ) → KeepsWaiting l.fn.number l.fn.self l.self key;
+  awaits : CleaningsWaitAt l.fn.self l.self;
   opening : opens_in l.self.orders.items ≡ opens_in l.fn.self.orders.items;
   given : HearsAny l.fn.number l.fn.self.links.items l.self.links.items;
   still : ShutStay Any l.fn.self.links.items l.self.links.items;

@@ -112,3 +112,6 @@ returns-in-None-clause-told c = told_lost c.lose.result c.args.heard (ends_in c.
 
 pub returns-in-Some-clause-told : goal.returns-in-Some-clause-told
 returns-in-Some-clause-told c = subst (λ (o : Option Heard). OnOk c.heard_packet.result (AskAsTold (acknowledged_in o) o (ends_in c.args.self.now.applications) (asking_in c.args.self.now.applications) (asking_in c.heard_packet.new.self.applications))) (sym c.in-Some.is) c.heard_packet.ensures.told
+
+pub returns-in-None-clause-goes : goal.returns-in-None-clause-goes
+returns-in-None-clause-goes c = ok_more c.lose.result _ _ (λ g other. g (Connection other)) c.lose.ensures.goes

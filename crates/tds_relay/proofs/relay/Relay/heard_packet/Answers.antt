@@ -222,13 +222,13 @@ pub returns-in-Closed-None-clause-others : goal.returns-in-Closed-None-clause-ot
 returns-in-Closed-None-clause-others c = ok_more c.close_link-in-Closed-None.result _ _ (λ o. rests_all _ _ _ _ (λ other differs. o other differs ∙ c.in_ok-send_on.ensures.others other differs ∙ ap (waits_on other) c.in_ok-resumes.ensures.links)) c.close_link-in-Closed-None.ensures.others
 
 pub returns-in-Goes-Some-clause-goes : goal.returns-in-Goes-Some-clause-goes
-returns-in-Goes-Some-clause-goes c = goes_wrote c.order_write.result (Connection c.args.number) c.args.self.now.pool c.tell.new.self.pool c.send_on.new.self.pool c.order_write.new.self.pool c.in_ok-resumes.ensures.pool (c.in_ok-send_on.ensures.goes (Connection c.args.number)) c.order_write.ensures.pool
+returns-in-Goes-Some-clause-goes c = goes_wrote c.order_write.result c.args.self.now.pool c.tell.new.self.pool c.send_on.new.self.pool c.order_write.new.self.pool c.in_ok-resumes.ensures.pool c.in_ok-send_on.ensures.goes c.order_write.ensures.pool
 
 pub returns-in-Finished-Some-clause-goes : goal.returns-in-Finished-Some-clause-goes
-returns-in-Finished-Some-clause-goes c = goes_wrote c.order_write-in-Finished-Some.result (Connection c.args.number) c.args.self.now.pool c.tell.new.self.pool c.send_on.new.self.pool c.order_write-in-Finished-Some.new.self.pool c.in_ok-resumes.ensures.pool (c.in_ok-send_on.ensures.goes (Connection c.args.number)) c.order_write-in-Finished-Some.ensures.pool
+returns-in-Finished-Some-clause-goes c = goes_wrote c.order_write-in-Finished-Some.result c.args.self.now.pool c.tell.new.self.pool c.send_on.new.self.pool c.order_write-in-Finished-Some.new.self.pool c.in_ok-resumes.ensures.pool c.in_ok-send_on.ensures.goes c.order_write-in-Finished-Some.ensures.pool
 
 pub returns-then-resumes-clause-goes : goal.returns-then-resumes-clause-goes
-returns-then-resumes-clause-goes c = ok_more c.resume.result _ _ (λ g from h. g from (c.in_ok-send_on.ensures.goes (Connection c.args.number) from (subst (λ (d : pools.Pool). Reaches (Connection c.args.number) from (pool_in d)) (sym c.in_ok-resumes.ensures.pool) h))) c.resume.ensures.goes
+returns-then-resumes-clause-goes c = ok_more c.resume.result _ _ (λ g other from h. g other from (c.in_ok-send_on.ensures.goes (Connection other) from (subst (λ (d : pools.Pool). Reaches (Connection other) from (pool_in d)) (sym c.in_ok-resumes.ensures.pool) h))) c.resume.ensures.goes
 
 pub returns-in-Goes-Some-clause-spares : goal.returns-in-Goes-Some-clause-spares
 returns-in-Goes-Some-clause-spares c = λ reached. spares_wrote c.order_write.result c.args.number (Some c.args.heard) c.args.heard c.in-Goes-Some.key c.args.self.now c.tell.new.self c.send_on.new.self c.order_write.new.self refl (search rules) c.in_ok-resumes.ensures.pool c.in_ok-resumes.ensures.ends c.in_ok-send_on.ensures.spares c.order_write.ensures.alone c.order_write.ensures.moves
@@ -387,10 +387,10 @@ pub returns-in-Acknowledged-None-clause-keeps : goal.returns-in-Acknowledged-Non
 returns-in-Acknowledged-None-clause-keeps c = λ reached. heard_none c.args.number c.args.heard c.args.self.now c.tell.new.self c.send_on.new.self c.in_ok-resumes.ensures.pool c.in_ok-resumes.ensures.links c.in_ok-resumes.ensures.asks c.tell.ensures.outbox c.in_ok-send_on.ensures.idle (not_left c.args.heard.what whats.Acknowledged (search rules) (λ e. let u : ⊥ = cc in u)) (told_sent c.args.number c.args.self.now c.tell.new.self c.send_on.new.self c.in_ok-resumes.ensures.pool c.in_ok-resumes.ensures.links c.in_ok-send_on.ensures.keeps)
 
 pub returns-in-Closed-Some-clause-keeps : goal.returns-in-Closed-Some-clause-keeps
-returns-in-Closed-Some-clause-keeps c = λ reached. heard_closed c.close_link.result c.args.number c.args.heard c.args.self.now c.tell.new.self c.send_on.new.self c.close_link.new.self c.in_ok-resumes.ensures.pool c.in_ok-resumes.ensures.asks c.in_ok-send_on.ensures.holds c.in_ok-send_on.ensures.asks c.close_link.ensures.pool c.close_link.ensures.asks c.close_link.ensures.gone (first_closed c.close_link.result c.args.number c.args.heard.key c.args.self.now c.send_on.new.self c.close_link.new.self (told_sent c.args.number c.args.self.now c.tell.new.self c.send_on.new.self c.in_ok-resumes.ensures.pool c.in_ok-resumes.ensures.links c.in_ok-send_on.ensures.keeps) c.close_link.ensures.pool c.close_link.ensures.queues c.close_link.ensures.answers)
+returns-in-Closed-Some-clause-keeps c = λ reached. heard_closed c.close_link.result c.args.number c.args.heard c.args.self.now c.tell.new.self c.send_on.new.self c.close_link.new.self c.in_ok-resumes.ensures.pool c.in_ok-resumes.ensures.asks c.in_ok-send_on.ensures.goes c.in_ok-send_on.ensures.holds c.in_ok-send_on.ensures.asks c.close_link.ensures.pool c.close_link.ensures.asks c.close_link.ensures.gone (first_closed c.close_link.result c.args.number c.args.heard.key c.args.self.now c.send_on.new.self c.close_link.new.self (told_sent c.args.number c.args.self.now c.tell.new.self c.send_on.new.self c.in_ok-resumes.ensures.pool c.in_ok-resumes.ensures.links c.in_ok-send_on.ensures.keeps) c.close_link.ensures.pool c.close_link.ensures.queues c.close_link.ensures.answers)
 
 pub returns-in-Closed-None-clause-keeps : goal.returns-in-Closed-None-clause-keeps
-returns-in-Closed-None-clause-keeps c = λ reached. heard_closed c.close_link-in-Closed-None.result c.args.number c.args.heard c.args.self.now c.tell.new.self c.send_on.new.self c.close_link-in-Closed-None.new.self c.in_ok-resumes.ensures.pool c.in_ok-resumes.ensures.asks c.in_ok-send_on.ensures.holds c.in_ok-send_on.ensures.asks c.close_link-in-Closed-None.ensures.pool c.close_link-in-Closed-None.ensures.asks c.close_link-in-Closed-None.ensures.gone (first_closed c.close_link-in-Closed-None.result c.args.number c.args.heard.key c.args.self.now c.send_on.new.self c.close_link-in-Closed-None.new.self (told_sent c.args.number c.args.self.now c.tell.new.self c.send_on.new.self c.in_ok-resumes.ensures.pool c.in_ok-resumes.ensures.links c.in_ok-send_on.ensures.keeps) c.close_link-in-Closed-None.ensures.pool c.close_link-in-Closed-None.ensures.queues c.close_link-in-Closed-None.ensures.answers)
+returns-in-Closed-None-clause-keeps c = λ reached. heard_closed c.close_link-in-Closed-None.result c.args.number c.args.heard c.args.self.now c.tell.new.self c.send_on.new.self c.close_link-in-Closed-None.new.self c.in_ok-resumes.ensures.pool c.in_ok-resumes.ensures.asks c.in_ok-send_on.ensures.goes c.in_ok-send_on.ensures.holds c.in_ok-send_on.ensures.asks c.close_link-in-Closed-None.ensures.pool c.close_link-in-Closed-None.ensures.asks c.close_link-in-Closed-None.ensures.gone (first_closed c.close_link-in-Closed-None.result c.args.number c.args.heard.key c.args.self.now c.send_on.new.self c.close_link-in-Closed-None.new.self (told_sent c.args.number c.args.self.now c.tell.new.self c.send_on.new.self c.in_ok-resumes.ensures.pool c.in_ok-resumes.ensures.links c.in_ok-send_on.ensures.keeps) c.close_link-in-Closed-None.ensures.pool c.close_link-in-Closed-None.ensures.queues c.close_link-in-Closed-None.ensures.answers)
 
 pub returns-then-resumes-clause-keeps : goal.returns-then-resumes-clause-keeps
 returns-then-resumes-clause-keeps c = λ reached. let there : IsReached (pool_in c.send_on.new.self.pool) = put_reached c.tell.new.self.pool c.send_on.new.self.pool c.send_on.new.self.pool c.in_ok-send_on.ensures.goes refl (subst (λ (d : pools.Pool). IsReached (pool_in d)) (sym c.in_ok-resumes.ensures.pool) reached) in heard_resumes c.args.number c.args.heard c.args.self.now c.tell.new.self c.send_on.new.self c.in_ok-resumes.ensures.pool c.in_ok-resumes.ensures.links c.in_ok-resumes.ensures.asks c.tell.ensures.outbox c.in_ok-send_on.ensures.idle c.resume.result c.in-Acknowledged-Some.key c.resume.new.self (not_left c.args.heard.what whats.Acknowledged (search rules) (λ e. let u : ⊥ = cc in u)) (search rules) (first_whose_on c.resume.result c.args.number c.in-Acknowledged-Some.key c.args.heard.key c.args.self.now c.send_on.new.self c.resume.new.self (search rules) (told_sent c.args.number c.args.self.now c.tell.new.self c.send_on.new.self c.in_ok-resumes.ensures.pool c.in_ok-resumes.ensures.links c.in_ok-send_on.ensures.keeps) (c.resume.ensures.keeps there)) (c.resume.ensures.rests there)

@@ -1,5 +1,5 @@
 use Rattle.std.proofs.Common.{◌∙◌, rules, sym}
-use Rattle.tds_relay.proofs.steps.Fed.{is_there}
+use Rattle.tds_relay.proofs.steps.Fed.{is_open_there}
 use Rattle.tds_relay.specs.Asking.{Waits}
 use Rattle.tds_relay.specs.Waiting as waiting
 use Rattle.tds_relay.proofs.steps.Underway.{none_deaf, not_false, over_deaf}
@@ -7,7 +7,7 @@ use Rattle.tds_relay.proofs.relay.Relay.is_away.Goals as goal
 
 pub returns-in-None-clause-away : goal.returns-in-None-clause-away
 returns-in-None-clause-away c = λ yes. record {
-  there = is_there c.args.self.now.applications c.args.key c.in-Some.application.now c.in-Some.ensures;
+  there = is_open_there c.args.self.now.applications c.args.key c.in-Some.application.now c.in-Some.ensures (sym c.is_over.ensures ∙ c.if-is_over.false);
   holds = search rules;
   waits = search rules;
 }

@@ -41,11 +41,11 @@ use Rattle.tds_relay.proofs.relay.Relay.keep.Goals as goal
 pub returns-in-Kept-clause-goes : goal.returns-in-Kept-clause-goes
 returns-in-Kept-clause-goes c =
     ok_more c.start_kept.result _ _
-    (λ g from h. g (Connection c.args.number) from (subst (λ (d : code.Pool). Reaches (Connection c.args.number) from (pool_in d)) (sym c.restart.ensures.pool) (reaches_turn (Connection c.args.number) from _ _ _ _ _ c.in_ok-hold.ensures.turns tt h)))
+    (λ g other from h. g (Connection other) from (subst (λ (d : code.Pool). Reaches (Connection other) from (pool_in d)) (sym c.restart.ensures.pool) (reaches_turn (Connection other) from _ _ _ _ _ c.in_ok-hold.ensures.turns tt h)))
     c.start_kept.ensures.goes
 
 pub returns-in-NotKept-clause-goes : goal.returns-in-NotKept-clause-goes
-returns-in-NotKept-clause-goes c = ok_more c.replace.result _ _ (λ g from h. g from (reaches_turn (Connection c.args.number) from _ _ _ _ _ c.in_ok-hold.ensures.turns tt h)) c.replace.ensures.goes
+returns-in-NotKept-clause-goes c = ok_more c.replace.result _ _ (λ g other from h. g other from (reaches_turn (Connection other) from _ _ _ _ _ c.in_ok-hold.ensures.turns tt h)) c.replace.ensures.goes
 
 pub returns-in-Kept-clause-moves : goal.returns-in-Kept-clause-moves
 returns-in-Kept-clause-moves c =
@@ -179,7 +179,7 @@ returns-in-Kept-clause-rests c = λ reached.
     let led = reached_turn _ _ _ _ _ c.in_ok-hold.ensures.turns reached in
     waiting_on c.start_kept.result c.args.number key old at c.start_kept.new.self
     (waiting_renewed c.args.number key true old c.renew.new.self at reached c.in_ok-hold.ensures.turns.pool_is c.restart.ensures.pool (c.restart.ensures.waits c.args.number) c.restart.ensures.same)
-    (waiting_starts c.start_kept.result c.args.number key at c.start_kept.new.self (c.start_kept.ensures.own (subst (λ (d : code.Pool). IsReached (pool_in d)) (sym c.restart.ensures.pool) led)) c.start_kept.ensures.puts c.start_kept.ensures.stays)
+    (waiting_starts c.start_kept.result c.args.number key at c.start_kept.new.self (c.start_kept.ensures.own (subst (λ (d : code.Pool). IsReached (pool_in d)) (sym c.restart.ensures.pool) led)) c.start_kept.ensures.alone c.start_kept.ensures.body c.start_kept.ensures.puts c.start_kept.ensures.stays)
 
 pub returns-in-NotKept-clause-rests : goal.returns-in-NotKept-clause-rests
 returns-in-NotKept-clause-rests c = λ reached. waiting_free_on c.replace.result c.args.number c.args.key c.args.self.now c.replace.new.self c.replace.ensures.frees

@@ -11,13 +11,14 @@ use Rattle.tds_relay.proofs.steps.Stepping.{no_steps, steps_on_ok, steps_quits}
 use Rattle.tds_relay.proofs.steps.Staying.{opens_served}
 use Rattle.tds_relay.proofs.bytes.Calls.{stand_on}
 use Rattle.tds_relay.proofs.spared.Letting.{gone_go, removed_rest}
-use Rattle.tds_relay.proofs.lending.Resting.{go_on}
+use Rattle.tds_relay.proofs.lending.Clients.{clients_others, clients_served}
+use Rattle.tds_relay.proofs.lending.Resting.{go_on, others_both}
 use Rattle.tds_relay.specs.Bodies.{body_in}
 use Rattle.tds_relay.specs.declared.application.Application.{Application as AnApplication}
 use Rattle.tds_relay.proofs.steps.Renaming.{names_left, names_on}
 use Rattle.tds_relay.proofs.spared.Ordered.{ordered_on}
 use Rattle.tds_relay.proofs.spared.Lines.{waited_left}
-use Rattle.tds_relay.specs.Closings.{IsWaiting, NoKey, register_in, without_key}
+use Rattle.tds_relay.specs.Closings.{IsWaiting, Itself, NoKey, register_in, without_key}
 use Rattle.tds_relay.proofs.spared.Closings.{closes_both, closes_nobody, closes_with}
 use Rattle.tds_relay.proofs.spared.Sending.{kept_refl}
 use Rattle.tds_relay.proofs.spared.Shutting.{closes_kept, unclosed}
@@ -33,6 +34,7 @@ use Rattle.tds_relay.proofs.spared.Filling.{first_own, puts_on}
 use Rattle.tds_relay.specs.Waiting.{IsLentByParting, IsLentInVain}
 use Rattle.tds_relay.proofs.lending.Dialled.{given_served}
 use Rattle.tds_relay.proofs.lending.Fresh.{features_kept, new_served, size_kept}
+use Rattle.tds_relay.proofs.lending.Tending.{tend_line, tend_on}
 use Rattle.tds_relay.proofs.relay.Relay.left.Goals as goal
 
 pub returns-clause-left : goal.returns-clause-left
@@ -167,3 +169,20 @@ pub returns-clause-fresh : goal.returns-clause-fresh
 returns-clause-fresh c =
     new_served c.serve_line.result c.args.self.now.size c.release.new.self.size c.args.self.now.features c.release.new.self.features c.args.self.now.links.items c.release.new.self.links.items c.serve_line.new.self.links.items (size_kept _ _ c.in_ok-release.ensures.closes.told) (features_kept _ _ c.in_ok-release.ensures.closes.told)
     c.in_ok-release.ensures.read c.serve_line.ensures.fresh
+
+pub returns-clause-clients : goal.returns-clause-clients
+returns-clause-clients c = λ reached.
+    let key = c.args.key in
+    let old = c.args.self.now in
+    let mid = c.release.new.self in
+    let led = reached_on (Application key) (pool_in old.pool) (pool_in mid.pool) (λ from h. reaches_left key from (pool_in old.pool) (pool_in mid.pool) c.in_ok-release.ensures.leaving h) reached in
+    clients_served c.serve_line.result (Itself key) old mid c.serve_line.new.self
+    (clients_others key old mid (others_both key old _ mid (removed_rest key old _ refl refl c.try_remove.ensures.updates.others) (c.in_ok-release.ensures.others reached)))
+    (λ other not there. waited_left key (pool_in old.pool) (pool_in mid.pool) c.in_ok-release.ensures.leaving other there) (c.serve_line.ensures.aside led)
+
+pub returns-clause-awaits : goal.returns-clause-awaits
+returns-clause-awaits c =
+    let old = c.args.self.now in
+    let mid = c.release.new.self in
+    let led = reached_on (Application c.args.key) (pool_in old.pool) (pool_in mid.pool) (λ from h. reaches_left c.args.key from (pool_in old.pool) (pool_in mid.pool) c.in_ok-release.ensures.leaving h) in
+    tend_on c.serve_line.result old mid c.serve_line.new.self led c.in_ok-release.ensures.awaits (tend_line c.serve_line.result mid c.serve_line.new.self c.serve_line.ensures.goes c.serve_line.ensures.fills)

@@ -4,13 +4,14 @@ use Rattle.tds_relay.specs.Ties.{pool_in, Neither}
 use Rattle.tds_relay.proofs.steps.Stepping.{no_steps, steps_moved, steps_whoever}
 use Rattle.tds_relay.proofs.steps.Staying.{opens_served}
 use Rattle.tds_relay.proofs.bytes.Calls.{stand_on}
+use Rattle.tds_relay.proofs.lending.Clients.{clients_all, clients_served}
 use Rattle.tds_relay.proofs.lending.Resting.{go_on, reached_on_does, rest_go}
 use Rattle.tds_relay.proofs.steps.Reaching.{ok_more}
 use Rattle.tds_relay.proofs.steps.Renaming.{names_on}
 use Rattle.tds_relay.specs.Queues.{names_in, names_of}
 use Rattle.std.proofs.Common.{ap, ◌∙◌, inl, inr, sym, ◌≡◌, ℕ}
 use Rattle.tds_relay.proofs.spared.Ordered.{ordered_on}
-use Rattle.tds_relay.specs.Closings.{IsWaiting, IsWho, register_in}
+use Rattle.tds_relay.specs.Closings.{IsWaiting, IsWho, NoKey, register_in}
 use Rattle.tds_relay.specs.Core.{holder, is_in}
 use Rattle.tds_relay.proofs.spared.Closings.{closes_more, closes_with}
 use Rattle.tds_relay.proofs.spared.Few.{few_behind, most_kept, none_stays}
@@ -106,3 +107,10 @@ pub returns-clause-fresh : goal.returns-clause-fresh
 returns-clause-fresh c =
     new_served c.serve_line.result c.args.self.now.size c.lose.new.self.size c.args.self.now.features c.lose.new.self.features c.args.self.now.links.items c.lose.new.self.links.items c.serve_line.new.self.links.items (size_kept _ _ c.in_ok-lose.ensures.closes.told) (features_kept _ _ c.in_ok-lose.ensures.closes.told)
     c.in_ok-lose.ensures.read c.serve_line.ensures.fresh
+
+pub returns-clause-clients : goal.returns-clause-clients
+returns-clause-clients c = λ reached.
+    let old = c.args.self.now in
+    let mid = c.lose.new.self in
+    clients_served c.serve_line.result NoKey old mid c.serve_line.new.self (clients_all NoKey old mid (c.in_ok-lose.ensures.rests reached)) (λ key not there. ap (is_in key) (sym c.in_ok-lose.ensures.line) ∙ there)
+    (c.serve_line.ensures.aside (reached_on_does (pool_in old.pool) (pool_in mid.pool) c.in_ok-lose.ensures.goes reached))

@@ -30,6 +30,7 @@ use Rattle.tds_relay.proofs.steps.Still.{links_then, put_refl}
 use Rattle.tds_relay.proofs.spared.Rightly.{forgotten_right}
 use Rattle.tds_relay.proofs.lending.Earlier.{anew_kept, anew_refl}
 use Rattle.tds_relay.proofs.spared.Begun.{answers_then}
+use Rattle.tds_relay.proofs.lending.Tending.{tend_linked, tend_refl}
 use Rattle.tds_relay.proofs.relay.Relay.obey.Goals as goal
 
 pub returns-in-Begin-clause-given : goal.returns-in-Begin-clause-given
@@ -377,3 +378,10 @@ returns-in-HandOn-clause-anew c = λ reached. anew_kept c.hand_on.result c.args.
 
 pub returns-in_ok-forget-in-Acknowledge-clause-anew : goal.returns-in_ok-forget-in-Acknowledge-clause-anew
 returns-in_ok-forget-in-Acknowledge-clause-anew c = λ reached. anew_kept c.acknowledge.result c.args.self.now c.acknowledge.new.self (answers_then c.acknowledge.result _ _ _ c.in_ok-forget-in-Acknowledge.ensures.answers c.acknowledge.ensures.links)
+
+pub returns-in-Nothing-clause-awaits : goal.returns-in-Nothing-clause-awaits
+returns-in-Nothing-clause-awaits c = tend_refl (pool_in c.args.self.now.pool) c.args.self.now.links.items
+
+pub returns-in_ok-forget-in-Acknowledge-clause-awaits : goal.returns-in_ok-forget-in-Acknowledge-clause-awaits
+returns-in_ok-forget-in-Acknowledge-clause-awaits c =
+    tend_linked c.acknowledge.result c.args.self.now c.forget-in-Acknowledge.new.self c.acknowledge.new.self c.in_ok-forget-in-Acknowledge.ensures.awaits c.acknowledge.ensures.pool c.acknowledge.ensures.links

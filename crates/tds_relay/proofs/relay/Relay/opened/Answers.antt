@@ -6,6 +6,7 @@ use Rattle.tds_relay.proofs.steps.Fullness.{full_queued}
 use Rattle.tds_relay.proofs.steps.Staying.{opens_one_served, stays_behind, opens_alone}
 use Rattle.tds_relay.proofs.bytes.Calls.{stand_back, stand_on}
 use Rattle.tds_relay.specs.declared.pool.Pool as code
+use Rattle.tds_relay.proofs.lending.Clients.{clients_behind, clients_served}
 use Rattle.tds_relay.proofs.lending.Resting.{all_both, all_rest, asks_on, go_both, go_on, reached_on_does, rest_go}
 use Rattle.tds_relay.specs.Reads.{queue_on, open_at, carried_there, waits_on}
 use Rattle.tds_relay.proofs.spared.Starting.{started_on}
@@ -32,6 +33,7 @@ use Rattle.tds_relay.proofs.spared.Turned.{opens_for}
 use Rattle.tds_relay.specs.Waiting.{IsLentInVain, OpensOrLends}
 use Rattle.tds_relay.proofs.lending.Dialled.{given_opened}
 use Rattle.tds_relay.proofs.lending.Fresh.{features_kept, new_behind, size_kept}
+use Rattle.tds_relay.proofs.lending.Quiet.{opened_rests}
 use Rattle.tds_relay.proofs.relay.Relay.opened.Goals as goal
 
 pub returns-clause-steps : goal.returns-clause-steps
@@ -208,3 +210,22 @@ returns-clause-fresh c =
     let told = c.in_ok-start_on.ensures.closes.told ∙ c.in_ok-order_write_on.ensures.closes.told ∙ c.set_open.ensures.closes.told in
     new_behind c.serve_line.result c.args.self.now.size c.start_on.new.self.size c.args.self.now.features c.start_on.new.self.features c.args.self.now.links.items c.start_on.new.self.links.items c.serve_line.new.self.links.items (size_kept _ _ told) (features_kept _ _ told)
     (none_both _ _ _ (none_same _ _ c.set_open.ensures.waits) (none_stays _ _ (stays_behind _ _ _ c.in_ok-order_write_on.ensures.links c.in_ok-start_on.ensures.read))) c.serve_line.ensures.fresh
+
+pub returns-clause-clients : goal.returns-clause-clients
+returns-clause-clients c = λ reached.
+    let same = c.order_write_on.ensures.pool ∙ c.set_open.ensures.pool in
+    let old = c.args.self.now in
+    let at = c.order_write_on.new.self in
+    let mid = c.start_on.new.self in
+    let led : IsReached (pool_in at.pool) = subst (λ (d : code.Pool). IsReached (pool_in d)) (sym same) reached in
+    let first = all_both old c.set_open.new.self at c.set_open.ensures.same (all_rest c.set_open.new.self at c.order_write_on.ensures.pool c.in_ok-order_write_on.ensures.links (asks_on c.set_open.new.self at c.in_ok-order_write_on.ensures.asks)) in
+    clients_served c.serve_line.result (IsWho (holder (pool_in old.pool) c.args.number)) old mid c.serve_line.new.self
+    (clients_behind c.args.number old at mid same led first c.in_ok-start_on.ensures.goes_on (c.in_ok-start_on.ensures.clients led))
+    (λ key not there. ap (λ (d : code.Pool). is_in key (pool_in d).line) (sym same) ∙ waited_on (pool_in at.pool) (pool_in mid.pool) c.in_ok-start_on.ensures.goes key there)
+    (c.serve_line.ensures.aside (reached_on_does (pool_in at.pool) (pool_in mid.pool) c.in_ok-start_on.ensures.goes led))
+
+pub returns-clause-rests : goal.returns-clause-rests
+returns-clause-rests c = λ reached.
+    opened_rests c.serve_line.result c.args.number c.args.self.now c.order_write_on.new.self c.start_on.new.self c.serve_line.new.self reached (c.order_write_on.ensures.pool ∙ c.set_open.ensures.pool)
+    (λ n. ap (waits_on n) c.in_ok-order_write_on.ensures.links ∙ c.set_open.ensures.waits n) c.in_ok-start_on.ensures.goes c.in_ok-start_on.ensures.alone.line c.in_ok-start_on.ensures.rests c.serve_line.ensures.goes
+    c.serve_line.ensures.aside c.serve_line.ensures.asks c.serve_line.ensures.fills

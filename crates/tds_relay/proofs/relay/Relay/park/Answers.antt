@@ -1,5 +1,5 @@
 use Rattle.std.proofs.Common.{◌≡◌, ◌∙◌, rules, sym, true, Some, ℕ, inl, subst}
-use Rattle.tds_relay.specs.Closings.{IsWaiting, NoKey, register_in}
+use Rattle.tds_relay.specs.Closings.{IsWaiting, Itself, NoKey, register_in}
 use Rattle.tds_relay.specs.Fronts.{ends_in, core_in, machine_in, may_park_in}
 use Rattle.tds_relay.specs.Queues.{queues_in}
 use Rattle.tds_relay.specs.Ties.{Application, Parking, pool_in}
@@ -8,6 +8,7 @@ use Rattle.tds_relay.proofs.spared.Few.{most_kept, none_stays}
 use Rattle.tds_relay.proofs.spared.Lines.{waited_left}
 use Rattle.tds_relay.proofs.spared.Ordered.{ordered_both}
 use Rattle.tds_relay.proofs.spared.Parks.{asks_none, parked_apart, parked_few, parked_go, parks}
+use Rattle.tds_relay.proofs.lending.Clients.{clients_others, clients_refl, clients_then}
 use Rattle.tds_relay.proofs.lending.Resting.{go_both}
 use Rattle.tds_relay.proofs.steps.Fronts.{moves_parks, no_moves}
 use Rattle.tds_relay.proofs.steps.Reaching.{reached_on, reaches_left}
@@ -27,6 +28,7 @@ use Rattle.tds_relay.proofs.spared.Cleaned.{since_served}
 use Rattle.tds_relay.specs.Waiting.{IsLentByParting, IsLentInVain}
 use Rattle.tds_relay.proofs.lending.Dialled.{given_refl, given_then}
 use Rattle.tds_relay.proofs.lending.Fresh.{features_kept, new_refl, new_then, size_kept}
+use Rattle.tds_relay.proofs.lending.Tending.{line_tends, tend_all, tend_refl}
 use Rattle.tds_relay.proofs.relay.Relay.park.Goals as goal
 
 pub returns-clause-left : goal.returns-clause-left
@@ -180,3 +182,25 @@ pub returns-clause-fresh : goal.returns-clause-fresh
 returns-clause-fresh c =
     new_then c.args.self.now.size c.release.new.self.size c.args.self.now.features c.release.new.self.features c.args.self.now.links.items c.release.new.self.links.items c.serve_line.new.self.links.items (size_kept _ _ c.in_ok-release.ensures.closes.told) (features_kept _ _ c.in_ok-release.ensures.closes.told)
     c.in_ok-release.ensures.read c.in_ok-serve_line.ensures.fresh
+
+pub returns-then-not-may_park-clause-clients : goal.returns-then-not-may_park-clause-clients
+returns-then-not-may_park-clause-clients c = λ reached. clients_refl (Itself c.args.key) c.args.self.now
+
+pub returns-clause-clients : goal.returns-clause-clients
+returns-clause-clients c = λ reached.
+    let key = c.args.key in
+    let old = c.args.self.now in
+    let mid = c.release.new.self in
+    let led = reached_on (Application key) (pool_in old.pool) (pool_in mid.pool) (λ from h. reaches_left key from (pool_in old.pool) (pool_in mid.pool) c.in_ok-release.ensures.leaving h) reached in
+    clients_then (Itself key) old mid c.serve_line.new.self (clients_others key old mid (c.in_ok-release.ensures.others reached))
+    (λ other not there. waited_left key (pool_in old.pool) (pool_in mid.pool) c.in_ok-release.ensures.leaving other there) (c.in_ok-serve_line.ensures.aside led)
+
+pub returns-then-not-may_park-clause-awaits : goal.returns-then-not-may_park-clause-awaits
+returns-then-not-may_park-clause-awaits c = tend_refl (pool_in c.args.self.now.pool) c.args.self.now.links.items
+
+pub returns-clause-awaits : goal.returns-clause-awaits
+returns-clause-awaits c =
+    let old = c.args.self.now in
+    let mid = c.release.new.self in
+    let led = reached_on (Application c.args.key) (pool_in old.pool) (pool_in mid.pool) (λ from h. reaches_left c.args.key from (pool_in old.pool) (pool_in mid.pool) c.in_ok-release.ensures.leaving h) in
+    tend_all old mid c.serve_line.new.self led c.in_ok-release.ensures.awaits (line_tends mid c.serve_line.new.self c.in_ok-serve_line.ensures.goes c.in_ok-serve_line.ensures.fills)

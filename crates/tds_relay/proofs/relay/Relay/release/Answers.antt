@@ -18,6 +18,7 @@ use Rattle.tds_relay.specs.Places.{held_by}
 use Rattle.tds_relay.specs.Cleaning.{CountsOnce, cleaned_in}
 use Rattle.tds_relay.proofs.spared.Freeing.{left_frees, left_keeps, nobody_frees, nobody_keeps}
 use Rattle.tds_relay.proofs.spared.Begun.{answers_from, answers_same}
+use Rattle.tds_relay.proofs.lending.Tending.{put_left, tend_left, tend_nobody, tend_shut}
 use Rattle.tds_relay.proofs.relay.Relay.release.Goals as goal
 
 pub returns-in_default-clause-lets_go : goal.returns-in_default-clause-lets_go
@@ -213,3 +214,20 @@ returns-then-left-clause-answers c = answers_from c.send_unheld.result _ _ _ c.l
 
 pub returns-else-left-clause-answers : goal.returns-else-left-clause-answers
 returns-else-left-clause-answers c = answers_from c.close.result _ _ _ c.let_go.ensures.links c.close.ensures.answers
+
+pub returns-in_default-clause-awaits : goal.returns-in_default-clause-awaits
+returns-in_default-clause-awaits c =
+    tend_nobody c.args.key c.in_ok-left.ensures.turns.0 c.in_ok-left.ensures.turns.1 c.args.self.now c.let_go.new.self c.let_go.new.self c.leave.new.self _ _ c.in_ok-left.ensures.turns.2 c.let_go.ensures.pool c.let_go.ensures.links
+    (find_key c.args.key c.args.self.now.pool.holds.items) refl (search rules)
+
+pub returns-then-left-clause-awaits : goal.returns-then-left-clause-awaits
+returns-then-left-clause-awaits c =
+    tend_left c.args.key c.in_ok-left.ensures.turns.0 c.in_ok-left.ensures.turns.1 c.args.self.now c.let_go.new.self c.send_unheld.new.self c.leave.new.self _ _ c.in_ok-left.ensures.turns.2 c.let_go.ensures.pool c.let_go.ensures.links
+    c.send_unheld.result c.in-Some.left (find_key c.args.key c.args.self.now.pool.holds.items) refl (search rules)
+    (λ reached. put_left c.in_ok-left.left c.in-Some.left _ _ c.let_go.new.self.outbox.items (pool_in c.args.self.now.pool).service (pool_in c.leave.new.self).service c.in-Some.is (search rules) (search rules) c.let_go.ensures.outbox (c.in_ok-left.ensures.newly reached))
+    c.send_unheld.ensures.goes c.send_unheld.ensures.puts (returns-then-left-clause-keeps c)
+
+pub returns-else-left-clause-awaits : goal.returns-else-left-clause-awaits
+returns-else-left-clause-awaits c =
+    tend_shut c.args.key c.in_ok-left.ensures.turns.0 c.in_ok-left.ensures.turns.1 c.args.self.now c.let_go.new.self c.close.new.self c.leave.new.self _ _ c.in_ok-left.ensures.turns.2 c.let_go.ensures.pool c.let_go.ensures.links
+    c.close.result c.in-Some.left (find_key c.args.key c.args.self.now.pool.holds.items) refl (search rules) c.close.ensures.pool c.close.ensures.gone (returns-else-left-clause-keeps c)

@@ -33,6 +33,8 @@ use Rattle.tds_relay.specs.Lent.{OthersKeep}
 use Rattle.tds_relay.specs.declared.pool.Hold.{Hold}
 use Rattle.tds_relay.proofs.spared.Rightly.{deaf_right_on, held_right_on}
 use Rattle.tds_relay.proofs.lending.Earlier.{anew_kept, relent_anew}
+use Rattle.tds_relay.proofs.lending.Tending.{none_on, none_same, none_both, tend_at, tend_here, tend_kept}
+use Rattle.tds_relay.proofs.lending.Newly.{turned_was}
 use Rattle.tds_relay.proofs.relay.Relay.renew.Goals as goal
 
 pub returns-in-Kept-clause-goes : goal.returns-in-Kept-clause-goes
@@ -214,3 +216,25 @@ returns-then-has_transaction-clause-anew c = λ reached. anew_kept c.expel.resul
 
 pub returns-else-has_transaction-clause-anew : goal.returns-else-has_transaction-clause-anew
 returns-else-has_transaction-clause-anew c = λ reached. anew_kept c.change.result c.args.self.now c.change.new.self c.change.ensures.answers
+
+pub returns-then-has_transaction-clause-awaits : goal.returns-then-has_transaction-clause-awaits
+returns-then-has_transaction-clause-awaits c =
+    tend_at c.expel.result (pool_in c.args.self.now.pool) (pool_in c.renew.new.self) (pool_in c.expel.new.self.pool) c.args.self.now.links.items c.args.self.now.links.items c.expel.new.self.links.items
+    (reached_turn _ _ _ _ _ c.in_ok-hold.ensures.turns)
+    (tend_here (pool_in c.args.self.now.pool) (pool_in c.renew.new.self) c.args.self.now.links.items (λ reached n. turned_was n _ _ _ _ _ reached c.in_ok-hold.ensures.turns tt)) c.expel.ensures.awaits
+
+pub returns-else-has_transaction-clause-awaits : goal.returns-else-has_transaction-clause-awaits
+returns-else-has_transaction-clause-awaits c =
+    tend_at c.change.result (pool_in c.args.self.now.pool) (pool_in c.renew.new.self) (pool_in c.change.new.self.pool) c.args.self.now.links.items c.args.self.now.links.items c.change.new.self.links.items
+    (reached_turn _ _ _ _ _ c.in_ok-hold.ensures.turns)
+    (tend_here (pool_in c.args.self.now.pool) (pool_in c.renew.new.self) c.args.self.now.links.items (λ reached n. turned_was n _ _ _ _ _ reached c.in_ok-hold.ensures.turns tt)) c.change.ensures.awaits
+
+pub returns-in-Kept-clause-awaits : goal.returns-in-Kept-clause-awaits
+returns-in-Kept-clause-awaits c =
+    let old = c.args.self.now in
+    let at = c.restart.new.self in
+    let led : IsReached (pool_in old.pool) → IsReached (pool_in at.pool) = λ reached. subst (λ (d : code.Pool). IsReached (pool_in d)) (sym c.restart.ensures.pool) (reached_turn _ _ _ _ _ c.in_ok-hold.ensures.turns reached) in
+    tend_kept c.start_kept.result c.args.key old c.start_kept.new.self
+    (none_on c.start_kept.result (pool_in old.pool) (pool_in at.pool) (pool_in c.start_kept.new.self.pool) led
+    (λ reached. none_both (pool_in old.pool) (pool_in c.renew.new.self) (pool_in at.pool) (λ n. turned_was n _ _ _ _ _ reached c.in_ok-hold.ensures.turns tt) (none_same (pool_in c.renew.new.self) (pool_in at.pool) (ap pool_in c.restart.ensures.pool)))
+    c.start_kept.ensures.goes) (returns-in-Kept-clause-aside c)

@@ -34,7 +34,7 @@ use Rattle.tds_relay.proofs.relay.Relay.replace.Goals as goal
 
 pub returns-in_default-clause-goes : goal.returns-in_default-clause-goes
 returns-in_default-clause-goes c =
-    ok_if c.close_link.result _ (λ from h. subst (λ (d : code.Pool). Reaches (Connection c.args.number) from (pool_in d)) (sym c.close_link.ensures.pool) (reaches_turn (Connection c.args.number) from _ _ _ _ _ c.in_ok-holder.ensures.turns tt h))
+    ok_if c.close_link.result _ (λ other from h. subst (λ (d : code.Pool). Reaches (Connection other) from (pool_in d)) (sym c.close_link.ensures.pool) (reaches_turn (Connection other) from _ _ _ _ _ c.in_ok-holder.ensures.turns tt h))
 
 pub returns-in_default-clause-moves : goal.returns-in_default-clause-moves
 returns-in_default-clause-moves c =
@@ -46,8 +46,8 @@ returns-in_default-clause-moves c =
 pub returns-clause-goes : goal.returns-clause-goes
 returns-clause-goes c =
     ok_more c.wait.result _ _
-    (λ g from h. g (Connection c.args.number) tt from
-    (subst (λ (d : code.Pool). Reaches (Connection c.args.number) from (pool_in d)) (sym (c.in_ok-close_link.ensures.pool ∙ c.let_go.ensures.pool)) (reaches_turn (Connection c.args.number) from _ _ _ _ _ c.in_ok-holder.ensures.turns tt h)))
+    (λ g other from h. g (Connection other) tt from
+    (subst (λ (d : code.Pool). Reaches (Connection other) from (pool_in d)) (sym (c.in_ok-close_link.ensures.pool ∙ c.let_go.ensures.pool)) (reaches_turn (Connection other) from _ _ _ _ _ c.in_ok-holder.ensures.turns tt h)))
     c.wait.ensures.goes
 
 pub returns-clause-moves : goal.returns-clause-moves
@@ -162,11 +162,10 @@ returns-in_default-clause-apart c =
 
 pub returns-clause-apart : goal.returns-clause-apart
 returns-clause-apart c =
-    ok_if c.wait.result _
-    (waits_off c.args.number None c.args.self.now c.close_link-2.new.self c.wait.new.self
+    waits_off c.wait.result c.args.number None c.args.self.now c.close_link-2.new.self c.wait.new.self
     (parted_off c.args.number None c.args.self.now c.let_go.new.self c.close_link-2.new.self c.lose-2.new.self c.in_ok-holder.ensures.off (c.in_ok-close_link.ensures.pool ∙ c.let_go.ensures.pool) c.in_ok-close_link.ensures.others c.let_go.ensures.links
     c.let_go.ensures.asks c.in_ok-close_link.ensures.asks)
-    c.wait.ensures.body)
+    c.wait.ensures.body c.wait.ensures.service c.wait.ensures.holds
 
 pub returns-then-not-may_replace-clause-keeps : goal.returns-then-not-may_replace-clause-keeps
 returns-then-not-may_replace-clause-keeps c = first_lost_on c.lose.result c.args.number c.args.self.now c.lose.new.self c.lose.ensures.holds c.lose.ensures.queues c.lose.ensures.answers

@@ -14,6 +14,7 @@ use Rattle.tds_relay.proofs.lending.Firsts.{first_its}
 use Rattle.tds_relay.proofs.lending.Rests.{waiting_starts}
 use Rattle.tds_relay.proofs.lending.Stilled.{still_asked}
 use Rattle.tds_relay.proofs.steps.Staying.{stays_refl}
+use Rattle.tds_relay.specs.Ties.{Connection}
 use Rattle.tds_relay.proofs.relay.Relay.resume.Goals as goal
 
 pub returns-then-asks_to_keep-clause-moves : goal.returns-then-asks_to_keep-clause-moves
@@ -65,10 +66,13 @@ returns-then-asks_to_keep-clause-rests c = λ reached. c.keep.ensures.rests reac
 
 pub returns-else-asks_to_keep-clause-rests : goal.returns-else-asks_to_keep-clause-rests
 returns-else-asks_to_keep-clause-rests c = λ reached.
-    waiting_starts c.start_kept.result c.args.number c.args.key c.args.self.now c.start_kept.new.self (c.start_kept.ensures.own reached) c.start_kept.ensures.puts c.start_kept.ensures.stays
+    waiting_starts c.start_kept.result c.args.number c.args.key c.args.self.now c.start_kept.new.self (c.start_kept.ensures.own reached) c.start_kept.ensures.alone c.start_kept.ensures.body c.start_kept.ensures.puts c.start_kept.ensures.stays
 
 pub returns-then-asks_to_keep-clause-still : goal.returns-then-asks_to_keep-clause-still
 returns-then-asks_to_keep-clause-still c = c.keep.ensures.still
 
 pub returns-else-asks_to_keep-clause-still : goal.returns-else-asks_to_keep-clause-still
 returns-else-asks_to_keep-clause-still c = still_asked c.start_kept.result _ c.args.self.now.links.items c.args.self.now.links.items c.start_kept.new.self.links.items (stays_refl c.args.self.now.links.items) (λ n. refl) c.start_kept.ensures.shut
+
+pub returns-else-asks_to_keep-clause-goes : goal.returns-else-asks_to_keep-clause-goes
+returns-else-asks_to_keep-clause-goes c = ok_more c.start_kept.result _ _ (λ g other. g (Connection other)) c.start_kept.ensures.goes

@@ -11,7 +11,9 @@ use Rattle.tds_relay.proofs.steps.Reaching.{ok_more, reached_on}
 use Rattle.tds_relay.specs.Queues.{names_in}
 use Rattle.tds_relay.proofs.steps.Renaming.{names_on}
 use Rattle.tds_relay.specs.Waiting.{ForReasonOrWaiting, IsLentInVain, IsTakenTo}
-use Rattle.std.proofs.Common.{[], inl}
+use Rattle.std.proofs.Common.{[], inl, sym}
+use Rattle.tds_relay.proofs.spared.Lines.{waited}
+use Rattle.tds_relay.specs.Closings.{Itself}
 use Rattle.tds_relay.proofs.spared.Closings.{closes_more, closes_with}
 use Rattle.tds_relay.proofs.spared.Reasons.{lent_behind}
 use Rattle.tds_relay.proofs.spared.Few.{few_behind, most_kept, none_stays}
@@ -20,9 +22,11 @@ use Rattle.tds_relay.proofs.spared.Speaking.{others_served}
 use Rattle.tds_relay.proofs.spared.Elsewhere.{said_puts}
 use Rattle.tds_relay.proofs.steps.Heeding.{cancels_served}
 use Rattle.tds_relay.proofs.steps.Tied.{relay_tied}
+use Rattle.tds_relay.proofs.lending.Clients.{clients_others, clients_served}
 use Rattle.tds_relay.proofs.lending.Dialled.{given_served}
 use Rattle.tds_relay.proofs.lending.Fresh.{features_kept, new_served, size_kept}
 use Rattle.tds_relay.proofs.lending.Earlier.{anew_on}
+use Rattle.tds_relay.proofs.lending.Tending.{tend_line, tend_on}
 use Rattle.tds_relay.proofs.relay.Relay.said.Goals as goal
 
 pub returns-clause-steps : goal.returns-clause-steps
@@ -110,3 +114,19 @@ returns-clause-anew c = λ reached.
     let led = reached_on by _ _ c.in_ok-take_all.ensures.goes reached in
     anew_on c.serve_line.result by by c.args.self.now c.take_all.new.self c.serve_line.new.self reached led c.in_ok-take_all.ensures.goes (ok_more c.serve_line.result _ _ (λ g. g by) c.serve_line.ensures.goes)
     (c.in_ok-take_all.ensures.anew reached) (c.serve_line.ensures.anew led)
+
+pub returns-clause-clients : goal.returns-clause-clients
+returns-clause-clients c = λ reached.
+    let key = c.args.key in
+    let old = c.args.self.now in
+    let mid = c.take_all.new.self in
+    clients_served c.serve_line.result (Itself key) old mid c.serve_line.new.self (clients_others key old mid (c.in_ok-take_all.ensures.others reached))
+    (λ other differs there. waited (Application key) (pool_in old.pool) (pool_in mid.pool) other (λ same. differs (sym same)) c.in_ok-take_all.ensures.goes there)
+    (c.serve_line.ensures.aside (reached_on (Application key) _ _ c.in_ok-take_all.ensures.goes reached))
+
+pub returns-clause-awaits : goal.returns-clause-awaits
+returns-clause-awaits c =
+    let old = c.args.self.now in
+    let mid = c.take_all.new.self in
+    tend_on c.serve_line.result old mid c.serve_line.new.self (reached_on (Application c.args.key) _ _ c.in_ok-take_all.ensures.goes) c.in_ok-take_all.ensures.awaits
+    (tend_line c.serve_line.result mid c.serve_line.new.self c.serve_line.ensures.goes c.serve_line.ensures.fills)

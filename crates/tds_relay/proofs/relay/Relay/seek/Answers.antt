@@ -1,5 +1,5 @@
 use Rattle.std.proofs.Common.{sym, refl, rules, ◌∙◌, ap}
-use Rattle.tds_relay.specs.Ties.{Application}
+use Rattle.tds_relay.specs.Ties.{Application, pool_in}
 use Rattle.tds_relay.proofs.steps.Reaching.{ok_if, ok_more}
 use Rattle.tds_relay.proofs.steps.Staying.{stays_refl, stays_same}
 use Rattle.tds_relay.specs.Bodies.{body_of, standing_in}
@@ -14,6 +14,7 @@ use Rattle.tds_relay.specs.Reads.{waits_on}
 use Rattle.tds_relay.proofs.steps.Still.{put_same}
 use Rattle.tds_relay.proofs.spared.Rightly.{held_right_on, waits_right_on}
 use Rattle.tds_relay.proofs.spared.Begun.{answers_refl, answers_then}
+use Rattle.tds_relay.proofs.lending.Tending.{none_led, tend_kept, tend_waits}
 use Rattle.tds_relay.proofs.relay.Relay.seek.Goals as goal
 
 pub returns-in-None-clause-goes : goal.returns-in-None-clause-goes
@@ -47,7 +48,7 @@ pub returns-in-Some-clause-others : goal.returns-in-Some-clause-others
 returns-in-Some-clause-others c = c.start_kept.ensures.others
 
 pub returns-in-None-clause-others : goal.returns-in-None-clause-others
-returns-in-None-clause-others c = λ reached. ok_if c.wait.result _ (waited_rest c.args.key c.args.self.now c.wait.new.self c.wait.ensures.body)
+returns-in-None-clause-others c = λ reached. waited_rest c.wait.result c.args.key c.args.self.now c.wait.new.self c.wait.ensures.body c.wait.ensures.service c.wait.ensures.holds
 
 pub returns-in-Some-clause-moves : goal.returns-in-Some-clause-moves
 returns-in-Some-clause-moves c = ok_more c.start_kept.result _ _ (λ m begun from h. m (Application c.args.key) from h) c.start_kept.ensures.moves
@@ -69,3 +70,10 @@ returns-in-None-clause-right c = waits_right_on c.wait.result c.args.key c.args.
 
 pub returns-in-None-clause-answers : goal.returns-in-None-clause-answers
 returns-in-None-clause-answers c = answers_then c.wait.result _ _ _ (answers_refl c.args.self.now.links.items) (ok_if c.wait.result _ c.wait.ensures.links)
+
+pub returns-in-Some-clause-awaits : goal.returns-in-Some-clause-awaits
+returns-in-Some-clause-awaits c =
+    tend_kept c.start_kept.result c.args.key c.args.self.now c.start_kept.new.self (none_led c.start_kept.result (pool_in c.args.self.now.pool) (pool_in c.start_kept.new.self.pool) c.start_kept.ensures.goes) (returns-in-Some-clause-aside c)
+
+pub returns-in-None-clause-awaits : goal.returns-in-None-clause-awaits
+returns-in-None-clause-awaits c = tend_waits c.wait.result c.args.key c.args.self.now c.wait.new.self c.wait.ensures.goes c.wait.ensures.links

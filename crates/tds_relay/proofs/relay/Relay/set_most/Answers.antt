@@ -1,9 +1,10 @@
 use Rattle.tds_relay.proofs.spared.Filling.{first_none, puts_on}
-use Rattle.std.proofs.Common.{refl}
+use Rattle.std.proofs.Common.{inl, refl}
 use Rattle.tds_relay.specs.Closings.{NoKey}
 use Rattle.tds_relay.specs.Waiting.{IsLentInVain}
 use Rattle.tds_relay.proofs.spared.Closings.{closes_more_on}
 use Rattle.tds_relay.specs.declared.relay.Relay as code
+use Rattle.tds_relay.proofs.lending.Clients.{clients_served}
 use Rattle.tds_relay.proofs.lending.Fresh.{new_served}
 use Rattle.tds_relay.proofs.steps.Staying.{stays_refl}
 use Rattle.tds_relay.proofs.relay.Relay.set_most.Goals as goal
@@ -41,3 +42,9 @@ returns-clause-given c = c.serve_line.ensures.given
 pub returns-clause-fresh : goal.returns-clause-fresh
 returns-clause-fresh c =
     new_served c.serve_line.result c.args.self.now.size c.args.self.now.size c.args.self.now.features c.args.self.now.features c.args.self.now.links.items c.args.self.now.links.items c.serve_line.new.self.links.items refl refl (stays_refl c.args.self.now.links.items) c.serve_line.ensures.fresh
+
+pub returns-clause-clients : goal.returns-clause-clients
+returns-clause-clients c = λ reached.
+    let old = c.args.self.now in
+    let mid : code.Relay = record old { most = c.args.most } in
+    clients_served c.serve_line.result NoKey old mid c.serve_line.new.self (record { stay = λ key not away. inl (inl refl) }) (λ key not there. there) (c.serve_line.ensures.aside reached)

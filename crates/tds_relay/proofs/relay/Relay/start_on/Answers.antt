@@ -1,6 +1,7 @@
 use Rattle.std.proofs.Common.{sym, ◌∙◌, ◌⊎◌, ℕ, ap, subst, Some}
 use Rattle.tds_relay.specs.Waiting.{IsUnheldOrTurnedAway}
 use Rattle.tds_relay.specs.Reasons.{IsTurnedAwayAt, ItselfFor}
+use Rattle.tds_relay.proofs.lending.Clients.{clients_holder, clients_refl}
 use Rattle.tds_relay.proofs.lending.Resting.{go_on_one, go_refl}
 use Rattle.tds_relay.specs.Bodies.{body_of}
 use Rattle.tds_relay.specs.Sparing.{IsHeldBack, IsUnkept, StartsThere}
@@ -15,6 +16,7 @@ use Rattle.tds_relay.proofs.spared.Apart.{none_alone, who_alone}
 use Rattle.tds_relay.specs.Fronts.{core_in}
 use Rattle.tds_relay.proofs.spared.Filling.{first_holder, first_refl}
 use Rattle.tds_relay.specs.Lent.{IsWithHolder}
+use Rattle.tds_relay.proofs.lending.Quiet.{RestsFor, start_still}
 use Rattle.tds_relay.proofs.relay.Relay.start_on.Goals as goal
 
 pub returns-in-Some-clause-goes_on : goal.returns-in-Some-clause-goes_on
@@ -59,3 +61,17 @@ returns-in-Some-clause-keeps c = λ reached. first_holder c.start_kept.result c.
 
 pub returns-in-None-clause-keeps : goal.returns-in-None-clause-keeps
 returns-in-None-clause-keeps c = λ reached. first_refl (IsWithHolder c.args.number c.args.self.now) c.args.self.now
+
+pub returns-in-Some-clause-clients : goal.returns-in-Some-clause-clients
+returns-in-Some-clause-clients c = λ reached. clients_holder c.start_kept.result c.in-Some.key c.args.number c.args.self.now c.start_kept.new.self (sym c.key_on.ensures ∙ c.in-Some.is) (c.start_kept.ensures.others reached)
+
+pub returns-in-None-clause-clients : goal.returns-in-None-clause-clients
+returns-in-None-clause-clients c = λ reached. clients_refl (IsWho (holder (pool_in c.args.self.now.pool) c.args.number)) c.args.self.now
+
+pub returns-in-Some-clause-rests : goal.returns-in-Some-clause-rests
+returns-in-Some-clause-rests c =
+    let its = sym c.key_on.ensures ∙ c.in-Some.is in
+    own_on c.start_kept.result _ c.in-Some.key (RestsFor c.args.self.now c.start_kept.new.self) its (start_still c.start_kept.result c.in-Some.key c.args.number c.args.self.now c.start_kept.new.self its c.start_kept.ensures.behind c.start_kept.ensures.puts)
+
+pub returns-in-None-clause-rests : goal.returns-in-None-clause-rests
+returns-in-None-clause-rests c = none_own _ (RestsFor c.args.self.now c.args.self.now) (sym c.key_on.ensures ∙ c.in-None.is)

@@ -9,6 +9,8 @@ use Rattle.tds_relay.specs.Pool.{Pool, Stops}
 use Rattle.std.proofs.Common.{ap, ◌≡◌, List, false, inr, ℕ, refl, rules, subst}
 use Rattle.tds_relay.proofs.spared.Speaking.{done_as}
 use Rattle.tds_service.specs.Service as calls
+use Rattle.tds_relay.proofs.lending.Tending.{none_same, tend_here}
+use Rattle.tds_relay.proofs.lending.Newly.{turned_was}
 use Rattle.tds_relay.proofs.relay.Relay.stop.Goals as goal
 
 pub returns-then-matches-clause-goes : goal.returns-then-matches-clause-goes
@@ -91,3 +93,17 @@ returns-in_ok-unless_memory-in-Err-clause-holds c = ap (λ (d : Pool). d.holds) 
 
 pub returns-in_err-unless_memory-in-Err-clause-holds : goal.returns-in_err-unless_memory-in-Err-clause-holds
 returns-in_err-unless_memory-in-Err-clause-holds c = ap (λ (d : Pool). d.holds) c.in-Err.ensures.err
+
+pub returns-then-matches-clause-awaits : goal.returns-then-matches-clause-awaits
+returns-then-matches-clause-awaits c = tend_here (pool_in c.args.self.now.pool) (pool_in c.cancel.new.self) c.args.self.now.links.items (λ reached n. turned_was n _ _ _ _ _ reached c.in-Ok.ensures.ok tt)
+
+pub returns-else-matches-clause-awaits : goal.returns-else-matches-clause-awaits
+returns-else-matches-clause-awaits c = tend_here (pool_in c.args.self.now.pool) (pool_in c.cancel.new.self) c.args.self.now.links.items (λ reached n. turned_was n _ _ _ _ _ reached c.in-Ok.ensures.ok tt)
+
+pub returns-in_ok-unless_memory-in-Err-clause-awaits : goal.returns-in_ok-unless_memory-in-Err-clause-awaits
+returns-in_ok-unless_memory-in-Err-clause-awaits c =
+    tend_here (pool_in c.args.self.now.pool) (pool_in c.cancel.new.self) c.args.self.now.links.items (λ reached. none_same (pool_in c.args.self.now.pool) (pool_in c.cancel.new.self) c.in-Err.ensures.err)
+
+pub returns-in_err-unless_memory-in-Err-clause-awaits : goal.returns-in_err-unless_memory-in-Err-clause-awaits
+returns-in_err-unless_memory-in-Err-clause-awaits c =
+    tend_here (pool_in c.args.self.now.pool) (pool_in c.cancel.new.self) c.args.self.now.links.items (λ reached. none_same (pool_in c.args.self.now.pool) (pool_in c.cancel.new.self) c.in-Err.ensures.err)

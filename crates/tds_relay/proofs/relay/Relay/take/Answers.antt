@@ -38,6 +38,7 @@ use Rattle.tds_relay.specs.Sparing.{IsKept}
 use Rattle.tds_relay.proofs.spared.Starting.{unkept_over}
 use Rattle.tds_relay.specs.declared.relay.Relay as code
 use Rattle.tds_relay.proofs.lending.Earlier.{anew_refl}
+use Rattle.tds_relay.proofs.lending.Tending.{tend_refl}
 use Rattle.tds_relay.proofs.relay.Relay.take.Goals as goal
 use Rattle.tds_relay.specs.Places.{is_closed, own_reset, took_back}
 
@@ -320,3 +321,15 @@ returns-in-Err-clause-anew c = λ reached number hold found le. c.in_ok-expel_fo
 
 pub returns-clause-anew : goal.returns-clause-anew
 returns-clause-anew c = λ reached. c.in_ok-obey.ensures.anew reached
+
+pub returns-in_default-clause-awaits : goal.returns-in_default-clause-awaits
+returns-in_default-clause-awaits c = tend_refl (pool_in c.args.self.now.pool) c.args.self.now.links.items
+
+pub returns-then-is_over-clause-awaits : goal.returns-then-is_over-clause-awaits
+returns-then-is_over-clause-awaits c = tend_refl (pool_in c.args.self.now.pool) c.args.self.now.links.items
+
+pub returns-in-Err-clause-awaits : goal.returns-in-Err-clause-awaits
+returns-in-Err-clause-awaits c = c.in_ok-expel_for-in-Err.ensures.awaits
+
+pub returns-clause-awaits : goal.returns-clause-awaits
+returns-clause-awaits c = c.in_ok-obey.ensures.awaits

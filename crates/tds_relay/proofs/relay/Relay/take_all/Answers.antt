@@ -1,5 +1,5 @@
 use Rattle.std.proofs.Common.{◌∙◌, length, refl, rules, sym}
-use Rattle.tds_relay.specs.Ties.{Application}
+use Rattle.tds_relay.specs.Ties.{Application, pool_in}
 use Rattle.tds_relay.specs.Fronts.{machine_in}
 use Rattle.tds_relay.proofs.steps.Staying.{stays_both, stays_refl}
 use Rattle.tds_relay.proofs.steps.Told.{tells_begin, tells_left}
@@ -17,6 +17,7 @@ use Rattle.tds_relay.proofs.spared.Elsewhere.{aside_both, aside_refl}
 use Rattle.tds_relay.proofs.steps.Heeding.{cancels_begin, cancels_left}
 use Rattle.tds_relay.proofs.steps.Tied.{relay_tied}
 use Rattle.tds_relay.proofs.lending.Earlier.{anew_both, anew_refl}
+use Rattle.tds_relay.proofs.lending.Tending.{tend_all, tend_refl}
 use Rattle.tds_relay.proofs.relay.Relay.take_all.Goals as goal
 
 pub taking-init : goal.taking-init
@@ -35,6 +36,7 @@ taking-init c = record {
   others = λ reached. others_refl c.args.key c.args.self.now;
   aside = λ reached. aside_refl c.args.key c.args.self.now;
   anew = λ reached. anew_refl c.args.self.now;
+  awaits = tend_refl (pool_in c.args.self.now.pool) c.args.self.now.links.items;
   opening = refl;
   right = λ h. h;
 }
@@ -68,6 +70,7 @@ taking-preserved c = record {
       let by = Application c.args.key in
       let led = reached_by c.args.key c.args.self.now.pool c.taking.self.pool c.taking.invariant.goes reached in
       anew_both by by c.args.self.now c.taking.self c.take.new.self reached led c.taking.invariant.goes c.in_ok-count.ensures.goes (c.taking.invariant.anew reached) (c.in_ok-count.ensures.anew led);
+  awaits = tend_all c.args.self.now c.taking.self c.take.new.self (reached_by c.args.key c.args.self.now.pool c.taking.self.pool c.taking.invariant.goes) c.taking.invariant.awaits c.in_ok-count.ensures.awaits;
   opening = c.take.ensures.opening ∙ c.taking.invariant.opening;
   right = λ h. c.in_ok-count.ensures.right (c.taking.invariant.right h);
 }

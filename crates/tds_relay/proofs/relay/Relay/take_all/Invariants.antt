@@ -14,6 +14,7 @@ use Rattle.tds_relay.specs.Closings.{ClosesOnly, register_in}
 use Rattle.tds_relay.specs.Few.{IsSeated}
 use Rattle.tds_relay.specs.Lent.{AnewIfLent, OthersKeepAt}
 use Rattle.tds_relay.specs.Ordering.{opens_in}
+use Rattle.tds_relay.specs.Cleaning.{CleaningsWaitAt}
 use Rattle.tds_relay.proofs.relay.Relay.take_all.Given as goal
 
 abbrev pub invariant-taking : goal.invariant-taking
@@ -34,4 +35,5 @@ invariant-taking l = record {
   right : IsRightlyKept l.fn.key l.fn.self → IsRightlyKept l.fn.key l.self;
   aside : IsReached (pool_in l.fn.self.pool) → OthersKeepAt l.fn.key l.fn.self l.self;
   anew : IsReached (pool_in l.fn.self.pool) → AnewIfLent l.fn.self l.self;
+  awaits : CleaningsWaitAt l.fn.self l.self;
 }

@@ -3,7 +3,7 @@ use Rattle.tds_relay.specs.declared.link.Link.{Link}
 use Rattle.tds_relay.specs.Anew.{AsksNothing}
 use Rattle.tds_relay.specs.Fronts.{ends_in, core_in, core_of_ends, withdraws}
 use Rattle.tds_relay.specs.Core.{Core, Moves, change_end, closes, is_in}
-use Rattle.tds_relay.specs.Ties.{Application, pool_in, Reaches}
+use Rattle.tds_relay.specs.Ties.{Application, pool_in, Reaches, IsReached}
 use Rattle.tds_relay.proofs.steps.Fed.{closed_as_fed, taken_back_at}
 use Rattle.tds_relay.proofs.steps.Quieting.{moves_unwaits, stops_unwaits}
 use Rattle.tds_relay.proofs.steps.Fronts.{moves_closes, moves_does, moves_same, no_moves, open_closed}
@@ -27,6 +27,7 @@ use Rattle.tds_relay.proofs.steps.Halting.{cancelled_shut, taken_back}
 use Rattle.tds_relay.proofs.steps.Tied.{closed_asks}
 use Rattle.tds_relay.proofs.spared.Begun.{answers_from}
 use Rattle.tds_relay.proofs.steps.Underway.{out_still}
+use Rattle.tds_relay.proofs.lending.Tending.{none_led, tend_all, tend_kept, tend_on, tend_same}
 use Rattle.tds_relay.proofs.relay.Relay.take_back.Goals as goal
 
 pub returns-in-Some-clause-moves : goal.returns-in-Some-clause-moves
@@ -206,3 +207,28 @@ returns-in-Some-clause-away c =
 
 pub returns-in-None-clause-away : goal.returns-in-None-clause-away
 returns-in-None-clause-away c = c.expel.ensures.away
+
+pub returns-in-Some-clause-awaits : goal.returns-in-Some-clause-awaits
+returns-in-Some-clause-awaits c =
+    let a = c.args.self.now in
+    let b = c.forget_request.new.self in
+    let d = c.stop.new.self in
+    let e = c.withdraw.new.self in
+    let halts = some_of _ c.in-Some.number _ c.in-Some.is c.in_ok-number.ensures.stops in
+    let led = reached_by c.args.key a.pool b.pool c.forget_request.ensures.goes in
+    let stopped = reached_by c.args.key b.pool d.pool c.stop.ensures.goes in
+    let there : IsReached (pool_in d.pool) → IsReached (pool_in e.pool) = λ reached. subst (λ (x : code.Pool). IsReached (pool_in x)) (sym c.withdraw.ensures.pool) reached in
+    tend_on c.send_stop.result a e c.send_stop.new.self (λ reached. there (stopped (led reached)))
+    (tend_all a b e led c.forget_request.ensures.awaits (tend_all b d e stopped c.stop.ensures.awaits (tend_same d e c.withdraw.ensures.pool c.withdraw.ensures.links)))
+    (tend_kept c.send_stop.result c.args.key e c.send_stop.new.self (none_led c.send_stop.result (pool_in e.pool) (pool_in c.send_stop.new.self.pool) c.send_stop.ensures.goes)
+    (λ reached. c.send_stop.ensures.aside reached halts.hold
+    (subst (λ (x : code.Pool). find_key c.args.key x.holds.items ≡ Some halts.hold) (sym c.withdraw.ensures.pool) (halting_held c.in-Some.number c.args.key b d halts)) (sym halts.number_is)))
+
+pub returns-in-None-clause-awaits : goal.returns-in-None-clause-awaits
+returns-in-None-clause-awaits c =
+    let a = c.args.self.now in
+    let b = c.forget_request.new.self in
+    let d = c.stop.new.self in
+    let led = reached_by c.args.key a.pool b.pool c.forget_request.ensures.goes in
+    let stopped = reached_by c.args.key b.pool d.pool c.stop.ensures.goes in
+    tend_on c.expel.result a d c.expel.new.self (λ reached. stopped (led reached)) (tend_all a b d led c.forget_request.ensures.awaits c.stop.ensures.awaits) c.expel.ensures.awaits

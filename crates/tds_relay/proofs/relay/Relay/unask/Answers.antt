@@ -18,6 +18,8 @@ use Rattle.tds_relay.proofs.spared.Elsewhere.{keeps_on}
 use Rattle.tds_relay.proofs.steps.Bodied.{shut}
 use Rattle.tds_relay.proofs.steps.Halting.{cancelled_going, cancelled_shut}
 use Rattle.tds_relay.proofs.steps.Underway.{out_still}
+use Rattle.tds_relay.proofs.lending.Tending.{none_same, none_on, tend_at, tend_here, tend_kept}
+use Rattle.tds_relay.proofs.lending.Newly.{turned_was}
 use Rattle.tds_relay.proofs.relay.Relay.unask.Goals as goal
 
 pub returns-then-not-has_nothing_out-clause-moves : goal.returns-then-not-has_nothing_out-clause-moves
@@ -112,3 +114,18 @@ returns-in-Ok-clause-away c = λ out. c.send_stop.ensures.away (out_still c.args
 
 pub returns-in_ok-unless_memory-in-Err-clause-away : goal.returns-in_ok-unless_memory-in-Err-clause-away
 returns-in_ok-unless_memory-in-Err-clause-away c = λ out. c.expel-in-Err.ensures.away
+
+pub returns-in-Ok-clause-awaits : goal.returns-in-Ok-clause-awaits
+returns-in-Ok-clause-awaits c =
+    tend_kept c.send_stop.result c.args.key c.args.self.now c.send_stop.new.self
+    (none_on c.send_stop.result (pool_in c.args.self.now.pool) (pool_in c.cancel.new.self) (pool_in c.send_stop.new.self.pool) (reached_turn _ _ _ _ _ c.in-Ok.ensures.ok) (λ reached n. turned_was n _ _ _ _ _ reached c.in-Ok.ensures.ok tt)
+    c.send_stop.ensures.goes) (returns-in-Ok-clause-aside c)
+
+pub returns-in_ok-unless_memory-in-Err-clause-awaits : goal.returns-in_ok-unless_memory-in-Err-clause-awaits
+returns-in_ok-unless_memory-in-Err-clause-awaits c =
+    tend_at c.expel-in-Err.result (pool_in c.args.self.now.pool) (pool_in c.cancel.new.self) (pool_in c.expel-in-Err.new.self.pool) c.args.self.now.links.items c.args.self.now.links.items c.expel-in-Err.new.self.links.items
+    (λ reached. subst (λ (d : Pool). IsReached d) (sym c.in-Err.ensures.err) reached)
+    (tend_here (pool_in c.args.self.now.pool) (pool_in c.cancel.new.self) c.args.self.now.links.items (λ reached. none_same (pool_in c.args.self.now.pool) (pool_in c.cancel.new.self) c.in-Err.ensures.err)) c.expel-in-Err.ensures.awaits
+
+pub returns-then-not-has_nothing_out-clause-awaits : goal.returns-then-not-has_nothing_out-clause-awaits
+returns-then-not-has_nothing_out-clause-awaits c = c.expel.ensures.awaits

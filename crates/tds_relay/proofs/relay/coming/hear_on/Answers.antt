@@ -7,6 +7,7 @@ use Rattle.tds_relay.proofs.steps.Handed.{done_keeps, hears_is}
 use Rattle.tds_relay.proofs.bytes.Reader.{reads_by}
 use Rattle.tds_relay.proofs.bytes.Turns.{takes_some}
 use Rattle.tds_relay.proofs.spared.Waking.{puts_brings}
+use Rattle.tds_relay.proofs.lending.Awaiting.{unheard_cleaned}
 use Rattle.tds_relay.proofs.relay.coming.hear_on.Goals as goal
 
 pub invariant_of-link-2 : goal.invariant_of-link-2
@@ -68,3 +69,9 @@ returns-in-Err-clause-leases c = λ left. absurd left
 
 pub returns-clause-leases : goal.returns-clause-leases
 returns-clause-leases c = c.in_ok-heard.ensures.leases
+
+pub returns-in-Err-clause-newly : goal.returns-in-Err-clause-newly
+returns-in-Err-clause-newly c = λ reached. unheard_cleaned c.args.number _ _ _ refl
+
+pub returns-clause-newly : goal.returns-clause-newly
+returns-clause-newly c = c.in_ok-heard.ensures.newly

@@ -20,6 +20,7 @@ use Rattle.tds_relay.proofs.steps.Renaming.{names_handed}
 use Rattle.tds_relay.proofs.steps.Bodied.{asks_kept}
 use Rattle.tds_relay.proofs.seats.Counting.{stays_refl}
 use Rattle.tds_relay.proofs.spared.Losing.{cleans_as}
+use Rattle.tds_relay.proofs.lending.Awaiting.{nobodys_cleaned, unheard_cleaned}
 use Rattle.tds_relay.proofs.relay.coming.hear_packet.Goals as goal
 
 -- where it isn't handed on
@@ -285,3 +286,26 @@ returns-then-not-hears-clause-leases c = c.in_ok-heard.ensures.leases
 
 pub returns-clause-leases : goal.returns-clause-leases
 returns-clause-leases c = c.in_ok-heard.ensures.leases
+
+pub returns-in_default-clause-newly : goal.returns-in_default-clause-newly
+returns-in_default-clause-newly c = λ reached. unheard_cleaned c.args.number _ _ _ refl
+
+pub returns-then-matches-clause-newly : goal.returns-then-matches-clause-newly
+returns-then-matches-clause-newly c = λ reached.
+    nobodys_cleaned c.args.number (pool_in c.args.pool.now) _ c.in_ok-heard.heard _ _ reached c.in_ok-heard.ensures.whose (c.in_ok-heard.ensures.newly reached) (c.in_ok-heard.ensures.seats reached)
+
+pub returns-in_default-key-clause-newly : goal.returns-in_default-key-clause-newly
+returns-in_default-key-clause-newly c = λ reached.
+    nobodys_cleaned c.args.number (pool_in c.args.pool.now) _ c.in_ok-heard.heard _ _ reached c.in_ok-heard.ensures.whose (c.in_ok-heard.ensures.newly reached) (c.in_ok-heard.ensures.seats reached)
+
+pub returns-in_default-get_mut-clause-newly : goal.returns-in_default-get_mut-clause-newly
+returns-in_default-get_mut-clause-newly c = λ reached.
+    nobodys_cleaned c.args.number (pool_in c.args.pool.now) _ c.in_ok-heard.heard _ _ reached c.in_ok-heard.ensures.whose (c.in_ok-heard.ensures.newly reached) (c.in_ok-heard.ensures.seats reached)
+
+pub returns-then-not-hears-clause-newly : goal.returns-then-not-hears-clause-newly
+returns-then-not-hears-clause-newly c = λ reached.
+    nobodys_cleaned c.args.number (pool_in c.args.pool.now) _ c.in_ok-heard.heard _ _ reached c.in_ok-heard.ensures.whose (c.in_ok-heard.ensures.newly reached) (c.in_ok-heard.ensures.seats reached)
+
+pub returns-clause-newly : goal.returns-clause-newly
+returns-clause-newly c = λ reached.
+    nobodys_cleaned c.args.number (pool_in c.args.pool.now) _ c.in_ok-heard.heard _ _ reached c.in_ok-heard.ensures.whose (c.in_ok-heard.ensures.newly reached) (c.in_ok-heard.ensures.seats reached)
