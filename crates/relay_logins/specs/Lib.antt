@@ -1,4 +1,5 @@
 pub mod Groups
 pub mod Keys
+pub mod Lends
 pub mod Session
 pub mod Telling

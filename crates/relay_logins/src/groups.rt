@@ -1,7 +1,8 @@
 //! Groups of applications that share connections: whose login is equal to a group's may join it, and by that
 //! login its connections log in.
-ghost use Rattle.std.specs.Prelude.{◌≡◌, ◌≤◌, ◌*◌, ℕ, List, IfOk, IfSome, Some, None, option_copied};
+ghost use Rattle.std.specs.Prelude.{◌≡◌, ◌<◌, ◌≤◌, ◌*◌, ℕ, List, [], IfOk, IfSome, IfNone, Some, None, IsSome, false, option_copied};
 ghost use Rattle.std.specs.Prelude.{IsTrue};
+ghost use Rattle.std.specs.Borrow.{sem};
 ghost use Rattle.std.specs.Option.{option_copied_mut};
 ghost use Rattle.relay_logins.specs.Groups.{Admits, inner_in, is_joined_in, login_of};
 ghost use Rattle.relay_logins.specs.Keys.{OthersStay, known};
@@ -28,6 +29,8 @@ pub struct Groups<T> {
 }
 
 impl<T: Drop> Groups<T> {
+    ghost use Rattle.relay_logins.specs.Lends.{lends_if_inner, lends_inner};
+
     pub fn new(alloc: Global) -> Groups<T>
         ensures { (key : ℕ) → known result.groups.slab key ≡ None }
     {
@@ -44,6 +47,13 @@ impl<T: Drop> Groups<T> {
         ensures fresh { IfSome result (λ key. 16384 * self.old.groups.given ≤ key) }
         ensures others { IfSome result (λ key.
             OthersStay key self.old.groups.slab self.new.groups.slab) }
+        ensures inner { IfSome result (λ key.
+            inner_in (known self.new.groups.slab key) ≡ Some inner) }
+        ensures was { IfSome result (λ key. known self.old.groups.slab key ≡ None) }
+        ensures given { IfSome result (λ key. key < 16384 * self.new.groups.given) }
+        ensures grows { self.old.groups.given ≤ self.new.groups.given }
+        ensures none { IfNone result ((key : ℕ)
+            → known self.new.groups.slab key ≡ known self.old.groups.slab key) }
     {
         self.groups.insert(Group {
             login: login.message,
@@ -61,6 +71,13 @@ impl<T: Drop> Groups<T> {
         ensures fresh { IfSome result (λ key. 16384 * self.old.groups.given ≤ key) }
         ensures others { IfSome result (λ key.
             OthersStay key self.old.groups.slab self.new.groups.slab) }
+        ensures inner { IfSome result (λ key.
+            inner_in (known self.new.groups.slab key) ≡ Some inner) }
+        ensures was { IfSome result (λ key. known self.old.groups.slab key ≡ None) }
+        ensures given { IfSome result (λ key. key < 16384 * self.new.groups.given) }
+        ensures grows { self.old.groups.given ≤ self.new.groups.given }
+        ensures none { IfNone result ((key : ℕ)
+            → known self.new.groups.slab key ≡ known self.old.groups.slab key) }
     {
         self.groups.insert(Group {
             login,
@@ -121,16 +138,32 @@ impl<T: Drop> Groups<T> {
     }
 
     /// Nobody joins a group any more.
-    pub fn close(&mut self, key: usize) {
+    pub fn close(&mut self, key: usize)
+        ensures joined { is_joined_in (known self.new.groups.slab key) ≡ false }
+        ensures nobody { (login : List ℕ) → Admits (known self.new.groups.slab key) login → ⊥ }
+        ensures logs_in { login_of self.new.groups.slab key
+            ≡ login_of self.old.groups.slab key }
+        ensures inner { inner_in (known self.new.groups.slab key)
+            ≡ inner_in (known self.old.groups.slab key) }
+        ensures others { OthersStay key self.old.groups.slab self.new.groups.slab }
+        ensures given { self.new.groups.given ≡ self.old.groups.given }
+    {
         if let Some(group) = self.groups.get_mut(key) {
             group.is_joined = false;
         }
     }
 
     /// What a group logged in by is forgotten: nobody logs in by it again, or joins.
-    pub fn forget_login(&mut self, key: usize) {
+    pub fn forget_login(&mut self, key: usize)
+        ensures nobody { (login : List ℕ) → Admits (known self.new.groups.slab key) login → ⊥ }
+        ensures gone { IfSome (login_of self.new.groups.slab key) (λ login. login ≡ []) }
+        ensures inner { inner_in (known self.new.groups.slab key)
+            ≡ inner_in (known self.old.groups.slab key) }
+        ensures others { OthersStay key self.old.groups.slab self.new.groups.slab }
+        ensures given { self.new.groups.given ≡ self.old.groups.given }
+    {
+        self.close(key);
         if let Some(group) = self.groups.get_mut(key) {
-            group.is_joined = false;
             group.login.clear();
         }
     }
@@ -145,20 +178,33 @@ impl<T: Drop> Groups<T> {
         }
     }
 
-    /// The same for writing.
+    /// The same for writing: its login stays, and who may join.
     pub fn get_mut(&mut self, key: usize) -> Option<&mut T>
-        ensures { option_copied_mut result ≡ inner_in (known self.old.groups.slab key) }
+        ensures* writes_back { sem 𝓛 (lends_if_inner T.row self.entry key result) }
+        ensures value { option_copied_mut result ≡ inner_in (known self.old.groups.slab key) }
     {
-        match self.groups.get_mut(key) {
-            Some(group) => Some(&mut group.inner),
-            None => None,
+        if !self.groups.is_known(key) {
+            return None;
         }
+        Some(self.inner_mut(key))
+    }
+
+    /// What is known of a group that there is, for writing.
+    fn inner_mut(&mut self, key: usize) -> &mut T
+        requires { IsSome (known self.old.groups.slab key) }
+        ensures* writes_back { sem 𝓛 (lends_inner T.row self.entry key result) }
+        ensures value { Some result.now ≡ inner_in (known self.old.groups.slab key) }
+    {
+        let group = self.groups.at_mut(key);
+        &mut group.inner
     }
 
     /// A group is one no longer. Its key is no group's from then on.
     pub fn try_remove(&mut self, key: usize) -> Option<T>
+        ensures value { result ≡ inner_in (known self.old.groups.slab key) }
         ensures gone { known self.new.groups.slab key ≡ None }
         ensures others { OthersStay key self.old.groups.slab self.new.groups.slab }
+        ensures given { self.new.groups.given ≡ self.old.groups.given }
     {
         let group = self.groups.try_remove(key)?;
         Some(group.inner)

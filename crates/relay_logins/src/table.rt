@@ -1,5 +1,6 @@
 //! A table whose keys are never used again: none is taken for what had its place before.
-ghost use Rattle.std.specs.Prelude.{◌≡◌, ◌+◌, ◌*◌, ◌/◌, ◌%◌, ◌<◌, ◌≤◌, ℕ, IfSome, IfNone, Some, None, option_copied};
+ghost use Rattle.std.specs.Prelude.{◌≡◌, ◌+◌, ◌*◌, ◌/◌, ◌%◌, ◌<◌, ◌≤◌, ℕ, IfSome, IfNone, Some, None, IsSome, is_some, option_copied};
+ghost use Rattle.std.specs.Borrow.{sem};
 ghost use Rattle.std.specs.Option.{option_copied_mut};
 ghost use Rattle.slab.specs.Slab.{slab_len};
 ghost use Rattle.relay_logins.specs.Keys.{OthersStay, known};
@@ -44,6 +45,8 @@ pub struct Table<T> {
 }
 
 impl<T: Drop> Table<T> {
+    ghost use Rattle.relay_logins.specs.Lends.{lends_if_known, lends_known};
+
     pub fn new(alloc: Global) -> Table<T>
         ensures { (key : ℕ) → known result.slab key ≡ None }
     {
@@ -80,6 +83,7 @@ impl<T: Drop> Table<T> {
     pub fn insert(&mut self, value: T) -> Option<usize>
         ensures key { IfSome result (λ key.
             key ≡ 16384 * self.old.given + self.old.slab.vacant_key) }
+        ensures was { IfSome result (λ key. known self.old.slab key ≡ None) }
         ensures there { IfSome result (λ key. known self.new.slab key ≡ Some value) }
         ensures fresh { IfSome result (λ key. 16384 * self.old.given ≤ key) }
         ensures given { IfSome result (λ key. key < 16384 * self.new.given) }
@@ -108,12 +112,29 @@ impl<T: Drop> Table<T> {
 
     /// The same for writing.
     pub fn get_mut(&mut self, key: usize) -> Option<&mut T>
-        ensures { option_copied_mut result ≡ known self.old.slab key }
+        ensures* writes_back { sem 𝓛 (lends_if_known T.row self.entry key result) }
+        ensures value { option_copied_mut result ≡ known self.old.slab key }
     {
-        match self.slab.get_mut(key % PLACES) {
-            Some(entry) if entry.key == key => Some(&mut entry.value),
-            _ => None,
+        if !self.is_known(key) {
+            return None;
         }
+        Some(self.at_mut(key))
+    }
+
+    /// Whether anything is known by a key.
+    pub(crate) fn is_known(&self, key: usize) -> bool
+        ensures { result ≡ is_some (known self.now.slab key) }
+    {
+        self.get(key).is_some()
+    }
+
+    /// What is known by a key, for writing.
+    pub(crate) fn at_mut(&mut self, key: usize) -> &mut T
+        requires { IsSome (known self.old.slab key) }
+        ensures* writes_back { sem 𝓛 (lends_known T.row self.entry key result) }
+        ensures value { Some result.now ≡ known self.old.slab key }
+    {
+        &mut self.slab[key % PLACES].value
     }
 
     /// Takes out what is known by a key. Nothing is from then on.
