@@ -1,5 +1,5 @@
 -- Groups of applications that share connections, each with the login by which its connections log in.
-use Rattle.std.specs.Prelude.{ℕ, ◌≡◌, Option, Some, None, Bool, true, false, List}
+use Rattle.std.specs.Prelude.{ℕ, ◌≡◌, ◌/◌, IsSome, Option, Some, None, Bool, true, false, List}
 use Rattle.slab.specs.Slab.{Slab}
 use Rattle.relay_logins.specs.Keys.{known}
 use Rattle.relay_logins.specs.Session.{session_in}
@@ -28,3 +28,7 @@ inner_in (Some group) = Some group.inner
 abbrev pub is_joined_in : {T : Type 0} → Option (Group T) → Bool
 is_joined_in None = false
 is_joined_in (Some group) = group.is_joined
+
+-- the key is a group's that is there, and has this number
+abbrev pub HasNumber : {T : Type 0} → Slab (Entry (Group T)) → ℕ → ℕ → Type 0
+HasNumber groups number key = IsSome (known groups key) × (key / 16384 ≡ number)

@@ -118,6 +118,11 @@ pub record HaveEqualTexts (one other : List ℕ) : Type 0 where
   pub language : text_at one 64 ≡ text_at other 64
   pub database : text_at one 68 ≡ text_at other 68
 
+-- it is shared
+abbrev pub IsShared : Kind → Type 0
+IsShared (kinds.Shared login) = Unit {0}
+IsShared _ = ⊥
+
 -- What such a login may be is shared, and is this one; and what is alone is this one.
 abbrev pub IfShared : Kind → (SharedLogin → Type 0) → Type 0
 IfShared (kinds.Shared login) holds = holds login

@@ -1,10 +1,11 @@
 //! Groups of applications that share connections: whose login is equal to a group's may join it, and by that
 //! login its connections log in.
-ghost use Rattle.std.specs.Prelude.{◌≡◌, ◌<◌, ◌≤◌, ◌*◌, ℕ, List, [], IfOk, IfSome, IfNone, Some, None, IsSome, false, option_copied};
+ghost use Rattle.std.specs.Prelude.{◌≡◌, ◌<◌, ◌≤◌, ◌*◌, ℕ, List, [], IfOk, IfSome, IfNone, Some, None, IsSome, false, true, option_copied};
 ghost use Rattle.std.specs.Prelude.{IsTrue};
 ghost use Rattle.std.specs.Borrow.{sem};
 ghost use Rattle.std.specs.Option.{option_copied_mut};
-ghost use Rattle.relay_logins.specs.Groups.{Admits, inner_in, is_joined_in, login_of};
+ghost use Rattle.slab.specs.Slab.{entries};
+ghost use Rattle.relay_logins.specs.Groups.{Admits, HasNumber, inner_in, is_joined_in, login_of};
 ghost use Rattle.relay_logins.specs.Keys.{OthersStay, known};
 
 use crate::dial::{Dial, Way};
@@ -54,6 +55,8 @@ impl<T: Drop> Groups<T> {
         ensures grows { self.old.groups.given ≤ self.new.groups.given }
         ensures none { IfNone result ((key : ℕ)
             → known self.new.groups.slab key ≡ known self.old.groups.slab key) }
+        ensures joined { IfSome result (λ key.
+            is_joined_in (known self.new.groups.slab key) ≡ true) }
     {
         self.groups.insert(Group {
             login: login.message,
@@ -88,8 +91,10 @@ impl<T: Drop> Groups<T> {
 
     /// The group that an application with this login joins: its own login is equal.
     pub fn join(&self, login: &SharedLogin) -> Option<usize>
-        ensures { IfSome result (λ key.
+        ensures may { IfSome result (λ key.
             Admits (known self.now.groups.slab key) login.now.message.items) }
+        ensures none { IfNone result ((key : ℕ)
+            → Admits (known self.now.groups.slab key) login.now.message.items → ⊥) }
     {
         for (_, entry) in self.groups.iter() {
             if self.admits(entry.key, login) {
@@ -101,7 +106,8 @@ impl<T: Drop> Groups<T> {
 
     /// Whether an application with this login may join a group.
     fn admits(&self, key: usize, login: &SharedLogin) -> bool
-        ensures { IsTrue result → Admits (known self.now.groups.slab key) login.now.message.items }
+        ensures may { IsTrue result → Admits (known self.now.groups.slab key) login.now.message.items }
+        ensures all { Admits (known self.now.groups.slab key) login.now.message.items → IsTrue result }
     {
         match self.groups.get(key) {
             Some(group) => group.is_joined && are_equal(&group.login, &login.message),
@@ -221,17 +227,31 @@ impl<T: Drop> Groups<T> {
     }
 
     /// The key of the group of this number.
-    pub fn key_of(&self, number: u64) -> Option<usize> {
+    pub fn key_of(&self, number: u64) -> Option<usize>
+        ensures is { IfSome result (λ key. HasNumber self.now.groups.slab number key) }
+        ensures none { IfNone result ((key : ℕ)
+            → HasNumber self.now.groups.slab number key → ⊥) }
+    {
         for (_, entry) in self.groups.iter() {
-            if number_of(entry.key) == number {
+            if self.has_number(entry.key, number) {
                 return Some(entry.key);
             }
         }
         None
     }
 
+    /// Whether a key is a group's of this number.
+    fn has_number(&self, key: usize, number: u64) -> bool
+        ensures is { IsTrue result → HasNumber self.now.groups.slab number key }
+        ensures all { HasNumber self.now.groups.slab number key → IsTrue result }
+    {
+        number_of(key) == number && self.groups.is_known(key)
+    }
+
     /// All groups.
-    pub fn iter(&self) -> slab::Iter<'_, Entry<Group<T>>> {
+    pub fn iter(&self) -> slab::Iter<'_, Entry<Group<T>>>
+        ensures { result ≡ entries self.now.groups.slab }
+    {
         self.groups.iter()
     }
 }

@@ -1,6 +1,6 @@
 //! LOGIN7 (MS-TDS 2.2.6.4): which logins make equal sessions, and which can't be shared.
 ghost use Rattle.std.specs.Prelude.{◌≡◌, ◌≤◌, ◌<◌, IsTrue, length, option_copied};
-ghost use Rattle.relay_logins.specs.Session.{HaveEqualFields, HaveEqualTexts, IfAlone, IfShared, IsWhole};
+ghost use Rattle.relay_logins.specs.Session.{HaveEqualFields, HaveEqualTexts, IfAlone, IfShared, IsShared, IsWhole};
 ghost use Rattle.relay_logins.specs.Session.{AsksNoMore, MayShare, number_at, part_at, session_in, text_at};
 
 use crate::features::asks_recovery_alone;
@@ -159,6 +159,7 @@ pub fn kind_of(message: Vec<u8>) -> Kind
     ensures shared { IfShared result (λ login. login.message.items ≡ message.items) }
     ensures whole { IfShared result (λ login. IsWhole message.items) }
     ensures may { IfShared result (λ login. MayShare message.items) }
+    ensures shares { IsWhole message.items → MayShare message.items → IsShared result }
     ensures alone { IfAlone result (λ login. login ≡ message.items) }
 {
     if message.len() < FIXED {

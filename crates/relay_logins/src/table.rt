@@ -2,7 +2,7 @@
 ghost use Rattle.std.specs.Prelude.{◌≡◌, ◌+◌, ◌*◌, ◌/◌, ◌%◌, ◌<◌, ◌≤◌, ℕ, IfSome, IfNone, Some, None, IsSome, is_some, option_copied};
 ghost use Rattle.std.specs.Borrow.{sem};
 ghost use Rattle.std.specs.Option.{option_copied_mut};
-ghost use Rattle.slab.specs.Slab.{slab_len};
+ghost use Rattle.slab.specs.Slab.{entries, slab_len};
 ghost use Rattle.relay_logins.specs.Keys.{OthersStay, known};
 
 use slab::Slab;
@@ -152,7 +152,9 @@ impl<T: Drop> Table<T> {
     }
 
     /// All entries.
-    pub fn iter(&self) -> slab::Iter<'_, Entry<T>> {
+    pub fn iter(&self) -> slab::Iter<'_, Entry<T>>
+        ensures { result ≡ entries self.now.slab }
+    {
         self.slab.iter()
     }
 }
