@@ -1,5 +1,5 @@
 //! A connection's login at the server.
-ghost use Rattle.std.specs.Prelude.{◌≡◌, IfOk, IfSome};
+ghost use Rattle.std.specs.Prelude.{◌≡◌, IfOk, IfSome, false, true};
 
 use std::alloc::{AllocError, Global};
 use tds_packet::{Direction, PacketReader, PacketSize};
@@ -142,6 +142,8 @@ impl Dial {
     ) -> Result<Option<Dial>, AllocError>
         ensures by { IfOk result (λ made. IfSome made
             (λ dial. dial.message.items ≡ message.now)) }
+        ensures unprepared { IfOk result (λ made. IfSome made
+            (λ dial. dial.is_prepared ≡ false)) }
     {
         let (Some(most), Some(size)) = (PacketSize::new(32_767), PacketSize::new(4_096)) else {
             return Ok(None);
@@ -170,6 +172,8 @@ impl Dial {
     /// Takes bytes up to the end of a packet, and answers how many. What is to be sent is appended.
     pub fn take(&mut self, piece: &[u8], out: &mut Vec<u8>) -> Result<(usize, Dialed), AllocError>
         ensures by { self.new.message ≡ self.old.message }
+        ensures once { self.old.is_prepared ≡ true → out.new.items ≡ out.old.items }
+        ensures kept { self.new.is_prepared ≡ false → out.new.items ≡ out.old.items }
     {
         let Ok(count) = self.reader.feed(piece) else {
             return Ok((piece.len(), Dialed::Wrong(Unfit::NoPackets)));
@@ -195,6 +199,8 @@ impl Dial {
     /// A message has ended.
     fn ended(&mut self, out: &mut Vec<u8>) -> Result<Dialed, AllocError>
         ensures by { self.new.message ≡ self.old.message }
+        ensures once { self.old.is_prepared ≡ true → out.new.items ≡ out.old.items }
+        ensures kept { self.new.is_prepared ≡ false → out.new.items ≡ out.old.items }
     {
         let answer = std::mem::replace(&mut self.answer, Vec::new(self.alloc));
         if self.is_prepared {
@@ -211,6 +217,7 @@ impl Dial {
     /// What the server has answered.
     fn answered(&mut self, answer: Vec<u8>) -> Result<Dialed, AllocError>
         ensures by { self.new.message ≡ self.old.message }
+        ensures prepared { self.new.is_prepared ≡ self.old.is_prepared }
     {
         if answer.len() > MOST {
             return Ok(Dialed::Wrong(Unfit::LongAnswer));
