@@ -106,8 +106,10 @@ impl<T: Drop> Groups<T> {
 
     /// Whether an application with this login may join a group.
     fn admits(&self, key: usize, login: &SharedLogin) -> bool
-        ensures may { IsTrue result → Admits (known self.now.groups.slab key) login.now.message.items }
-        ensures all { Admits (known self.now.groups.slab key) login.now.message.items → IsTrue result }
+        ensures may { IsTrue result
+            → Admits (known self.now.groups.slab key) login.now.message.items }
+        ensures all { Admits (known self.now.groups.slab key) login.now.message.items
+            → IsTrue result }
     {
         match self.groups.get(key) {
             Some(group) => group.is_joined && are_equal(&group.login, &login.message),
