@@ -1,5 +1,6 @@
 //! A connection's login at the server.
 ghost use Rattle.std.specs.Prelude.{◌≡◌, IfOk, IfSome, false, true};
+ghost use Rattle.relay_logins.specs.Prelogin.{demands_at, demands_from};
 
 use std::alloc::{AllocError, Global};
 use tds_packet::{Direction, PacketReader, PacketSize};
@@ -201,6 +202,9 @@ impl Dial {
         ensures by { self.new.message ≡ self.old.message }
         ensures once { self.old.is_prepared ≡ true → out.new.items ≡ out.old.items }
         ensures kept { self.new.is_prepared ≡ false → out.new.items ≡ out.old.items }
+        ensures demanded { self.old.is_prepared ≡ false
+            → demands_from self.old.answer.items self.old.answer.items ≡ true
+            → self.new.is_prepared ≡ false }
     {
         let answer = std::mem::replace(&mut self.answer, Vec::new(self.alloc));
         if self.is_prepared {
@@ -329,20 +333,31 @@ fn size_told(told: Told) -> Option<PacketSize> {
 }
 
 /// Whether the answer to PRELOGIN demands that what follows is encrypted.
-fn demands_encryption(answer: &[u8]) -> bool {
-    for option in answer.chunks_exact(5) {
-        if let [1, high, low, _, _] = option {
-            let place = 256 * usize::from(*high) + usize::from(*low);
-            return match answer.get(place) {
-                Some(byte) => *byte == 1 || *byte == 3,
-                None => true,
-            };
+#[tactic(auto, unfolding(crate::specs::Prelogin::demands_from))]
+fn demands_encryption(answer: &[u8]) -> bool
+    ensures { result ≡ demands_from answer.now answer.now }
+{
+    let mut rest = answer;
+    while let [kind, high, low, _, _, others @ ..] = rest {
+        if *kind == 1 {
+            return demands_at(answer, 256 * usize::from(*high) + usize::from(*low));
         }
-        if let [0xff, ..] = option {
+        if *kind == 0xff {
             return false;
         }
+        rest = others;
     }
     false
+}
+
+/// Whether the byte of encryption there demands it, or doesn't stand in the answer.
+fn demands_at(answer: &[u8], place: usize) -> bool
+    ensures { result ≡ demands_at answer.now place }
+{
+    match answer.get(place) {
+        Some(byte) => *byte == 1 || *byte == 3,
+        None => true,
+    }
 }
 
 /// Appends LOGIN7 in packets.
