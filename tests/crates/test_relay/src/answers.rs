@@ -19,7 +19,7 @@ const FAILED: [u8; 13] = [0xFD, 2, 0, 0, 0, 0, 0, 0, 0, 0, 0, 0, 0];
 const ERROR: [u8; 17] = [0xAA, 14, 0, 0x3E, 0x0F, 0, 0, 1, 16, 0, 0, 0, 0, 1, 0, 0, 0];
 
 /// A result of one column of INT4 without a name.
-const COLUMNS: [u8; 11] = [0x81, 1, 0, 0, 0, 0, 0, 0, 0, 0x38, 0];
+pub(crate) const COLUMNS: [u8; 11] = [0x81, 1, 0, 0, 0, 0, 0, 0, 0, 0x38, 0];
 
 /// A session of a server.
 #[derive(Clone, Copy, Debug, PartialEq, Eq)]

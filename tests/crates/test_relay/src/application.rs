@@ -59,15 +59,23 @@ pub(crate) struct Application {
     /// Bytes of a packet that isn't whole, and the data of the message that comes.
     packet: Stream,
     message: Vec<u8>,
+    /// How many requests it has asked, how many it wants to, and the most data of a packet.
     asked: u8,
     most: u8,
+    most_data: usize,
     /// How many messages it has begun to send, and how many of them have no data and are to be forgotten.
     pub(crate) messages: u64,
     empties: u64,
 }
 
 impl Application {
-    pub(crate) fn new(alloc: Global, key: usize, session: u32, most: u8) -> Application {
+    pub(crate) fn new(
+        alloc: Global,
+        key: usize,
+        session: u32,
+        most: u8,
+        most_data: usize,
+    ) -> Application {
         Application {
             key,
             session,
@@ -89,6 +97,7 @@ impl Application {
             message: Vec::new(alloc),
             asked: 0,
             most,
+            most_data,
             messages: 0,
             empties: 0,
         }
@@ -125,7 +134,15 @@ impl Application {
         match random.below(12) {
             0 => self.stop_often(random),
             1 => self.begin_and_stop(alloc, random),
-            2 => self.begin_and_forget(alloc, random),
+            2 => {
+                self.begin_and_forget(alloc, random)?;
+                // The server may still have to acknowledge that, as the next request comes.
+                if self.asked < self.most && random.below(4) > 0 {
+                    self.ask(alloc, random, tally)
+                } else {
+                    Ok(())
+                }
+            }
             _ => self.ask(alloc, random, tally),
         }
     }
@@ -173,14 +190,14 @@ impl Application {
     /// this is done, and what it asks next finds a session that is reset.
     fn begin(&mut self, alloc: Global, random: &mut Random) -> Result<u8, AllocError> {
         let mut request = self.next(random, Action::Get);
-        if random.once_in(2) {
+        if random.below(4) > 0 {
             // Of some packets the server has something then.
             request.padding = random.below(3_000) as u16;
         }
         self.is_unsure = true;
         let kind = request.kind;
         let bytes = message_data(alloc, kind, self.state.transaction, &request)?;
-        let size = any_size(random, &request);
+        let size = any_size(random, &request, self.most_data);
         let reset = random.once_in(4).then_some(Reset::Full);
         put_data(self.input.bytes(), kind, reset, bytes.as_slice(), size, 0)?;
         if reset.is_some() {
@@ -223,7 +240,7 @@ impl Application {
         };
         let kind = request.kind;
         let bytes = message_data(alloc, kind, self.state.transaction, &request)?;
-        let size = any_size(random, &request);
+        let size = any_size(random, &request, self.most_data);
         put_data(
             self.input.bytes(),
             kind,
@@ -285,6 +302,9 @@ impl Application {
             };
             if packet.kind != ANSWER {
                 tally.note(Wrong::Answer);
+            }
+            if packet.data.len() > self.most_data {
+                tally.note(Wrong::Length);
             }
             self.message.extend_from_slice(packet.data)?;
             let (count, ends) = (packet.count(), packet.ends());

@@ -14,8 +14,12 @@ pub(crate) struct Connection {
     /// What the relay calls it.
     pub(crate) tag: usize,
     pub(crate) is_open: bool,
+    /// Whether it has opened in the last call.
+    pub(crate) is_new: bool,
     /// The application that holds it, as it was seen last.
     pub(crate) holder: Option<usize>,
+    /// The tag of who holds it, also while it isn't open.
+    pub(crate) held_by: Option<usize>,
     /// Whether it was let go and no cleaning has been sent since.
     pub(crate) is_owed: bool,
     /// Whether there is something for it to be read.
@@ -27,10 +31,17 @@ pub(crate) struct Connection {
     /// Whether a request was sent whose end the relay hasn't heard, and an attention behind it.
     is_underway: bool,
     is_cancelled: bool,
+    /// Whether it was ever cleaned, and whether it was lent behind that and nothing has come back since: its next
+    /// request asks for a reset, of which the news are to come.
+    was_cleaned: bool,
+    pub(crate) owes_news: bool,
     /// How many bytes were looked at that wait in the relay.
     looked: usize,
-    /// How many requests were asked on it that aren't cleanings.
+    /// How many requests were asked on it that aren't cleanings, and how many attentions sent.
     pub(crate) asked: u64,
+    pub(crate) stopped: u64,
+    /// The most data of a packet.
+    most: usize,
     /// What is on its way to the server, and back.
     there: Stream,
     pub(crate) back: Stream,
@@ -46,15 +57,21 @@ impl Connection {
             number,
             tag,
             is_open: false,
+            is_new: false,
             holder: None,
+            held_by: None,
             is_owed: false,
             is_told: false,
             is_doomed: false,
             is_broken: false,
             is_underway: false,
             is_cancelled: false,
+            was_cleaned: false,
+            owes_news: false,
             looked: 0,
             asked: 0,
+            stopped: 0,
+            most,
             there: Stream::new(alloc),
             back: Stream::new(alloc),
             heard: Stream::new(alloc),
@@ -84,7 +101,23 @@ impl Connection {
         if self.holder.is_some() {
             self.is_owed = true;
         }
+        self.owes_news = holder.is_some() && self.was_cleaned;
         self.holder = holder;
+    }
+
+    /// Whoever writes there is told that it has opened.
+    pub(crate) fn look_at_opening(&mut self, tally: &mut Tally) {
+        if self.is_new && !self.is_told {
+            tally.note(Wrong::Unwritten);
+        }
+        self.is_new = false;
+    }
+
+    /// It is held by who has this tag now, or by none. Whether it was let go.
+    pub(crate) fn set_held_by(&mut self, held_by: Option<usize>) -> bool {
+        let before = self.held_by;
+        self.held_by = held_by;
+        before.is_some() && before != held_by
     }
 
     /// These bytes wait in the relay, of which the last ones are new: whole packets. An attention must be
@@ -148,11 +181,15 @@ impl Connection {
 
     /// Looks at a packet that a relay sends.
     fn look_at(&mut self, packet: Packet<'_>, is_cause: bool, tally: &mut Tally) {
+        if packet.data.len() > self.most {
+            tally.note(Wrong::Length);
+        }
         if packet.kind == ATTENTION {
             if !is_cause || !self.is_underway || self.is_cancelled {
                 tally.note(Wrong::Astray);
             }
             self.is_cancelled = true;
+            raise(&mut self.stopped);
             return;
         }
         if self.is_underway {
@@ -165,7 +202,8 @@ impl Connection {
         };
         if !is_cleaning(text) {
             raise(&mut self.asked);
-            if self.holder.is_none() || self.is_owed {
+            // Who caused the call may have let it go behind this.
+            if !is_cause && (self.holder.is_none() || self.is_owed) {
                 tally.note(Wrong::Unclean);
             }
             return;
@@ -175,6 +213,7 @@ impl Connection {
             tally.note(Wrong::Cleaning);
         }
         self.is_owed = false;
+        self.was_cleaned = true;
         raise(&mut tally.cleaned);
     }
 
@@ -188,6 +227,7 @@ impl Connection {
 
     /// So many bytes are about to come back.
     pub(crate) fn deliver(&mut self, count: usize) -> Result<(), AllocError> {
+        self.owes_news = false;
         self.heard
             .bytes()
             .extend_from_slice(self.back.first(count))?;

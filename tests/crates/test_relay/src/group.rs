@@ -1,20 +1,25 @@
 //! Applications whose logins are equal, their relay, and its connections: one thing happens at a time,
 //! and whatever the relay orders is done.
 
+mod counting;
 mod ending;
 mod failing;
 mod looking;
 mod obeying;
+mod opening;
+pub(crate) mod rooms;
 mod turning;
 
+use self::counting::Seen;
 use self::looking::number_of;
+use self::opening::TAGS;
 use crate::application::Application;
 use crate::connection::Connection;
 use crate::random::Random;
 use crate::tally::{Tally, Wrong, raise};
 use std::alloc::{AllocError, Global};
 use tds_packet::PacketSize;
-use tds_relay::{Mode, Place, PlaceOn, Relay};
+use tds_relay::{Mode, Place, Relay};
 use tds_wire::Features;
 
 /// What a group is.
@@ -76,11 +81,12 @@ pub(crate) struct Group {
     next: u32,
     /// How many times somebody began to wait.
     tickets: u64,
-    /// How many connections have come before anybody asked.
-    brought: usize,
+    /// The tag that a connection was given last.
+    tags: usize,
     /// How many requests were seen on connections, and how many messages those who have left had begun.
     asked: u64,
     messages: u64,
+    seen: Seen,
     /// The connection that was closed last for a packet's header.
     refused: Option<u64>,
 }
@@ -111,9 +117,10 @@ impl Group {
             left: sessions,
             next,
             tickets: 0,
-            brought: 0,
+            tags: TAGS,
             asked: 0,
             messages: 0,
+            seen: Seen::nothing(),
             refused: None,
         })
     }
@@ -147,6 +154,10 @@ impl Group {
             14..=17 => self.deliver(index, piece(random), tally),
             18 => self.open(index, random, tally),
             19 if random.once_in(20) => self.trouble(place, index, random, tally),
+            19 => {
+                self.rename(index);
+                Ok(())
+            }
             20..=22 => self.part(place, tally),
             23 if random.once_in(16) => self.manage(random, tally),
             _ => Ok(()),
@@ -199,7 +210,7 @@ impl Group {
         self.left -= 1;
         let key = self.relay.enter(place)?;
         let most = random.up_to(6) as u8;
-        let application = Application::new(self.alloc, key, self.next, most);
+        let application = Application::new(self.alloc, key, self.next, most, self.most_data());
         self.next = self.next.wrapping_add(1);
         if let Some(free) = self.applications.get_mut(place) {
             *free = Some(application);
@@ -323,44 +334,6 @@ impl Group {
         connection.deliver(count)?;
         relay.came(number, connection.back.first(count))?;
         connection.back.take(count);
-        self.settle(None, tally)
-    }
-
-    /// One that is being opened is open now, or couldn't be.
-    fn open(
-        &mut self,
-        index: usize,
-        random: &mut Random,
-        tally: &mut Tally,
-    ) -> Result<(), AllocError> {
-        if let Some(connection) = self.connections.get(index) {
-            if !connection.is_open && random.once_in(20) {
-                return self.lose(index, tally);
-            }
-        }
-        self.open_well(index, tally)
-    }
-
-    /// One that is being opened is open now.
-    fn open_well(&mut self, index: usize, tally: &mut Tally) -> Result<(), AllocError> {
-        let Group {
-            relay,
-            connections,
-            ..
-        } = self;
-        let Some(connection) = connections.get_mut(index) else {
-            return Ok(());
-        };
-        if connection.is_open {
-            return Ok(());
-        }
-        let number = connection.number;
-        connection.is_open = true;
-        relay.opened(number)?;
-        // Nobody may have waited for it: then it was let go.
-        connection.is_owed = relay.place_on(number) != Some(PlaceOn::Opening)
-            && !matches!(relay.place_on(number), Some(PlaceOn::Held(_)));
-        raise(&mut tally.opened);
         self.settle(None, tally)
     }
 }

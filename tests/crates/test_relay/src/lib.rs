@@ -1,5 +1,6 @@
-//! Random applications before a relay's core, without sockets: `test_relay SESSIONS SEED`, and two that share by
-//! transactions; or so many idle ones: `test_relay idle COUNT`.
+//! Random applications before a relay's core, without sockets: `test_relay SESSIONS SEED`, and what is written: two
+//! that share by transactions, one that asks often, a full connection, a long answer, many that wait; or so many idle
+//! ones: `test_relay idle COUNT`.
 //!
 //! Four groups of applications ask, cancel, reset, and leave at any byte, two by sessions and two by transactions;
 //! their connections' servers answer in pieces, and are cut or break the protocol at any time. Each application
@@ -11,8 +12,11 @@ mod answers;
 mod application;
 mod connection;
 mod crowd;
+mod cutting;
+mod full;
 mod group;
 mod idle;
+mod often;
 mod packets;
 mod parking;
 mod random;
@@ -21,8 +25,11 @@ mod server;
 mod tally;
 
 use crowd::{CROWDS, crowd};
+use cutting::cut;
+use full::fill;
 use group::{Group, Kind};
 use idle::idle;
+use often::ask_often;
 use parking::park;
 use random::Random;
 use std::io;
@@ -57,15 +64,50 @@ fn obey(rt: &HostRuntime, words: &[String]) -> io::Result<bool> {
         println!(rt; "{count} idle applications, {waiting} bytes wait for them")?;
         return Ok(waiting == 0);
     }
-    let wrong = park(rt.alloc())?;
-    match wrong {
-        Some(wrong) => println!(rt; "parking: it isn't so that {wrong}")?,
-        None => println!(rt; "two share a connection by transactions")?,
-    }
+    let is_written = written(rt)?;
     let is_served = crowds(rt)?;
     let sessions = first.as_str().parse::<u64>().unwrap_or(0);
     let is_well = random_sessions(rt, sessions, second)?;
-    Ok(is_well && is_served && wrong.is_none())
+    Ok(is_well && is_served && is_written)
+}
+
+/// Plays what isn't random. Whether nothing was wrong.
+fn written(rt: &HostRuntime) -> io::Result<bool> {
+    let alloc = rt.alloc();
+    let is_parted = tell(
+        rt,
+        "parking",
+        park(alloc)?,
+        "two share a connection by transactions",
+    )?;
+    let is_answered = tell(
+        rt,
+        "often",
+        ask_often(alloc)?,
+        "1,500 requests of one are answered",
+    )?;
+    let is_full = tell(rt, "full", fill(alloc)?, "what there is room for fits")?;
+    let is_cut = tell(
+        rt,
+        "cutting",
+        cut(alloc)?,
+        "a long answer is cut, and no packet too long",
+    )?;
+    Ok(is_parted && is_answered && is_full && is_cut)
+}
+
+/// Tells what is wrong with a part, or what isn't. Whether nothing was wrong.
+fn tell(
+    rt: &HostRuntime,
+    part: &'static str,
+    wrong: Option<&'static str>,
+    well: &'static str,
+) -> io::Result<bool> {
+    match wrong {
+        Some(wrong) => println!(rt; "{part}: it isn't so that {wrong}")?,
+        None => println!(rt; "{well}")?,
+    }
+    Ok(wrong.is_none())
 }
 
 /// Many that wait are served in one call. Whether nothing was wrong.

@@ -24,9 +24,6 @@ pub(crate) const RESETS: u8 = 8;
 
 pub(crate) const RESETS_BUT_TRANSACTION: u8 = 16;
 
-/// The most data of a packet here.
-pub(crate) const MOST: usize = 504;
-
 #[derive(Clone, Copy, Debug)]
 pub(crate) struct Packet<'a> {
     pub(crate) kind: u8,

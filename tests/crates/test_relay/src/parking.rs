@@ -20,11 +20,11 @@ const COMMITTED: [u8; 14] = [0xE3, 11, 0, 9, 0, 8, 9, 0, 0, 0, 0, 0, 0, 0];
 
 /// A relay of one connection, and two applications.
 #[derive(Drop)]
-struct Two {
+pub(crate) struct Two {
     alloc: Global,
-    relay: Relay,
-    first: usize,
-    second: usize,
+    pub(crate) relay: Relay,
+    pub(crate) first: usize,
+    pub(crate) second: usize,
     number: u64,
 }
 
@@ -51,7 +51,7 @@ pub(crate) fn park(alloc: Global) -> io::Result<Option<&'static str>> {
 
 impl Two {
     /// The first application has asked, and its connection is open and was sent that.
-    fn new(alloc: Global, mode: Mode) -> io::Result<Option<Two>> {
+    pub(crate) fn new(alloc: Global, mode: Mode) -> io::Result<Option<Two>> {
         let Some(size) = PacketSize::new(4096) else {
             return Ok(None);
         };
@@ -81,14 +81,14 @@ impl Two {
     }
 
     /// An application asks.
-    fn ask(&mut self, key: usize) -> Result<(), AllocError> {
+    pub(crate) fn ask(&mut self, key: usize) -> Result<(), AllocError> {
         let mut bytes = Vec::new(self.alloc);
         put_packet(&mut bytes, BATCH, ENDS, &REQUEST)?;
         self.relay.said(key, bytes.as_slice())
     }
 
     /// Whether one request of this status waits on the connection, besides that it is whole; it is sent.
-    fn is_sent(&mut self, status: u8) -> bool {
+    pub(crate) fn is_sent(&mut self, status: u8) -> bool {
         let unsent = self.relay.unsent_on(self.number);
         let is = matches!(unsent, [BATCH, is, ..] if *is == ENDS | status);
         let count = unsent.len();
@@ -98,7 +98,12 @@ impl Two {
 
     /// The server answers these tokens and DONE, behind the news of a reset or not. Whether the application is
     /// given that without the news, and all of it is sent.
-    fn answer(&mut self, key: usize, news: &[u8], tokens: &[u8]) -> Result<bool, AllocError> {
+    pub(crate) fn answer(
+        &mut self,
+        key: usize,
+        news: &[u8],
+        tokens: &[u8],
+    ) -> Result<bool, AllocError> {
         let came = self.packet(news, tokens)?;
         let given = self.packet(&[], tokens)?;
         self.relay.came(self.number, came.as_slice())?;
@@ -107,6 +112,13 @@ impl Two {
         let count = unsent.len();
         let _ = self.relay.sent(key, count);
         Ok(is)
+    }
+
+    /// A packet with these data comes.
+    pub(crate) fn come(&mut self, data: &[u8], status: u8) -> Result<(), AllocError> {
+        let mut bytes = Vec::new(self.alloc);
+        put_packet(&mut bytes, ANSWER, status, data)?;
+        self.relay.came(self.number, bytes.as_slice())
     }
 
     /// An answer of these tokens and DONE.

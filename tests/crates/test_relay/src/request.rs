@@ -1,7 +1,7 @@
 //! What applications ask, in a language of the bench's own: a relay doesn't look into a request's body.
 
 use crate::packets::{
-    BATCH, BULK_LOAD, MOST, PROCEDURE, RESETS, RESETS_BUT_TRANSACTION, TRANSACTION, put_packet,
+    BATCH, BULK_LOAD, PROCEDURE, RESETS, RESETS_BUT_TRANSACTION, TRANSACTION, put_packet,
 };
 use crate::random::Random;
 use std::alloc::{AllocError, Global};
@@ -187,7 +187,7 @@ pub(crate) fn put_data(
     let mut rest = data;
     let mut status = reset_bits(reset);
     for _ in 0..data.len() {
-        let (part, others) = rest.split_at(size.max(1).min(MOST).min(rest.len()));
+        let (part, others) = rest.split_at(size.max(1).min(rest.len()));
         if others.is_empty() {
             status |= last;
         }
@@ -235,12 +235,12 @@ pub(crate) fn any_kind(random: &mut Random) -> u8 {
     }
 }
 
-/// The most data of a packet of this request.
-pub(crate) fn any_size(random: &mut Random, request: &Request) -> usize {
+/// The data of each packet of this request, where so many may be.
+pub(crate) fn any_size(random: &mut Random, request: &Request, most: usize) -> usize {
     if request.padding == LONG {
-        MOST
+        most
     } else {
-        random.up_to(600)
+        random.up_to(most.saturating_add(100)).min(most)
     }
 }
 

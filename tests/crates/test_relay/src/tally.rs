@@ -40,14 +40,27 @@ pub(crate) enum Wrong {
     Dropped,
     /// Who may be read again, since something was sent, isn't told.
     Unread,
+    /// A connection has opened, and nobody is told to write there.
+    Unwritten,
+    /// Something came of bytes on a connection that isn't open, or isn't there.
+    Heeded,
+    /// More of an application or a connection may be read than fits, or less than is to be.
+    Room,
+    /// A packet is longer than the packet size.
+    Length,
     /// There are more connections than may be.
     TooMany,
     /// One that has come first wasn't taken, or was though there were others.
     Brought,
     /// An application was parted from its connection though it doesn't rest, or wasn't though it does.
     Parted,
-    /// More or fewer requests were begun or asked than its count says.
+    /// More or fewer requests were begun or asked, or attentions sent, or connections cleaned or closed instead,
+    /// than its counts say.
     Counted,
+    /// It has other connections than those that were opened, or brought, and not closed.
+    OtherConnections,
+    /// What an application holds is called otherwise than the driver calls it, or before that calls it so.
+    Misnamed,
     /// A request waits for a connection, all of it, and isn't in the line.
     OutsideLine,
     /// Nothing is in flight any more, and something isn't read, or waits and nobody is told.

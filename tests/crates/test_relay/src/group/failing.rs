@@ -67,7 +67,8 @@ impl Group {
             self.connections.remove(index);
         }
         self.relay.lost(number)?;
-        self.settle(None, tally)
+        self.settle(None, tally)?;
+        self.come_for_nothing(number, tally)
     }
 
     /// A server says what is no packet, or what nobody asked for: its connection has to be closed.

@@ -1,7 +1,7 @@
 //! What a relay has come to, behind each call.
 
 use super::Group;
-use crate::tally::{Tally, Wrong};
+use crate::tally::{Tally, Wrong, raise};
 use tds_relay::{Place, PlaceOn};
 
 /// The connection that an application holds.
@@ -17,10 +17,13 @@ pub(super) fn number_of(place: Option<Place>) -> Option<u64> {
 impl Group {
     /// Who holds each connection now, and what is sent on it. This application has caused it, or none.
     pub(super) fn look_at_connections(&mut self, cause: Option<usize>, tally: &mut Tally) {
+        // What is cancelled as one leaves isn't counted.
+        let is_there = self.is_there(cause);
         let Group {
             relay,
             connections,
             asked,
+            seen,
             ..
         } = self;
         for connection in connections.iter_mut() {
@@ -33,12 +36,20 @@ impl Group {
                 Some(_) => None,
             };
             connection.set_holder(holder, tally);
+            if connection.set_held_by(relay.holder_tag(number)) {
+                raise(&mut seen.cleanings);
+            }
+            connection.look_at_opening(tally);
             if connection.is_open && connection.is_told {
                 connection.is_told = false;
                 let is_cause = cause.is_some() && before == cause;
                 connection.look(relay.unsent_on(number), is_cause, tally);
                 *asked = asked.saturating_add(connection.asked);
                 connection.asked = 0;
+                if is_there {
+                    seen.cancels = seen.cancels.saturating_add(connection.stopped);
+                }
+                connection.stopped = 0;
             }
             connection.look_behind(tally);
         }

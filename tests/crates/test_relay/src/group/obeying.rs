@@ -6,9 +6,6 @@ use crate::tally::{Tally, Wrong, raise};
 use std::alloc::AllocError;
 use tds_relay::Order;
 
-/// A connection's tag is its number, and so many more.
-const TAGS: usize = 1_000;
-
 impl Group {
     /// Does all that the relay orders behind a call, which this application caused or none, and looks at
     /// what the relay has come to.
@@ -26,7 +23,7 @@ impl Group {
             };
             place = place.saturating_add(1);
             match order {
-                Order::Open(number) => self.opening(number)?,
+                Order::Open(number) => self.opening(number, tally)?,
                 Order::Write(_) => {}
                 Order::Close(tag) => {
                     let closed = self.close(tag, tally)?;
@@ -37,6 +34,9 @@ impl Group {
         self.look_at_line(tally);
         self.look_at_doomed(tally);
         self.look_at_count(tally);
+        self.look_at_names(tally);
+        self.look_at_counts(tally);
+        self.look_at_rooms(tally);
         Ok(())
     }
 
@@ -71,12 +71,16 @@ impl Group {
         }
     }
 
-    fn opening(&mut self, number: u64) -> Result<(), AllocError> {
-        let tag = TAGS.saturating_add(number as usize);
+    fn opening(&mut self, number: u64, tally: &mut Tally) -> Result<(), AllocError> {
+        if !self.is_called(number, None) {
+            tally.note(Wrong::Misnamed);
+        }
+        let tag = self.next_tag();
         self.relay.opening(number, tag);
-        let most = self.most_data();
-        self.connections
-            .push(Connection::new(self.alloc, number, tag, most))?;
+        let mut connection = Connection::new(self.alloc, number, tag, self.most_data());
+        // Who is lent it may leave in the next call.
+        connection.set_held_by(self.relay.holder_tag(number));
+        self.connections.push(connection)?;
         Ok(())
     }
 
@@ -92,6 +96,10 @@ impl Group {
                     found = Some(index);
                     if !connection.is_doomed {
                         tally.note(Wrong::ConnectionClosed);
+                    }
+                    // One that is closed for a packet's header isn't counted.
+                    if connection.held_by.is_none() && self.refused != Some(connection.number) {
+                        raise(&mut self.seen.failed);
                     }
                 }
             }

@@ -8,9 +8,6 @@ use crate::tally::{Tally, Wrong, raise};
 use std::alloc::AllocError;
 use tds_relay::{Mode, Place};
 
-/// The tags of connections that came before anybody asked.
-const BROUGHT: usize = 1_000_000_000;
-
 impl Group {
     /// An application is to be parted from its connection: it is where it rests and they are shared by
     /// transactions, and else nothing changes.
@@ -80,7 +77,7 @@ impl Group {
     /// A connection comes that is open: it is taken where there is no other.
     pub(super) fn bring(&mut self, tally: &mut Tally) -> Result<(), AllocError> {
         let is_first = self.relay.connections() == 0;
-        let tag = BROUGHT.saturating_add(self.brought);
+        let tag = self.next_tag();
         let number = self.relay.bring(tag)?;
         if number.is_some() != is_first {
             tally.note(Wrong::Brought);
@@ -90,7 +87,7 @@ impl Group {
             connection.is_open = true;
             connection.is_owed = true;
             self.connections.push(connection)?;
-            self.brought = self.brought.saturating_add(1);
+            raise(&mut self.seen.cleanings);
             raise(&mut tally.brought);
         }
         self.settle(None, tally)
