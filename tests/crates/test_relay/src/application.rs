@@ -108,6 +108,11 @@ impl Application {
         self.phase == Phase::Quiet && self.input.is_empty()
     }
 
+    /// Whether it is quiet and took something back, and no answer has come since.
+    pub(crate) fn has_taken_back(&self) -> bool {
+        self.is_quiet() && self.is_unsure
+    }
+
     /// Whether it has asked all that it wants to.
     pub(crate) fn is_done(&self) -> bool {
         self.is_quiet() && self.asked >= self.most
@@ -131,13 +136,13 @@ impl Application {
         if !self.is_quiet() || self.asked >= self.most {
             return Ok(());
         }
-        match random.below(12) {
+        match random.below(14) {
             0 => self.stop_often(random),
             1 => self.begin_and_stop(alloc, random),
-            2 => {
+            2..=4 => {
                 self.begin_and_forget(alloc, random)?;
                 // The server may still have to acknowledge that, as the next request comes.
-                if self.asked < self.most && random.below(4) > 0 {
+                if self.asked < self.most && random.once_in(2) {
                     self.ask(alloc, random, tally)
                 } else {
                     Ok(())

@@ -259,8 +259,14 @@ impl Group {
         } else {
             piece(random).min(relay.room(key))
         };
-        if application.say(relay, count)? {
-            self.settle(Some(key), tally)
+        if !application.say(relay, count)? {
+            return Ok(());
+        }
+        let may_part = application.has_taken_back() && random.below(4) > 0;
+        self.settle(Some(key), tally)?;
+        // The server may still have to acknowledge that.
+        if may_part {
+            self.part(place, tally)
         } else {
             Ok(())
         }
