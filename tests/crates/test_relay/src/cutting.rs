@@ -37,6 +37,9 @@ pub(crate) fn cut(alloc: Global) -> io::Result<Option<&'static str>> {
     rest.extend_from_slice(&NEWS)?;
     rest.extend_from_slice(&DONE)?;
     two.come(first, 0)?;
+    // What another one says changes nothing there.
+    let other = two.first;
+    two.ask(other)?;
     two.come(full, 0)?;
     two.come(rest.as_slice(), ENDS)?;
     let mut data = Vec::new(alloc);
