@@ -12,7 +12,7 @@ use tds_relay::PlaceOn;
 pub(super) const TAGS: usize = 1_000;
 
 impl Group {
-    /// One that is being opened is open now, or couldn't be; or bytes come there first.
+    /// One that is being opened is open now, or couldn't be; or bytes come there first, or another connection.
     pub(super) fn open(
         &mut self,
         index: usize,
@@ -29,6 +29,7 @@ impl Group {
         match random.below(20) {
             0 => self.lose(index, tally),
             1 | 2 => self.come_for_nothing(number, tally),
+            3 => self.bring(tally),
             _ => self.open_well(index, tally),
         }
     }
