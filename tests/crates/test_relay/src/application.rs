@@ -128,7 +128,7 @@ impl Application {
         tally: &mut Tally,
     ) -> Result<(), AllocError> {
         if self.phase == Phase::Asked && self.may_cancel {
-            if random.once_in(8) {
+            if random.once_in(2) {
                 return self.cancel();
             }
             return Ok(());
