@@ -5,7 +5,7 @@ use Rattle.std.specs.Prelude.{ℕ, ◌+◌, ◌*◌, ◌==◌, ◌||◌, Bool, f
 abbrev pub demands_at : List ℕ → ℕ → Bool
 demands_at answer place = (slice_index_or answer place 1 == 1) || (slice_index_or answer place 1 == 3)
 
--- one of these options, and of what is behind them, is of encryption, and demands it
+-- of these options, up to their end, the first one that is of encryption demands it
 unfoldable pub demands_from : List ℕ → List ℕ → Bool
 demands_from answer (kind ∷ high ∷ low ∷ first ∷ second ∷ rest) =
     if kind == 1 then demands_at answer (256 * high + low)

@@ -1,10 +1,13 @@
 pub mod Clients
 pub mod Awaiting
+pub mod Behind
 pub mod Dialled
 pub mod Drained
 pub mod Earlier
 pub mod Firsts
+pub mod Freed
 pub mod Fresh
+pub mod Front
 pub mod Leases
 pub mod Newly
 pub mod Quiet
@@ -12,3 +15,4 @@ pub mod Resting
 pub mod Rests
 pub mod Stilled
 pub mod Tending
+pub mod Parting

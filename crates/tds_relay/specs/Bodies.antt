@@ -1,10 +1,8 @@
 -- Where the body of an application's request is: kept while that waits, or put by the client of the
 -- connection that its application holds.
-use Rattle.std.specs.Prelude.{◌≡◌, ◌⊎◌, ◌≤◌, ◌-◌, ℕ, Bool, true, false, List, [], ◌∷◌, ◌++◌, drop, length, take, Option, Some, None, Ok, option_map, if◌then◌else◌}
+use Rattle.std.specs.Prelude.{◌≡◌, ◌⊎◌, ◌-◌, ℕ, Bool, true, false, List, [], ◌∷◌, ◌++◌, drop, length, take, Option, Some, None, Ok, option_map, if◌then◌else◌}
 use Rattle.slab.specs.Slab.{Slab, get}
 use Rattle.tds_packet.specs.declared.kind.Kind.{Kind}
-use Rattle.tds_packet.specs.declared.status.Reset.{Reset}
-use Rattle.tds_packet.specs.declared.status.Reset.TheVariants.{Full}
 use Rattle.tds_client.specs.declared.message.MessageKind.{MessageKind}
 use Rattle.tds_client.specs.Session.{ClientSession}
 use Rattle.tds_client.specs.Streamed.{Streams}
@@ -24,10 +22,10 @@ use Rattle.tds_relay.specs.declared.link.Link.{Link}
 use Rattle.tds_relay.specs.declared.relay.Relay as code
 use Rattle.tds_relay.specs.Asking.{said_of}
 use Rattle.tds_relay.specs.Pool.{find_key}
-use Rattle.tds_relay.specs.Fronts.{MovedOn, ends_in}
-use Rattle.tds_relay.specs.Core.{End, Open, Over, end_at, holder, is_in}
+use Rattle.tds_relay.specs.Fronts.{ends_in}
+use Rattle.tds_relay.specs.Core.{End, Open, Over, end_at}
 use Rattle.tds_relay.specs.Machine.{Machine, Step, Takes, after}
-use Rattle.tds_relay.specs.Reads.{FillsAt, StaysAt, waits_on}
+use Rattle.tds_relay.specs.Reads.{StaysAt, waits_on}
 use Rattle.tds_relay.specs.Taking.{IsDeaf, Tells, count_by}
 use Rattle.tds_relay.specs.Places.{is_closed, own_asking, own_held}
 
@@ -238,16 +236,6 @@ pub record PutsFrom (waits : ℕ → Option (List ℕ)) (mid : Body) (new : Body
 abbrev pub GoesFrom : BodyAndWaits → BodyAndWaits → Type 0
 GoesFrom old new = PutsFrom old.1 old.0 new
 
--- Where a request begins, it starts so. Where it asks for no reset, and nothing of it goes on,
--- nothing is put; with a full one nothing goes on yet (what is put as it lets go isn't said).
-pub record BeginsFrom (kind : Kind) (reset : Option Reset) (old new : BodyAndWaits) : Type 0 where
-  pub mid : Body
-  pub begins : BeginsBody kind mid
-  pub starts : StartsInPlace old.1 mid new.0
-  pub still : reset ≡ None → IsStill mid → IsStill new.0
-      → (number : ℕ) → StaysAt (old.1 number) (new.1 number)
-  pub parts : reset ≡ Some Full → Spared mid new.0
-
 -- where these bytes of it have come
 abbrev pub GrowsFrom : Bool → List ℕ → BodyAndWaits → BodyAndWaits → Type 0
 GrowsFrom whole more old new = (mid : Body) × Grows whole more old.0 mid × PutsFrom old.1 mid new
@@ -255,26 +243,6 @@ GrowsFrom whole more old new = (mid : Body) × Grows whole more old.0 mid × Put
 -- where it is taken back, and nothing of it goes on: nothing is put
 abbrev pub PutsNothing : BodyAndWaits → BodyAndWaits → Type 0
 PutsNothing old new = IsStill old.0 → (number : ℕ) → StaysAt (old.1 number) (new.1 number)
-
--- While nothing of a request goes on, nothing is put by a piece of it; of one that goes on, its
--- body says what waits on its connection, and of others nothing is said. Nor is it of what is put
--- where one that begins asks for a reset, but of its own bytes, and where one that has gone on is
--- taken back, or an attention handed on.
-abbrev pub PutsSaid : Said → List ℕ → BodyAndWaits → BodyAndWaits → Type 0
-PutsSaid said.Nothing taken old new = GoesFrom old new
-PutsSaid (said.Begin kind reset) taken old new = BeginsFrom kind reset old new
-PutsSaid (said.Body count) taken old new = GrowsFrom false (last_of count taken) old new
-PutsSaid (said.End count) taken old new = GrowsFrom true (last_of count taken) old new
-PutsSaid (said.Forget false) taken old new = PutsNothing old new
-PutsSaid said.Acknowledge taken old new = PutsNothing old new
-PutsSaid _ taken old new = Unit {0}
-
--- It is where it was, and on each connection that is there still the same waits; or its application
--- is to be closed.
-abbrev pub RestsFrom : BodyAndWaits → BodyAndWaits → Type 0
-RestsFrom old new =
-    ((new.0 ≡ old.0) × ((number : ℕ) → StaysAt (old.1 number) (new.1 number)))
-    ⊎ ((new.0 ≡ Closed) × ((number : ℕ) → FillsAt (old.1 number) (new.1 number)))
 
 -- Where it went on, what cancels it by its client waits behind what waited on its connection, once,
 -- and nothing else; or its application is to be closed, and stays so.
@@ -289,54 +257,6 @@ abbrev pub CancelsSaid : Said → Body → BodyAndWaits → Type 0
 CancelsSaid (said.Forget gone) old new = IsStoppedOnce old new
 CancelsSaid said.Acknowledge old new = IsStoppedOnce old new
 CancelsSaid _ old new = Unit {0}
-
--- Bytes are taken of which this is said.
-pub record Heeds (answer : Said) (taken : List ℕ) (old new : BodyAndWaits) : Type 0 where
-  pub obeys : Obeys answer taken old.0 new.0
-  pub fills : (number : ℕ) → FillsAt (old.1 number) (new.1 number)
-  pub cancels : CancelsSaid answer old.0 new
-  pub puts : PutsSaid answer taken old new
-
--- Piece by piece of what steps take of an application: as AreFollowed, with what waits; between
--- them nothing is put, or its application is to be closed, and then anything.
-abbrev pub AreHeeded : ℕ → Machine → List Step → BodyAndWaits → BodyAndWaits → Type 0
-AreHeeded key h [] old new = RestsFrom old new
-AreHeeded key h (Takes other bytes ∷ steps) old new =
-    (from : BodyAndWaits) × (to : BodyAndWaits)
-    × RestsFrom old from × IsClosedAsEnd (end_at h.core.ends key) from.0
-    × Heeds (said_of bytes (end_at h.core.ends key)) (taken_of bytes (end_at h.core.ends key))
-    from to
-    × AreHeeded key (after h (Takes other bytes)) steps to new
-AreHeeded key h (step ∷ steps) old new = AreHeeded key (after h step) steps old new
-
--- An application's bytes are taken, up to these, and what it takes back of that is cancelled.
-pub record HeedsAll (key : ℕ) (old : Machine) (bytes left : List ℕ) (from to : BodyAndWaits)
-    (new : Machine) : Type 0 where
-  pub tells : Tells key old bytes left new
-  pub heeded : AreHeeded key old tells.steps from to
-  pub closed : IsClosedAsEnd (end_at new.core.ends key) to.0
-
--- Whatever was taken before, these bytes are taken behind it, up to these.
-abbrev pub HeedsOn : ℕ → List ℕ → List ℕ → BodyAndWaits → BodyAndWaits → Machine → Machine → Type 0
-HeedsOn key left rest from to old new = (first : Machine) (bytes : List ℕ) (at : BodyAndWaits)
-    → HeedsAll key first bytes left at from old → HeedsAll key first bytes rest at to new
-
--- All of them are, and then those who wait are served, among whom its application may be: unless it
--- waits, its request stays by that, or it is to be closed, and on the connection that it holds,
--- open or not, nothing is put. What waited on those up to this number waits still.
-pub record HeedsServed (key last : ℕ) (old : Machine) (bytes : List ℕ) (from to : BodyAndWaits)
-    (new : Machine) : Type 0 where
-  pub at : Machine
-  pub mid : BodyAndWaits
-  pub heeds : HeedsAll key old bytes [] from mid at
-  pub moves : MovedOn at.core new.core
-  pub kept : new.queues ≡ at.queues
-  pub starts : Starts mid.0 to.0
-  pub fills : (number : ℕ) → number ≤ last → FillsAt (mid.1 number) (to.1 number)
-  pub rests : is_in key at.core.pool.line ≡ false → Spared mid.0 to.0 ⊎ (mid.0 ≡ Astray)
-  pub keeps : is_in key at.core.pool.line ≡ false → (number : ℕ)
-      → holder at.core.pool number ≡ Some key → StaysAt (mid.1 number) (to.1 number)
-  pub closed : IsClosedAsEnd (end_at new.core.ends key) to.0
 
 -- ---- As the code has it
 
@@ -386,7 +306,7 @@ pub record IsHalting (number key : ℕ) (old new : code.Relay) : Type 0 where
   pub number_is : number ≡ hold.number
   pub stops : ClientStops key old.pool new.pool [] new.outbox.items
 
--- These bytes are put where its request goes on, whether it asks one or not; or it is to be closed.
+-- They are put where an application's request goes on, asked or not; or that is to be closed.
 abbrev pub PutsOn : Bool → List ℕ → ℕ → code.Relay → code.Relay → Type 0
 PutsOn whole more key old new =
     (body_of key new ≡ Closed)

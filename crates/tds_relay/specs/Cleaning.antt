@@ -12,6 +12,7 @@ use Rattle.tds_service.specs.Service.{Seat, Service, seat_numbered, step}
 use Rattle.tds_service.specs.Table.{client_of}
 use Rattle.tds_service.specs.Ties.{cancel_out}
 use Rattle.tds_relay.specs.declared.pool.Hold.{Hold}
+use Rattle.tds_relay.specs.declared.pool.Pool as pools
 use Rattle.tds_relay.specs.declared.pool.coming.Heard.{Heard}
 use Rattle.tds_relay.specs.declared.pool.coming.What.{What}
 use Rattle.tds_relay.specs.declared.pool.coming.What.TheVariants as whats
@@ -20,13 +21,12 @@ use Rattle.tds_relay.specs.declared.link.Link.{Link}
 use Rattle.tds_relay.specs.declared.relay.Relay as code
 use Rattle.tds_relay.specs.Bodies.{ArePut}
 use Rattle.tds_relay.specs.Closings.{IsWaiting, Register, Settings, register_in}
-use Rattle.tds_relay.specs.Few.{has_seat}
-use Rattle.tds_relay.specs.Pool.{Brings, Leaves, Pool, Way, find_key, next, turn}
+use Rattle.tds_relay.specs.Pool.{Pool, find_key, next}
 use Rattle.tds_relay.specs.Queues.{Queue, fits, empty_queue}
 use Rattle.tds_relay.specs.Lent.{HasClosed, IsMade}
 use Rattle.tds_relay.specs.Reads.{StaysAt, open_at, queue_on, reader_at, waits_on}
 use Rattle.tds_relay.specs.Core.{holder}
-use Rattle.tds_relay.specs.Ties.{LedOn, IsReached, pool_in}
+use Rattle.tds_relay.specs.Ties.{IsReached, pool_in}
 
 -- ---- What a cleaning says
 
@@ -129,6 +129,19 @@ pub data WaitsAtEnd (client : Option ClientSession) (old : Option (List ℕ)) : 
   IsShut : WaitsAtEnd client old None
   HasMore : (waits out : List ℕ) → old ≡ Some waits → GoesOutAtEnd text_of_cleaning client out → WaitsAtEnd client old (Some (waits ++ out))
 
+-- The same waits there, or what goes out where a client's connection is let go waits behind that; or
+-- it is there no more.
+abbrev pub LeavesAt : Option (List ℕ) → Option (List ℕ) → Type 0
+LeavesAt old None = Unit {0}
+LeavesAt None (Some new) = ⊥
+LeavesAt (Some old) (Some new) = (new ≡ old) ⊎ ((client : ClientSession) × (out : List ℕ)
+    × CleansOnce (rests_once client.stage) text_of_cleaning (cancel_out client.stage) out
+    × (new ≡ old ++ out))
+
+-- So it is on each connection.
+abbrev pub LeavesAll : (ℕ → Option (List ℕ)) → (ℕ → Option (List ℕ)) → Type 0
+LeavesAll old new = (number : ℕ) → LeavesAt (old number) (new number)
+
 -- And more may wait behind it, where it is lent to somebody since.
 pub data WaitsBehindEnd (lent : Type 0) (client : Option ClientSession) (old : Option (List ℕ)) : Option (List ℕ) → Type 0 where
   IsShutSince : WaitsBehindEnd lent client old None
@@ -138,6 +151,19 @@ pub data WaitsBehindEnd (lent : Type 0) (client : Option ClientSession) (old : O
 -- where an application held one
 abbrev pub OfItsHold : (Option ClientSession → Option (List ℕ) → Option (List ℕ) → Type 0) → ℕ → code.Relay → (ℕ → Option (List ℕ)) → Type 0
 OfItsHold Left key old now = (hold : Hold) → find_key key old.pool.holds.items ≡ Some hold → Left (client_of hold.lease old.pool.service) (waits_on hold.number old.links.items) (now hold.number)
+
+-- Where an application held one, that waits there; on each other the same does.
+abbrev pub LetsGoBy : ℕ → pools.Pool → List Link → List Link → Type 0
+LetsGoBy key d old new = (number : ℕ) → (waits_on number new ≡ waits_on number old)
+    ⊎ ((hold : Hold) × (find_key key d.holds.items ≡ Some hold) × (hold.number ≡ number)
+    × WaitsAtEnd (client_of hold.lease d.service) (waits_on number old) (waits_on number new))
+
+abbrev pub LetsGoAt : ℕ → code.Relay → code.Relay → Type 0
+LetsGoAt key old new = LetsGoBy key old.pool old.links.items new.links.items
+
+abbrev pub LeavesAllAt : code.Relay → code.Relay → Type 0
+LeavesAllAt old new =
+    LeavesAll (λ number. waits_on number old.links.items) (λ number. waits_on number new.links.items)
 
 abbrev pub WaitsSinceEnd : ℕ → code.Relay → code.Relay → Type 0
 WaitsSinceEnd key old new = (hold : Hold) → find_key key old.pool.holds.items ≡ Some hold
@@ -174,24 +200,34 @@ CountsSent Fails (Some waits) old new = new ≡ (next old.0, old.1)
 abbrev pub IsUnfit : List ℕ → Option Queue → Type 0
 IsUnfit out queue = option_map (λ (p : Queue). fits p out) queue ≡ Some false
 
--- The pool has this connection no more as this application lets it go: it gave that up, or its
--- cleaning, as for want of memory; whether memory was refused isn't said.
-pub record IsGivenUp (key number : ℕ) (old new : Pool) : Type 0 where
-  pub gives : Bool
-  pub way : Way
-  pub lost : has_seat number (turn old (Leaves key gives way)).pool.service ≡ false
-  pub goes : LedOn (turn old (Leaves key gives way)).pool new
+-- The protocol's rules were broken on it.
+abbrev pub HasBroken : Stage → Type 0
+HasBroken (session.Broken fault) = Unit {0}
+HasBroken _ = ⊥
 
--- So it is with what this application held; or what goes out there doesn't fit.
-abbrev pub CannotClean : ℕ → Hold → code.Relay → code.Relay → Type 0
-CannotClean key hold old new =
-    IsGivenUp key hold.number (pool_in old.pool) (pool_in new.pool)
-    ⊎ ((out : List ℕ) × GoesOutAtEnd text_of_cleaning (client_of hold.lease old.pool.service) out × IsUnfit out (queue_on hold.number old.links.items))
+-- This client's connection is closed as it is let go: they were broken there.
+abbrev pub IsBrokenFor : Option ClientSession → Type 0
+IsBrokenFor client =
+    (broken : ClientSession) × (client ≡ Some broken) × HasBroken broken.stage
+
+-- So it is with what an application held, where it is there no more.
+abbrev pub IsShutFor : services.Service → Option Hold → Option Left → Type 0
+IsShutFor s None left = Unit {0}
+IsShutFor s (Some hold) None = Unit {0}
+IsShutFor s (Some hold) (Some left) =
+    left.is_there ≡ false → IsBrokenFor (client_of hold.lease s)
+
+-- What this held can't be cleaned: the rules were broken there, or what goes out there doesn't fit.
+abbrev pub CannotClean : Hold → code.Relay → Type 0
+CannotClean hold old =
+    IsBrokenFor (client_of hold.lease old.pool.service)
+    ⊎ ((out : List ℕ) × GoesOutAtEnd text_of_cleaning (client_of hold.lease old.pool.service) out
+    × IsUnfit out (queue_on hold.number old.links.items))
 
 -- It is counted so where an application held one that was there, and for that as closed instead.
 abbrev pub CountsAtEnd : ℕ → code.Relay → code.Relay → Type 0
 CountsAtEnd key old new = (hold : Hold) → find_key key old.pool.holds.items ≡ Some hold → IsSome (waits_on hold.number old.links.items)
-    → CountsSent (CannotClean key hold old new) (waits_on hold.number new.links.items) (cleaned_in old) (cleaned_in new)
+    → CountsSent (CannotClean hold old) (waits_on hold.number new.links.items) (cleaned_in old) (cleaned_in new)
 
 -- Then those who wait are served: what is counted as cleaned is there, or was lost with one of them; what is counted as closed is so for this
 -- reason, and isn't there.
@@ -206,7 +242,7 @@ LosesWaiting was old new = HasClosed (IsWaiting (pool_in old.pool).line) was (re
 
 abbrev pub CountsSinceEnd : ℕ → Register → code.Relay → code.Relay → Type 0
 CountsSinceEnd key was old new = (hold : Hold) → find_key key old.pool.holds.items ≡ Some hold → IsSome (waits_on hold.number old.links.items)
-    → CountsSince (CannotClean key hold old new) (LosesWaiting was old new) hold.number (cleaned_in old) (cleaned_in new) new.links.items
+    → CountsSince (CannotClean hold old) (LosesWaiting was old new) hold.number (cleaned_in old) (cleaned_in new) new.links.items
 
 -- A cleaning doesn't fit where nothing waits, behind packets of this size.
 abbrev pub IsTooLong : ℕ → Type 0
@@ -238,10 +274,13 @@ CountsHeard number (Some heard) old new = CountsWhat heard.what heard.key number
 abbrev pub IsLentBy : ℕ → Service → Type 0
 IsLentBy number s = (lease : ℕ) × (had : Bool) × ((step {T = Token} s calls.Lease).reply ≡ calls.Lent lease number had)
 
--- There were connections before, and the pool is as it was; or it has done what it does to bring
--- one, of which the service lends none, or it gave up its cleaning, as for want of memory.
+-- As many of a service's connections are in use as may be.
+abbrev pub LendsNone : Service → Type 0
+LendsNone s = (step {T = Token} s calls.Lease).reply ≡ calls.AllInUse
+
+-- There were connections before, or the service lends none; and the pool is as it was.
 abbrev pub IsNotBrought : List Link → Pool → Pool → Type 0
-IsNotBrought links old new = (((length links == 0) ≡ false) × (new ≡ old)) ⊎ ((gives : Bool) × (way : Way) × (new ≡ (turn old (Brings gives way)).pool))
+IsNotBrought links old new = (((length links == 0) ≡ false) ⊎ LendsNone old.service) × (new ≡ old)
 
 -- One is behind them that is open and called so, made as the relay was told; or none is.
 abbrev pub IsFirst : ℕ → Settings → List Link → List Link → Type 0
@@ -254,13 +293,13 @@ pub data CleaningWaits (lent : Type 0) : Option (List ℕ) → Type 0 where
   IsGone : CleaningWaits lent None
   IsThere : (out more : List ℕ) → IsCleaning text_of_cleaning out → (more ≡ []) ⊎ lent → CleaningWaits lent (Some (out ++ more))
 
--- ---- One that is being cleaned waits for the answer of a cleaning that went out
+-- ---- Of one that is being cleaned, what waits there
 
 -- The connection of this number is being cleaned, by this lease.
 abbrev pub IsCleanedBy : ℕ → ℕ → Service → Type 0
 IsCleanedBy number lease s = option_map (λ (c : Seat). c.place) (seat_numbered number s.seats) ≡ Some (calls.Cleaning lease)
 
--- What is put ends in a cleaning.
+-- What is put ends in a cleaning; how many there are, and what stands before it, isn't said.
 abbrev pub EndsCleaning : List ℕ → List ℕ → List ℕ → Type 0
 EndsCleaning text before after = (more : List ℕ) × IsPutBehind (IsCleaning text) (before ++ more) after
 
@@ -269,14 +308,16 @@ pub record CleansIfPut (text before after : List ℕ) (old new : Service) : Type
   pub each : (number lease : ℕ) → IsCleanedBy number lease new
       → IsCleanedBy number lease old ⊎ EndsCleaning text before after
 
--- This one was so, and nothing is put; or just a cleaning is, where this is nobody.
+-- Where this one is being cleaned: it was so, by the same lease, and nothing is put; or just a
+-- cleaning is, and this is nobody.
 pub record CleansHere (who : Option ℕ) (number : ℕ) (before after : List ℕ) (old new : Service)
     : Type 0 where
   pub here : (lease : ℕ) → IsCleanedBy number lease new
       → (IsCleanedBy number lease old × (after ≡ before))
       ⊎ ((who ≡ None) × IsPutBehind (IsCleaning text_of_cleaning) before after)
 
--- It is nobody's: it was so, and nothing is put; or just a cleaning is.
+-- Where this one is being cleaned it is nobody's; and it was so, by the same lease, and nothing is
+-- put, or just a cleaning is.
 pub record CleansNobodys (who : Option ℕ) (number : ℕ) (before after : List ℕ) (old new : Service)
     : Type 0 where
   pub here : (lease : ℕ) → IsCleanedBy number lease new

@@ -198,7 +198,7 @@ ContinuesTold number left rest heard now next f at g to =
     (first asks behind : ℕ → Body → Body) (begun : Option Reading) (old : Machine) (from : services.Service) (bytes : List ℕ) → StreamsTold number first begun old from bytes left asks now f at
     → AskAsTold (acknowledged_in heard) heard f.core.ends asks behind → StreamsTold number first begun old from bytes rest behind next g to
 
--- In a call all of them are, and then those who wait are served: by that what an application asks stays, or goes on where it has waited.
+-- In a call all of them are, and then those who wait are served: by that what an application asks stays, or goes on where it has waited, or it is to be closed.
 pub record ComesTold (number : ℕ) (bytes : List ℕ) (old new : code.Relay) : Type 0 where
   pub comes : BytesCome number (open_at number old.links.items) (machine_in old) old.pool.service bytes (open_at number new.links.items) (machine_in new) new.pool.service
   pub behind : ℕ → Body → Body

@@ -24,7 +24,7 @@ use Rattle.tds_relay.specs.declared.pool.coming.What.TheVariants as whats
 use Rattle.tds_relay.specs.Pool as pool
 use Rattle.tds_relay.specs.Pool.{Pool, Action, Event, Sharing, Way, pool_after, find_key, find_number, key_of, new_pool, turn, whose}
 use Rattle.tds_relay.specs.Anew.{AsksNothing, ResetsFor, WhereAsked}
-use Rattle.tds_relay.specs.Places.{HasNoTransaction, holds_clean, is_by_transactions, is_done_with}
+use Rattle.tds_relay.specs.Places.{HasNoTransaction, HoldsOne, holds_clean, is_by_transactions, is_done_with}
 use Rattle.tds_relay.specs.Promises.{Each}
 use Rattle.tds_relay.specs.Ties as causes
 use Rattle.tds_relay.specs.Ties.{Cause, Causes, sent_along}
@@ -295,7 +295,7 @@ abbrev pub is_in : ℕ → List ℕ → Bool
 is_in key [] = false
 is_in key (k ∷ ks) = (k == key) || is_in key ks
 
--- where its application isn't to be closed
+-- its application is there, and isn't to be closed
 abbrev pub IsOpenEnd : Option End → Type 0
 IsOpenEnd (Some (Open front withdrawn asks)) = Unit {0}
 IsOpenEnd _ = ⊥
@@ -352,12 +352,12 @@ pub record HasEntered (key : ℕ) (old new : EndList) : Type 0 where
   pub begins : end_at new key ≡ Some (Open (new_front size) false None)
   pub others_stay : (other : ℕ) → other ≢ key → end_at new other ≡ end_at old other
 
--- Who lets a connection go and stays, or has it replaced, may be parted from it; or is parked.
+-- Who lets go what it holds and stays, or has it replaced, may be parted from it; or is parked.
 abbrev pub MayMove : Core → Move → Type 0
 MayMove h (Does event) = MayDoAlone h event
 MayMove h (Sends key action) = IsPut action × MayDo action (end_at h.ends key)
 MayMove h (LetsGo key true gives way) = may_park h key ≡ true
-MayMove h (LetsGo key false gives way) = MayPart h key
+MayMove h (LetsGo key false _ _) = MayPart h key × IfOpen (HoldsOne h.pool key) (end_at h.ends key)
 MayMove h (Replaces number) = IfWhose (MayPart h) (holder h.pool number)
 MayMove h (Enters key ends) = HasEntered key h.ends ends
 MayMove h _ = Unit {0}

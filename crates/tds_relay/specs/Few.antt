@@ -98,7 +98,7 @@ abbrev pub IsSeatedBehind : Option Heard → ℕ → code.Relay → Type 0
 IsSeatedBehind None number r = IsSeated r
 IsSeatedBehind (Some heard) number r = IsSeatedIf (is_left heard.what) number false r
 
--- One fewer is there, where this one was.
+-- One fewer at least is there, where this one was; else no more.
 abbrev pub TakenOut : ℕ → List Link → List Link → Type 0
 TakenOut number old new = length new + one_if (is_there number old) ≤ length old
 

@@ -8,12 +8,14 @@ use Rattle.tds_relay.specs.declared.link.Link.{Link}
 use Rattle.tds_relay.specs.declared.link.TheConstants.{COLUMNS}
 use Rattle.tds_relay.specs.declared.news.Known.TheVariants as knowns
 use Rattle.tds_relay.specs.declared.relay.Relay as code
+use Rattle.tds_relay.specs.Asking.{IsTakenBack}
+use Rattle.tds_relay.specs.Bodies.{Astray, Body, IsStill, body_of}
 use Rattle.tds_relay.specs.Closings.{Register, open_name}
 use Rattle.tds_relay.specs.Fronts.{ends_in}
 use Rattle.tds_relay.specs.Pool.{find_key, find_number, key_of, without_number}
 use Rattle.tds_relay.specs.Core.{end_at, holder, is_in}
 use Rattle.tds_relay.specs.Reads.{FillsAt, MayBegin, Seen, StaysAt, answer_at, bytes_on, carried_there, fullness_at, link_at, open_at, opened_seen, seen_at, waits_on}
-use Rattle.tds_relay.specs.Sparing.{HeldConnection, held_at}
+use Rattle.tds_relay.specs.Sparing.{HeldConnection, IsKept, StartsBehind, held_at}
 use Rattle.tds_relay.specs.Taking.{IsDeaf}
 use Rattle.tds_relay.specs.Ties.{pool_in}
 
@@ -252,6 +254,25 @@ pub data MayBeLent (number : ℕ) (line : List ℕ) (had : List Hold) (old : Lis
 
 abbrev pub LendsInLine : code.Relay → code.Relay → Type 0
 LendsInLine old new = (number : ℕ) → MayBeLent number old.pool.line.items old.pool.holds.items old.links.items new.pool.holds.items new.links.items
+
+-- What was kept of a request goes on behind what waited on the connection that its application is lent, once; or, where nothing of it goes
+-- on, nothing is put there; or that application is to be closed. Of one that was astray nothing is said.
+pub record AsksBehind (waited now : Option (List ℕ)) (old new : Body) : Type 0 where
+  pub starts : StartsBehind waited old new ⊎ (old ≡ Astray)
+  pub still : IsStill old → IsStill new → StaysAt waited now
+
+-- this application, on the connection of this number
+abbrev pub AsksLent : ℕ → ℕ → code.Relay → code.Relay → Type 0
+AsksLent number key old new = AsksBehind (waits_on number old.links.items) (waits_on number new.links.items) (body_of key old) (body_of key new)
+
+-- What this application asks isn't kept where this connection is open, unless what it took back isn't acknowledged yet.
+abbrev pub IsAskedOn : ℕ → ℕ → code.Relay → Type 0
+IsAskedOn number key r = IsKept (body_of key r) → IsTakenBack (end_at (ends_in r.applications) key) ⊎ (open_at number r.links.items ≡ None)
+
+-- Whoever is lent a connection that was there, and that nobody held, waited, and asks so on it, where that may be.
+abbrev pub LendsBehind : code.Relay → code.Relay → Type 0
+LendsBehind old new = (number key : ℕ) → number ≤ old.pool.service.last → holder (pool_in old.pool) number ≡ None → holder (pool_in new.pool) number ≡ Some key
+    → (is_in key old.pool.line.items ≡ true) × AsksLent number key old new × (IsStill (body_of key old) → IsAskedOn number key new)
 
 -- This connection is that one, where somebody holds it, or another of its holder's.
 abbrev pub IsWithHolder : ℕ → code.Relay → ℕ → Type 0

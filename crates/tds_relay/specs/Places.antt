@@ -1,5 +1,5 @@
 -- Who holds which connection, as whoever asks is told; a connection's transaction, and an application's requests; and when it is at rest.
-use Rattle.std.specs.Prelude.{◌≢◌, ◌&&◌, ℕ, List, [], not, Bool, true, false, Option, Some, None, is_none, option_map}
+use Rattle.std.specs.Prelude.{◌≢◌, ◌&&◌, ℕ, List, [], not, Bool, true, false, Option, Some, None, IsSome, is_none, option_map}
 use Rattle.tds_packet.specs.declared.status.Reset.{Reset}
 use Rattle.tds_front.specs.declared.front.Said.{Said}
 use Rattle.tds_front.specs.declared.front.Said.TheVariants as said
@@ -23,6 +23,10 @@ use Rattle.tds_relay.specs.Pool.{Pool, find_key, find_number, key_of, next}
 -- the connection that an application holds
 abbrev pub held_by : Pool → ℕ → Option ℕ
 held_by d key = option_map (λ (h : Hold). h.number) (find_key key d.holds)
+
+-- It holds one, at whatever stage its end is.
+abbrev pub HoldsOne : Pool → ℕ → Stage → Type 0
+HoldsOne d key stage = IsSome (find_key key d.holds)
 
 -- the application that holds the connection of this number, and where it is in the service
 abbrev pub holder_of_number : Pool → ℕ → Option ℕ
@@ -86,7 +90,7 @@ abbrev pub state_withdrawn : State → Bool
 state_withdrawn (states.Open o) = o.is_withdrawn
 state_withdrawn (states.Over why) = false
 
--- that asks nothing
+-- one that may ask, and asks nothing
 abbrev pub new_state : State
 new_state = states.Open (record { request = requests.Nothing; reset = None; is_withdrawn = false })
 

@@ -105,7 +105,7 @@ Rests old new = Spared old new ⊎ (old ≡ Astray)
 abbrev pub HoldsStill : ℕ → code.Relay → code.Relay → Type 0
 HoldsStill key old new = HoldsOn key old.pool new.pool ⊎ (body_of key new ≡ Closed)
 
--- So does each, and holds what it held,
+-- Each request rests so, and each application holds what it held,
 pub record AllRest (old new : code.Relay) : Type 0 where
   pub rest : (key : ℕ) → Rests (body_of key old) (body_of key new)
   pub holds : (key : ℕ) → HoldsStill key old new

@@ -97,12 +97,12 @@ IsStanding number (Unread most features) s = IsUnread most features number s
 IsStanding number (There r) s = StandsAt number r s
 IsStanding number (OfSize size) s = AllSized size s
 
--- Each parser stands where it stood, and packets of as many bytes go out as before.
+-- Each parser stands where it stood, and the size of the packets that go out stays.
 abbrev pub AllStand : services.Service → services.Service → Type 0
 AllStand old new =
     (number : ℕ) (what : WhatStands) → IsStanding number what old → IsStanding number what new
 
--- A packet with these data has come on the connection of this number, and packets of as many bytes go out as before.
+-- A packet with these data has come on the connection of this number, and the size of the packets that go out stays.
 pub record AllRead (number : ℕ) (ends : Bool) (content : List ℕ) (old new : services.Service) : Type 0 where
   pub stand : (other : ℕ) (r : Parser) → StandsAt other r old
       → StandsAt other (read_at other number (seat_numbered number (service_in old).seats) ends content r) new
@@ -133,7 +133,7 @@ ReadAnew most features number h steps to =
     (r : Parser) × Begins most features r × AreRead number r h steps
     × (StandsAt number (stands_behind number r h steps) to ⊎ (NoneRead number h steps × IsUnread most features number to))
 
--- Behind steps each parser stands where their packets lead it, which are read from there; and packets of as many bytes go out as before.
+-- Behind steps each parser stands where their packets lead it, which are read from there; and the size of the packets that go out stays.
 pub record Walks (from : services.Service) (old : Machine) (steps : List Step) (to : services.Service) : Type 0 where
   pub each : (number : ℕ) (r : Parser) → StandsAt number r from → AreRead number r old steps
   pub stand : (number : ℕ) (r : Parser) → StandsAt number r from → StandsAt number (stands_behind number r old steps) to

@@ -14,7 +14,8 @@ use Rattle.tds_front.specs.declared.front.Said.{Said}
 use Rattle.tds_relay.specs.declared.application.Application.{Application}
 use Rattle.tds_relay.specs.declared.pool.coming.Heard.{Heard}
 use Rattle.tds_relay.specs.declared.link.Link.{Link}
-use Rattle.tds_relay.specs.Bodies.{Body, IsStill, Kept, body_of, last_of, Carries, HeedsAll, standing_in}
+use Rattle.tds_relay.specs.Bodies.{Astray, Body, IsStill, IsUnsent, Kept, body_of, last_of, Carries, standing_in}
+use Rattle.tds_relay.specs.Waking.{HeedsAll}
 use Rattle.tds_relay.specs.Closings.{IsWho, IsWaiting}
 use Rattle.tds_relay.specs.Pool.{find_key, find_number, Sharing, without}
 use Rattle.tds_relay.specs.Fronts.{own_end, ends_in, told_by, MovedOn, core_in, machine_in}
@@ -30,7 +31,7 @@ use Rattle.tds_relay.specs.Ties.{pool_in, Cause, IsReached, Neither, Turns}
 use Rattle.tds_relay.specs.Told.{room_to_keep}
 use Rattle.tds_relay.specs.Coming.{GoesAlong, StreamsAnew}
 use Rattle.tds_relay.specs.Few.{IsSeated}
-use Rattle.tds_relay.specs.Lent.{FirstKeeps, IsWithHolder, MayBeLent, OthersKeepAt, ShutElse}
+use Rattle.tds_relay.specs.Lent.{AsksBehind, AsksLent, FirstKeeps, IsAskedOn, IsWithHolder, MayBeLent, OthersKeepAt, ShutElse}
 use Rattle.tds_relay.specs.Machine.{IsLedTo, Steps}
 use Rattle.tds_relay.specs.Places.{is_closed, own_asking, own_held}
 
@@ -85,8 +86,9 @@ abbrev pub OpensFor : ℕ → code.Relay → ℕ → Type 0
 OpensFor number r other =
     IsWho (holder (pool_in r.pool) number) other × (links : List Link) × IsOpened number r.links.items links × IsTurnedAway other (end_at (ends_in r.applications) other) r.pool links (body_of other r)
 
--- Who holds it, by a lease that was given before, and waited for none: where what he asks stays, and
--- nothing of it goes on, the same waits there; or the connection is there no more.
+-- Of who holds it, by a lease that was given before, waited for none, and isn't to be closed: where
+-- what he asks stays, and nothing of it goes on, the same waits there; or the connection is there no
+-- more.
 abbrev pub RestsForHolder : ℕ → code.Relay → code.Relay → Type 0
 RestsForHolder number old new =
     (hold : Hold) → find_number number new.pool.holds.items ≡ Some hold
@@ -190,6 +192,19 @@ pub record IsLentBehind (key : ℕ) (bytes : List ℕ) (r : code.Relay) (other :
   pub taken : IsTakenTo key bytes [] r mid
   pub lent : IsLentInVain mid other
 
+-- Where an application speaks, one that is lent this connection asks behind what waited there: another, that waited before; or itself, as its
+-- request stands behind all of its bytes.
+pub data AsksSaying (key : ℕ) (bytes : List ℕ) (number other : ℕ) (old new : code.Relay) : Type 0 where
+  OfAnother : other ≢ key → is_in other old.pool.line.items ≡ true → AsksLent number other old new → (IsStill (body_of other old) → IsAskedOn number other new) → AsksSaying key bytes number other old new
+  OfItself : (mid : code.Relay) → other ≡ key → IsTakenTo key bytes [] old mid → IsUnsent (body_of key mid) ⊎ (body_of key mid ≡ Astray)
+      → AsksBehind (waits_on number old.links.items) (waits_on number new.links.items) (body_of key mid) (body_of key new)
+      → (IsStill (body_of key mid) → IsAskedOn number key new) → AsksSaying key bytes number other old new
+
+-- So does whoever is lent one that was there, and that nobody held.
+abbrev pub LendsSaying : ℕ → List ℕ → code.Relay → code.Relay → Type 0
+LendsSaying key bytes old new = (number other : ℕ) → number ≤ old.pool.service.last → holder (pool_in old.pool) number ≡ None
+    → holder (pool_in new.pool) number ≡ Some other → AsksSaying key bytes number other old new
+
 -- By one piece of these, behind others; or behind them it is lent a connection in vain.
 pub data HasReason (key : ℕ) (bytes : List ℕ) (r : code.Relay) : Type 0 where
   ByPiece : (mid : code.Relay) (left : List ℕ) → IsTakenTo key bytes left r mid → GivesReason left key mid → HasReason key bytes r
@@ -258,6 +273,28 @@ pub data IsClosedByHearing (number : ℕ) (bytes : List ℕ) (r : code.Relay) (o
       → StreamsAll number (open_at number r.links.items) (machine_in r) r.pool.service bytes
       (open_at number mid.links.items) (machine_in mid) mid.pool.service
       → IsHeardTo number r mid → IsLentInVain mid other → IsClosedByHearing number bytes r other
+
+-- What waited on this connection, where packets came on that one: what waited before; and where it is that one, cleanings behind it, no more than
+-- leases were given.
+abbrev pub CleansOrStays : ℕ → ℕ → code.Relay → code.Relay → Option (List ℕ) → Type 0
+CleansOrStays number n old new waited =
+    ((n ≢ number) × (waited ≡ waits_on n old.links.items))
+    ⊎ ((n ≡ number) × CleansAlone old.pool.service.given new.pool.service.given (waits_on n old.links.items) waited)
+
+-- Where packets come on that one, an application that is lent this one asks behind what waited there, as its request stood behind the packets.
+pub record AsksSince (number n key : ℕ) (old new : code.Relay) : Type 0 where
+  pub waited : Option (List ℕ)
+  pub cleans : CleansOrStays number n old new waited
+  pub mid : Body
+  pub along : GoesAlong (body_of key old) mid
+  pub unsent : IsUnsent mid ⊎ (mid ≡ Astray)
+  pub asks : AsksBehind waited (waits_on n new.links.items) mid (body_of key new)
+  pub asked : IsStill mid → IsAskedOn n key new
+
+-- So does whoever is lent a connection that was there, and that nobody held.
+abbrev pub LendsHearing : ℕ → code.Relay → code.Relay → Type 0
+LendsHearing number old new = (n key : ℕ) → n ≤ old.pool.service.last → holder (pool_in old.pool) n ≡ None
+    → holder (pool_in new.pool) n ≡ Some key → AsksSince number n key old new
 
 -- where the service has the connections that the relay has, as it has behind each call
 abbrev pub HeardFor : ℕ → List ℕ → code.Relay → ℕ → Type 0

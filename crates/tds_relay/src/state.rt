@@ -64,7 +64,7 @@ pub(crate) enum State {
 impl Request {
     ghost use Rattle.tds_relay.specs.Places.{request_asking, request_held};
 
-    /// One that is there, of which nothing is kept.
+    /// One that is at this, of which nothing is kept.
     pub(crate) fn new(alloc: Global, asking: Asking) -> Request
         ensures asking { request_asking result ≡ asking }
         ensures held { request_held result ≡ [] }

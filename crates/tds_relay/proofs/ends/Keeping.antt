@@ -76,7 +76,7 @@ module _ (h : Core) (key : ℕ) (sound : Sound h.pool) (sit : AllSit h.pool) (k 
   lets : (other : ℕ) (parks gives : Bool) (way : Way) (b : Bool) → (other == key) ≡ b → MayMove h (core.LetsGo other parks gives way) → Keeps (core.LetsGo other parks gives way)
   lets other false gives way true e may =
       let is = eqb-true other key e in
-      inr (inl (is, subst (MayPart h) is may))
+      inr (inl (is, subst (MayPart h) is may.0))
   lets other true gives way true e rests =
       let is = eqb-true other key e in
       inr (inr (is, rested h key (subst (λ (x : ℕ). may_park h x ≡ true) is rests)))

@@ -177,7 +177,7 @@ module _ (h : Core) (key : ℕ) (outs outs2 : ℕ → Bool) (sound : Sound h.poo
       lets_if d key outs outs2 sound sit k gives way (k == key) p o refl s (λ is. subst (λ (x : ℕ). IfOpen IsHere (end_at h.ends x)) is (lets_here h k (inr may)))
       (left_of d key outs outs2 sound sit (pool.Leaves k gives way) leaves)
   step (core.LetsGo k false gives way) p may s leaves =
-      lets_if d key outs outs2 sound sit k gives way (k == key) p o refl s (λ is. subst (λ (x : ℕ). IfOpen IsHere (end_at h.ends x)) is (lets_here h k (inl may)))
+      lets_if d key outs outs2 sound sit k gives way (k == key) p o refl s (λ is. subst (λ (x : ℕ). IfOpen IsHere (end_at h.ends x)) is (lets_here h k (inl may.0)))
       (left_of d key outs outs2 sound sit (pool.Leaves k gives way) leaves)
   step (core.Loses n) p may s leaves =
       loses_whose d key outs outs2 sound sit n (holder d n) p o refl s (left_of d key outs outs2 sound sit (pool.Loses n) leaves)

@@ -140,11 +140,11 @@ alone_then from at lent seen now None v (Some waits) (Some new) w k e f g c = ab
 alone_then from at lent seen now (Some a) v (Some waits) (Some new) w k e f g c =
     more_behind from at lent a waits new v w (subst (CleansAlone from at (Some a)) (open_by seen v waits (sym e)) k) f (open_by seen v waits (sym e)) (open_by now w new (sym g)) c
 
-unheld : (o : Option Hold) → ((key : ℕ) → key_of o ≢ Some key) → o ≡ None
+pub unheld : (o : Option Hold) → ((key : ℕ) → key_of o ≢ Some key) → o ≡ None
 unheld None f = refl
 unheld (Some h) f = absurd (f h.key refl)
 
-alone_on : (from at to : ℕ) (o v : Option (List ℕ)) → at ≤ to → CleansAlone from at o v → CleansAlone from to o v
+pub alone_on : (from at to : ℕ) (o v : Option (List ℕ)) → at ≤ to → CleansAlone from at o v → CleansAlone from to o v
 alone_on from at to o None le k = tt
 alone_on from at to None (Some new) le k = absurd k
 alone_on from at to (Some waits) (Some new) le k = (k.0, no_more from at to k.0 le k.1, k.2)

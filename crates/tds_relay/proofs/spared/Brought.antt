@@ -19,7 +19,7 @@ use Rattle.tds_relay.specs.declared.pool.Hold.{Hold}
 use Rattle.tds_relay.specs.declared.pool.leaving.Left.{Left}
 use Rattle.tds_relay.specs.declared.link.Link.{Link}
 use Rattle.tds_relay.specs.declared.relay.Relay as code
-use Rattle.tds_relay.specs.Cleaning.{CleansOnce, CleaningWaits, GoesOutAtEnd, IsCleaning, IsPutBehind, rests_once, text_of_cleaning}
+use Rattle.tds_relay.specs.Cleaning.{HasBroken, IsBrokenFor, CleansOnce, CleaningWaits, GoesOutAtEnd, IsCleaning, IsPutBehind, rests_once, text_of_cleaning}
 use Rattle.tds_relay.specs.Cleaning as cleaning
 use Rattle.tds_relay.specs.Pool as pool
 use Rattle.tds_relay.specs.Pool.{Pool, find_number, holding, lent_in, serves, serves_by, turn}
@@ -109,6 +109,21 @@ brought_cleans text lease number had s t before after same led is reply p =
       is = subst (λ (ys : List ℕ). IsCleaning ys p.out) same (cleaned_once text before p.out (rests_once p.is.session.stage) (cancel_out p.is.session.stage) rests.0 rests.1 p.is.does);
       appended = p.appended;
     }
+
+not_broken : (stage : session.Stage) → rests_once stage ≡ true → HasBroken stage → ⊥
+not_broken session.Idle e broken = broken
+not_broken (session.Sending kind left packets) e broken = broken
+not_broken session.Reading e broken = broken
+not_broken session.Cancelling e broken = broken
+not_broken (session.Broken fault) e broken = let u : false ≡ true = e in let v : ⊥ = cc in v
+
+-- and is there still
+pub brought_there : (b : Bool) (lease number : ℕ) (had : Bool) (s t : services.Service) → IsLed (service_in s) → service_in t ≡ (step {T = Token} (service_in s) calls.Lease).service
+    → (step {T = Token} (service_in s) calls.Lease).reply ≡ calls.Lent lease number had → (b ≡ false → IsBrokenFor (client_of lease t)) → b ≡ true
+brought_there true lease number had s t led is reply shut = refl
+brought_there false lease number had s t led is reply shut =
+    let broken = shut refl in
+    absurd (not_broken broken.0.stage (lent_rests lease number had s t broken.0 led is reply broken.1).0 broken.2)
 
 -- ---- Nobody holds it
 

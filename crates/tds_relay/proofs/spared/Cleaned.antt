@@ -1,5 +1,5 @@
 -- What a cleaning puts, and what goes out where a connection is let go.
-use Rattle.std.proofs.Common.{◌≡◌, ◌∙◌, ◌==◌, ◌&&◌, ◌++◌, ◌≤◌, ℕ, Bool, true, false, not, List, [], ◌∷◌, Option, Some, None, inl, inr, refl, sym, ap, subst, append_assoc, arith, option_map, if◌then◌else◌}
+use Rattle.std.proofs.Common.{◌≡◌, ◌∙◌, ◌==◌, ◌++◌, ◌≤◌, ℕ, Bool, true, false, not, List, [], ◌∷◌, Option, Some, None, inl, inr, refl, sym, ap, subst, append_assoc, arith, option_map, if◌then◌else◌}
 use Rattle.std.specs.Prelude.{IsSome, OnOk, Result, Ok, Err, ◌⊎◌}
 use Rattle.std.proofs.lemmas.Bool.{eqb-true, eq-eqb}
 use Rattle.tds_client.specs.declared.message.MessageKind.TheVariants.{Batch}
@@ -14,7 +14,7 @@ use Rattle.tds_relay.specs.declared.pool.Hold.{Hold}
 use Rattle.tds_relay.specs.declared.pool.leaving.Left.{Left}
 use Rattle.tds_relay.specs.declared.link.Link.{Link}
 use Rattle.tds_relay.specs.declared.relay.Relay as code
-use Rattle.tds_relay.specs.Cleaning.{CleansOnce, GoesOutAtEnd, GoesOutBy, IsBatch, IsCleaning, WaitsAtEnd, OfItsHold, MayClean, IsPutBehind, CannotClean, CountsAtEnd, CountsHold, CountsSent, CountsSince, CountsSinceEnd, IsGivenUp, IsTooLong, IsUnfit, LosesWaiting, cleaned_in, rests_once, text_of_cleaning}
+use Rattle.tds_relay.specs.Cleaning.{CleansOnce, GoesOutAtEnd, GoesOutBy, IsBatch, IsCleaning, WaitsAtEnd, OfItsHold, MayClean, IsPutBehind, CannotClean, CountsAtEnd, CountsHold, CountsSent, CountsSince, CountsSinceEnd, IsBrokenFor, IsTooLong, IsUnfit, LosesWaiting, cleaned_in, rests_once, text_of_cleaning, IsShutFor}
 use Rattle.tds_relay.specs.Cleaning as cleaning
 use Rattle.tds_relay.specs.Pool as pool
 use Rattle.tds_relay.specs.Pool.{Pool, find_key, find_lease, find_number, whose_by, without_lease, next}
@@ -22,11 +22,10 @@ use Rattle.tds_relay.specs.Promises.{Each}
 use Rattle.tds_relay.specs.Closings.{ClosesOnly, IsWaiting, NoKey, Register, open_name, register_in}
 use Rattle.tds_relay.specs.Lent.{HasClosed, IsMade, LastBut, KeepsGiven}
 use Rattle.tds_relay.specs.Reads.{FillsAt, FillsBy, bytes_on, link_at, queue_on, reader_at, reader_of, waits_on}
-use Rattle.tds_relay.specs.Few.{LeavesSeat, SeatStays, has_seat}
 use Rattle.tds_relay.specs.Queues.{Queue, fits, empty_queue, queue_in}
 use Rattle.tds_relay.specs.Reasons.{HasNoRoom}
 use Rattle.tds_wire.specs.declared.features.Features.{Features}
-use Rattle.tds_relay.specs.Ties.{LedOn, IsNumberOf, IsReached, Reaches, Turns, pool_in}
+use Rattle.tds_relay.specs.Ties.{IsNumberOf, IsReached, Turns, pool_in}
 use Rattle.tds_relay.proofs.spared.Freeing.{held_low}
 use Rattle.tds_relay.proofs.held.Sitting.{Sits}
 use Rattle.tds_relay.proofs.spared.Held.{Seated, same_lease, seated, sits_at, sound_at}
@@ -105,6 +104,13 @@ ends_none s (Some hold) before after = tt
 pub ends_some : (s : services.Service) (o : Option Hold) (h : Hold) (left : Left) (before after : List ℕ) → o ≡ Some h
     → (left.is_there ≡ true → IsPutBehind (GoesOutAtEnd text_of_cleaning (client_of h.lease s)) before after) → GoesOutBy s o (Some left) before after
 ends_some s o h left before after is ends = subst (λ (p : Option Hold). GoesOutBy s p (Some left) before after) (sym is) ends
+
+pub shut_none : (s : services.Service) (o : Option Hold) → IsShutFor s o None
+shut_none s None = tt
+shut_none s (Some hold) = tt
+
+pub shut_some : (s : services.Service) (o : Option Hold) (h : Hold) (left : Left) → o ≡ Some h → (left.is_there ≡ false → IsBrokenFor (client_of h.lease s)) → IsShutFor s o (Some left)
+shut_some s o h left is shut = subst (λ (p : Option Hold). IsShutFor s p (Some left)) (sym is) shut
 
 pub not_both : {A : Type 0} (o : Option A) (x : A) → o ≡ Some x → o ≡ None → ⊥
 not_both o x e f = let u : Some x ≡ None = sym e ∙ f in let v : ⊥ = cc in v
@@ -263,7 +269,7 @@ counted_by (Ok x) key left o gives way old mid new d before after same is there 
     let e : IsPutBehind (GoesOutAtEnd text_of_cleaning (client_of hold.lease old.pool.service)) before after =
     subst (λ (p : Option Hold). GoesOutBy old.pool.service p (Some left) before after) its (subst (λ (y : Option Left). GoesOutBy old.pool.service (find_key key old.pool.holds.items) y before after) its_left (ends reached)) there in
     let puts : mid.outbox.items ≡ e.out = out ∙ e.appended ∙ ap (λ (xs : List ℕ). xs ++ e.out) empty in
-    let why : HasNoRoom left.number mid.outbox.items mid.links.items → CannotClean key hold old new = λ full.
+    let why : HasNoRoom left.number mid.outbox.items mid.links.items → CannotClean hold old = λ full.
     inr (
       e.out,
       e.is,
@@ -271,38 +277,22 @@ counted_by (Ok x) key left o gives way old mid new d before after same is there 
           (subst (λ (n : ℕ). HasNoRoom n e.out old.links.items) free.0
           (subst (λ (xs : List ℕ). HasNoRoom left.number xs old.links.items) puts (subst (λ (ls : List Link). HasNoRoom left.number mid.outbox.items ls) links full))),
     ) in
-    subst (λ (n : ℕ). CountsSent (CannotClean key hold old new) (waits_on n new.links.items) (cleaned_in old) (cleaned_in new)) free.0
-    (subst (λ (p : ℕ × ℕ). CountsSent (CannotClean key hold old new) (waits_on left.number new.links.items) p (cleaned_in new)) figures
-    (sent_for (HasNoRoom left.number mid.outbox.items mid.links.items) (CannotClean key hold old new) (waits_on left.number new.links.items) (cleaned_in mid) (cleaned_in new) why
+    subst (λ (n : ℕ). CountsSent (CannotClean hold old) (waits_on n new.links.items) (cleaned_in old) (cleaned_in new)) free.0
+    (subst (λ (p : ℕ × ℕ). CountsSent (CannotClean hold old) (waits_on left.number new.links.items) p (cleaned_in new)) figures
+    (sent_for (HasNoRoom left.number mid.outbox.items mid.links.items) (CannotClean hold old) (waits_on left.number new.links.items) (cleaned_in mid) (cleaned_in new) why
     (counts free.1 (subst (λ (n : ℕ). IsSome (waits_on n mid.links.items)) (sym free.0) (subst (λ (ls : List Link). IsSome (waits_on hold.number ls)) (sym links) was)))))
 counted_by (Err x) key left o gives way old mid new d before after same is there reached l its_left ends t at links figures empty out counts = tt
 
--- the pool has it no more
-given_up : (key : ℕ) (left : Left) (gives : Bool) (way : pool.Way) (old new : code.Relay) (d : pools.Pool) (before after : List ℕ) (l : Option Left) → IsReached (pool_in old.pool) → l ≡ Some left
-    → (IsReached (pool_in old.pool) → LeavesSeat l (pool_in old.pool).service (pool_in d).service) → left.is_there ≡ false → Turns (pool.Leaves key gives way) (pool_in old.pool) (pool_in d) before after → new.pool ≡ d
-    → IsGivenUp key left.number (pool_in old.pool) (pool_in new.pool)
-given_up key left gives way old new d before after l reached its_left seats gone t at =
-    let stays : SeatStays left.is_there left.number (pool_in old.pool).service (pool_in d).service =
-    subst (λ (o : Option Left). LeavesSeat o (pool_in old.pool).service (pool_in d).service) its_left (seats reached) in
-    let none : has_seat left.number (pool_in d).service ≡ false = stays.here ∙ ap (λ (b : Bool). b && has_seat left.number (pool_in old.pool).service) gone in
-    record {
-      gives = gives;
-      way = way;
-      lost = ap (λ (x : Pool). has_seat left.number x.service) (sym t.pool_is) ∙ none;
-      goes = λ by from h. subst (λ (x : Pool). Reaches by from x) (sym (ap pool_in at ∙ t.pool_is)) h;
-    }
-
-pub shut_counted : {A E : Type 0} (r : Result A E) (key : ℕ) (left : Left) (o : Option Hold) (old new : code.Relay) → o ≡ find_key key old.pool.holds.items → IsNumberOf o (Some left) → cleaned_in new ≡ (old.cleanings, next old.failed)
-    → OnOk r (waits_on left.number new.links.items ≡ None) → (gives : Bool) (way : pool.Way) (d : pools.Pool) (before after : List ℕ) (l : Option Left) → IsReached (pool_in old.pool) → l ≡ Some left
-    → (IsReached (pool_in old.pool) → LeavesSeat l (pool_in old.pool).service (pool_in d).service) → left.is_there ≡ false → Turns (pool.Leaves key gives way) (pool_in old.pool) (pool_in d) before after → new.pool ≡ d
-    → OnOk r (CountsAtEnd key old new)
-shut_counted (Ok x) key left o old new same is failed gone gives way d before after l reached its_left seats none t at = λ hold its was.
+-- or that is there no more
+pub shut_counted : {A E : Type 0} (r : Result A E) (key : ℕ) (left : Left) (o : Option Hold) (l : Option Left) (old new : code.Relay) → o ≡ find_key key old.pool.holds.items → IsNumberOf o (Some left) → cleaned_in new ≡ (old.cleanings, next old.failed)
+    → OnOk r (waits_on left.number new.links.items ≡ None) → l ≡ Some left → left.is_there ≡ false → IsShutFor old.pool.service (find_key key old.pool.holds.items) l → OnOk r (CountsAtEnd key old new)
+shut_counted (Ok x) key left o l old new same is failed gone its_left none shut = λ hold its was.
     let number : left.number ≡ hold.number = subst (λ (p : Option Hold). IsNumberOf p (Some left)) (same ∙ its) is in
-    let up : IsGivenUp key hold.number (pool_in old.pool) (pool_in new.pool) =
-    subst (λ (n : ℕ). IsGivenUp key n (pool_in old.pool) (pool_in new.pool)) number (given_up key left gives way old new d before after l reached its_left seats none t at) in
-    subst (λ (n : ℕ). CountsSent (CannotClean key hold old new) (waits_on n new.links.items) (cleaned_in old) (cleaned_in new)) number
-    (sent_gone (CannotClean key hold old new) left.number new.links.items (cleaned_in old) (cleaned_in new) gone failed (inl up))
-shut_counted (Err x) key left o old new same is failed gone gives way d before after l reached its_left seats none t at = tt
+    let broken : IsBrokenFor (client_of hold.lease old.pool.service) =
+    subst (λ (p : Option Hold). IsShutFor old.pool.service p (Some left)) its (subst (λ (y : Option Left). IsShutFor old.pool.service (find_key key old.pool.holds.items) y) its_left shut) none in
+    subst (λ (n : ℕ). CountsSent (CannotClean hold old) (waits_on n new.links.items) (cleaned_in old) (cleaned_in new)) number
+    (sent_gone (CannotClean hold old) left.number new.links.items (cleaned_in old) (cleaned_in new) gone failed (inl broken))
+shut_counted (Err x) key left o l old new same is failed gone its_left none shut = tt
 
 pub nobody_counted : (key : ℕ) (o : Option Hold) (old new : code.Relay) → o ≡ find_key key old.pool.holds.items → IsNumberOf o None → CountsAtEnd key old new
 nobody_counted key o old new same is = λ hold its was. absurd (subst (λ (p : Option Hold). IsNumberOf p None) (same ∙ its) is)
@@ -329,28 +319,23 @@ pub since_at : (Fails Lost : Type 0) (number : ℕ) (p q u : ℕ × ℕ) (ms ns 
     → (waits_on number ns ≡ None → (waits_on number ms ≡ None) ⊎ Lost) → CountsSince Fails Lost number p u ns
 since_at Fails Lost number p q u ms ns counts same fills lost = since_by Fails Lost number p q u ms ns (waits_on number ms) (waits_on number ns) refl refl counts same fills lost
 
-cannot_on : (key : ℕ) (hold : Hold) (old mid new : code.Relay) → LedOn (pool_in mid.pool) (pool_in new.pool) → CannotClean key hold old mid → CannotClean key hold old new
-cannot_on key hold old mid new on (inl up) = inl (record { gives = up.gives; way = up.way; lost = up.lost; goes = λ by from h. on by from (up.goes by from h) })
-cannot_on key hold old mid new on (inr x) = inr x
-
 -- of who waited somebody is closed, where more is gone
 lost_since : (May : ℕ → Type 0) (a b c : Register) → ((key tag : ℕ) → open_name key b ≡ Some tag → open_name key a ≡ Some tag) → LastBut May b c → (number : ℕ) → waits_on number c.links ≡ None
     → (waits_on number b.links ≡ None) ⊎ HasClosed May a c
 lost_since May a b c were (inl all) number e = inl (all number e)
 lost_since May a b c were (inr y) number e = inr (record { key = y.key; may = y.may; tag = y.tag; was = were y.key y.tag y.was; closed = y.closed })
 
-pub since_served : (key : ℕ) (was : Register) (old mid new : code.Relay) → IsReached (pool_in old.pool) → old.pool.service.last ≤ mid.pool.service.last → CountsAtEnd key old mid → LedOn (pool_in mid.pool) (pool_in new.pool) → KeepsGiven mid new → cleaned_in new ≡ cleaned_in mid → ClosesOnly NoKey was (register_in mid)
+pub since_served : (key : ℕ) (was : Register) (old mid new : code.Relay) → IsReached (pool_in old.pool) → old.pool.service.last ≤ mid.pool.service.last → CountsAtEnd key old mid → KeepsGiven mid new → cleaned_in new ≡ cleaned_in mid → ClosesOnly NoKey was (register_in mid)
     → LastBut (IsWaiting (pool_in old.pool).line) (register_in mid) (register_in new) → CountsSinceEnd key was old new
-since_served key was old mid new reached rises counts on given same closes lasts = λ hold its there.
+since_served key was old mid new reached rises counts given same closes lasts = λ hold its there.
     let low : hold.number ≤ old.pool.service.last = held_low old.pool key hold reached its in
-    since_at (CannotClean key hold old new) (LosesWaiting was old new) hold.number (cleaned_in old) (cleaned_in mid) (cleaned_in new) mid.links.items new.links.items
-    (sent_for (CannotClean key hold old mid) (CannotClean key hold old new) (waits_on hold.number mid.links.items) (cleaned_in old) (cleaned_in mid) (cannot_on key hold old mid new on) (counts hold its there)) same (given.fills hold.number (omega (arith, low, rises)))
+    since_at (CannotClean hold old) (LosesWaiting was old new) hold.number (cleaned_in old) (cleaned_in mid) (cleaned_in new) mid.links.items new.links.items (counts hold its there) same (given.fills hold.number (omega (arith, low, rises)))
     (lost_since (IsWaiting (pool_in old.pool).line) was (register_in mid) (register_in new) closes.were_open lasts hold.number)
 
-pub since_served_on : {A E : Type 0} (r : Result A E) (key : ℕ) (was : Register) (old mid new : code.Relay) → IsReached (pool_in old.pool) → old.pool.service.last ≤ mid.pool.service.last → CountsAtEnd key old mid → OnOk r (LedOn (pool_in mid.pool) (pool_in new.pool))
+pub since_served_on : {A E : Type 0} (r : Result A E) (key : ℕ) (was : Register) (old mid new : code.Relay) → IsReached (pool_in old.pool) → old.pool.service.last ≤ mid.pool.service.last → CountsAtEnd key old mid
     → OnOk r (KeepsGiven mid new) → cleaned_in new ≡ cleaned_in mid → ClosesOnly NoKey was (register_in mid) → OnOk r (LastBut (IsWaiting (pool_in old.pool).line) (register_in mid) (register_in new)) → OnOk r (CountsSinceEnd key was old new)
-since_served_on (Ok x) key was old mid new reached rises counts on given same closes lasts = since_served key was old mid new reached rises counts on given same closes lasts
-since_served_on (Err e) key was old mid new reached rises counts on given same closes lasts = tt
+since_served_on (Ok x) key was old mid new reached rises counts given same closes lasts = since_served key was old mid new reached rises counts given same closes lasts
+since_served_on (Err e) key was old mid new reached rises counts given same closes lasts = tt
 
 -- ---- One was brought
 

@@ -31,7 +31,7 @@ bytes_of : (o : Option Link) → option_map (λ (c : Carried). c.0.bytes) (optio
 bytes_of None = refl
 bytes_of (Some l) = refl
 
-unqueued : (o : Option Link) → option_map reader_of o ≡ None → option_map carried_by o ≡ None
+pub unqueued : (o : Option Link) → option_map reader_of o ≡ None → option_map carried_by o ≡ None
 unqueued None e = refl
 unqueued (Some l) e = absurd (let u : ⊥ = cc in u)
 
@@ -159,7 +159,7 @@ added_if : (b : Bool) (n : ℕ) (h x y : Hold) (ys : List Hold) → (if b then S
 added_if true n h x y ys e later = e
 added_if false n h x y ys e later = later e
 
-added_found : (n : ℕ) (h x : Hold) (hs : List Hold) → find_number n hs ≡ Some h → find_number n (hs ++ x ∷ []) ≡ Some h
+pub added_found : (n : ℕ) (h x : Hold) (hs : List Hold) → find_number n hs ≡ Some h → find_number n (hs ++ x ∷ []) ≡ Some h
 added_found n h x [] e = absurd (let u : ⊥ = cc in u)
 added_found n h x (y ∷ ys) e = added_if (y.number == n) n h x y ys e (λ f. added_found n h x ys f)
 
@@ -221,7 +221,7 @@ unserved_by : (d : Pool) (line : List ℕ) → IsServed line d.service → (serv
 unserved_by d [] s = refl
 unserved_by d (key ∷ others) s = ap (λ (r : Reply). (serves_by d key others (lent_in r)).pool.holds) s
 
-unserved_holds : (d e : Pool) → e ≡ (turn d Serves).pool → IsServed d.line d.service → e.holds ≡ d.holds
+pub unserved_holds : (d e : Pool) → e ≡ (turn d Serves).pool → IsServed d.line d.service → e.holds ≡ d.holds
 unserved_holds d e is s = ap (λ (x : Pool). x.holds) is ∙ unserved_by d d.line s
 
 pub each_last : (P : Hold → Type 0) (x : Hold) (hs : List Hold) → Each P (hs ++ x ∷ []) → P x

@@ -14,7 +14,7 @@ use Rattle.tds_service.specs.Service as calls
 use Rattle.tds_service.specs.Service.{Cleaning, Draining, Free, Place, Seat, Service, find_by, has_lease, has_number, is_idle, is_lendable, does, nothing, rests, step}
 use Rattle.tds_service.specs.Table.{client_by, client_of, seat_in, seats_in, service_in}
 use Rattle.tds_service.specs.Ties.{stage_of}
-use Rattle.tds_relay.specs.Cleaning.{rests_once}
+use Rattle.tds_relay.specs.Cleaning.{HasBroken, rests_once}
 use Rattle.tds_relay.specs.Promises.{Each}
 use Rattle.tds_relay.specs.TokenParsers.{IsLed}
 use Rattle.tds_relay.proofs.bytes.Walking.{led_tidy}
@@ -85,6 +85,17 @@ at_work l session.Reading is e = refl
 at_work l session.Cancelling is e = refl
 at_work l (session.Broken fault) is e = refl
 
+sending_shut : (l : Line) (b : Bool) → rests (line.cancels {T = Token} l (line.Sending (line.not_begun b))).line.stage ≡ None → ⊥
+sending_shut l true e = (let u : Some Free ≡ None = e in let v : ⊥ = cc in v)
+sending_shut l false e = (let u : Some Draining ≡ None = e in let v : ⊥ = cc in v)
+
+at_end : (l : Line) (stage : session.Stage) → l.stage ≡ stage_of stage → rests (line.cancels {T = Token} l (stage_of stage)).line.stage ≡ None → HasBroken stage
+at_end l session.Idle is e = absurd (let u : Some Free ≡ None = sym (ap rests is) ∙ e in let v : ⊥ = cc in v)
+at_end l (session.Sending kind left packets) is e = absurd (sending_shut l (packets == 0) e)
+at_end l session.Reading is e = absurd (let u : Some Draining ≡ None = e in let v : ⊥ = cc in v)
+at_end l session.Cancelling is e = absurd (let u : Some Draining ≡ None = sym (ap rests is) ∙ e in let v : ⊥ = cc in v)
+at_end l (session.Broken fault) is e = tt
+
 back_is : (s : Service) (test : Seat → Bool) (c : Seat) (place : Option Place) → find_by test s.seats ≡ Some c → (calls.gives_back {T = Token} s test (find_by test s.seats)).reply ≡ calls.Back place
     → rests (line_after {T = Token} c.line (line.Cancel ∷ [])).stage ≡ place
 back_is s test c place e reply =
@@ -103,6 +114,9 @@ module _ (lease : ℕ) (s : services.Service) (client : ClientSession) (there : 
 
   pub drains_once : (step {T = Token} (service_in s) (calls.GiveBack lease)).reply ≡ calls.Back (Some Draining) → rests_once client.stage ≡ false
   drains_once reply = at_work (line_at lease s client there).seat.line client.stage (line_at lease s client there).stage (back_stage (Some Draining) reply)
+
+  pub shut_once : (step {T = Token} (service_in s) (calls.GiveBack lease)).reply ≡ calls.Back None → HasBroken client.stage
+  shut_once reply = at_end (line_at lease s client there).seat.line client.stage (line_at lease s client there).stage (back_stage None reply)
 
 -- ---- A cleaning asks for the full reset
 

@@ -119,7 +119,7 @@ kept_rest (Goes waits out from puts) kept = inl tt
 
 -- ---- Behind what waited there
 
-not_kept : (b : Body) → IsKept b → IsUnkept b → ⊥
+pub not_kept : (b : Body) → IsKept b → IsUnkept b → ⊥
 not_kept Closed kept un = kept
 not_kept Nowhere kept un = kept
 not_kept (Kept kind bytes whole) kept un = un

@@ -2,7 +2,7 @@
 use Rattle.std.proofs.Common.{◌≡◌, ◌∙◌, ◌++◌, ℕ, zero, suc, Bool, true, false, List, [], ◌∷◌, Option, Some, None, inl, refl, sym, ap, subst, slice_set, option_map, if◌then◌else◌}
 use Rattle.std.proofs.lemmas.List.{set-get_or}
 use Rattle.slab.specs.Slab.{Slab, Updates, get, with_value}
-use Rattle.std.specs.Prelude.{Result, Ok, Err, OnOk, OnSome, IfNone}
+use Rattle.std.specs.Prelude.{Result, Ok, Err, OnOk, OnSome, IfNone, IsSome}
 use Rattle.tds_packet.specs.declared.status.Reset.{Reset}
 use Rattle.tds_packet.specs.declared.status.Reset.TheVariants.{Full}
 use Rattle.tds_front.specs.declared.front.Front.{Front}
@@ -116,10 +116,21 @@ asks_over reset why (Some (Open front withdrawn asks)) = tt
 asks_over reset why (Some (Over was)) = tt
 
 -- who is to be closed may be parted
-pub closed_parts : (why : Option FrontFault) (d : Pool) (es : EndList) (key : ℕ) → MayPart (core_of_ends d (change_end key (closes_for why) es)) key
+closed_parts : (why : Option FrontFault) (d : Pool) (es : EndList) (key : ℕ) → MayPart (core_of_ends d (change_end key (closes_for why) es)) key
 closed_parts why d es key =
     let at = sym (changed_at es key (closes_for why)) in
     (subst (IfOpen IsHere) at (open_over IsHere why (end_at es key)), inl (subst (AsksFor Full) at (asks_over Full why (end_at es key))))
+
+-- and let one go, whether it holds any
+pub closed_lets : (why : Option FrontFault) (d : Pool) (es : EndList) (key : ℕ) → MayPart (core_of_ends d (change_end key (closes_for why) es)) key × IfOpen (λ (stage : Stage). IsSome (find_key key d.holds)) (end_at (change_end key (closes_for why) es) key)
+closed_lets why d es key =
+    (closed_parts why d es key, subst (IfOpen (λ (stage : Stage). IsSome (find_key key d.holds))) (sym (changed_at es key (closes_for why))) (open_over (λ (stage : Stage). IsSome (find_key key d.holds)) why (end_at es key)))
+
+-- wherever its end is
+pub open_any : (P : Type 0) (o : Option End) → P → IfOpen (λ (stage : Stage). P) o
+open_any P None p = tt
+open_any P (Some (Open front withdrawn asks)) p = p
+open_any P (Some (Over why)) p = tt
 
 -- one that asks for this as its request has begun
 pub asks_begun : (asked : Option Reset) (es : EndList) (key : ℕ) (front : Front) (withdrawn : Bool) → IfAsked asked (end_at (slice_set es key (Some (Open front withdrawn asked))) key)
@@ -233,7 +244,7 @@ lets_go_first key d d1 es es1 new gives way before after t ends on = (
   λ by. moved_same by (turn d (pool.Leaves key gives way)).pool d1 (change_end key lets_go es) es1 new t.pool_is ends (on by),
 )
 
-pub moves_lets_go : (key : ℕ) (from : Core) (d : Pool) (es : EndList) (new : Core) → MayPart (core_of_ends d es) key → LetsGoFirst key (core_of_ends d es) new
+pub moves_lets_go : (key : ℕ) (from : Core) (d : Pool) (es : EndList) (new : Core) → MayPart (core_of_ends d es) key × IfOpen (λ (stage : Stage). IsSome (find_key key d.holds)) (end_at es key) → LetsGoFirst key (core_of_ends d es) new
     → Moves (causes.Application key) from (core_of_ends d es) → Moves (causes.Application key) from new
 moves_lets_go key from d es new here l m =
     l.2 (causes.Application key) from (moves_one (causes.Application key) from (core_of_ends d es) (LetsGo key false l.0 l.1) here refl tt m)

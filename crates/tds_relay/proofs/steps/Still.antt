@@ -18,7 +18,11 @@ use Rattle.tds_relay.specs.declared.pool.Hold.{Hold}
 use Rattle.tds_relay.specs.declared.link.Link.{Link}
 use Rattle.tds_relay.specs.declared.relay.Relay as code
 use Rattle.tds_relay.specs.Asking.{waits_of}
-use Rattle.tds_relay.specs.Bodies.{BeginsBody, BeginsFrom, Body, BodyAndWaits, Closed, Closing, Follows, Going, Grows, IsStill, Kept, PutsFrom, Refuses, Remains, Sends, Shuts, Spared, StartsInPlace, Wanders, body_by, body_in, body_of, going, going_by, going_of, standing_in}
+use Rattle.tds_relay.specs.Cleaning.{LeavesAll}
+use Rattle.tds_relay.specs.Waking.{BeginsFrom, PutsSaid}
+use Rattle.tds_front.specs.declared.front.Said.{Said}
+use Rattle.tds_front.specs.declared.front.Said.TheVariants as said
+use Rattle.tds_relay.specs.Bodies.{BeginsBody, Body, BodyAndWaits, Closed, Closing, Follows, Going, Grows, IsStill, Kept, PutsFrom, Refuses, Remains, Sends, Shuts, Spared, StartsInPlace, Wanders, body_by, body_in, body_of, going, going_by, going_of, standing_in}
 use Rattle.tds_relay.specs.Pool.{find_key}
 use Rattle.tds_relay.specs.Reads.{StaysAt, waits_on}
 use Rattle.tds_relay.proofs.steps.Bodied.{written_body}
@@ -108,11 +112,23 @@ put_going X waits key s a b new is goes (inr puts) =
 
 -- ---- It begins
 
-pub begins_put : (kind : Kind) (reset : Option Reset) (mid : Body) (old new : BodyAndWaits) → BeginsBody kind mid → (reset ≡ Some Full → Spared mid new.0) → PutsFrom old.1 mid new → BeginsFrom kind reset old new
-begins_put kind reset mid old new begins parts p = record { mid = mid; begins = begins; starts = p.starts; still = λ none. p.still; parts = parts }
+pub begins_put : (R : Type 0) (kind : Kind) (reset : Option Reset) (mid : Body) (old new : BodyAndWaits) → BeginsBody kind mid → (reset ≡ Some Full → Spared mid new.0) → PutsFrom old.1 mid new → (R → reset ≡ Some Full → LeavesAll old.1 new.1)
+    → BeginsFrom R kind reset old new
+begins_put R kind reset mid old new begins parts p lets = record { mid = mid; begins = begins; starts = p.starts; still = λ none. p.still; parts = parts; lets = lets }
 
-pub begins_shut : (kind : Kind) (reset : Option Reset) (old new : BodyAndWaits) → new.0 ≡ Closed → BeginsFrom kind reset old new
-begins_shut kind reset old new shut = begins_put kind reset Closed old new Refuses (λ full. inl shut) (put_shut old.1 Closed new shut)
+pub begins_shut : (R : Type 0) (kind : Kind) (reset : Option Reset) (old new : BodyAndWaits) → new.0 ≡ Closed → (R → reset ≡ Some Full → LeavesAll old.1 new.1) → BeginsFrom R kind reset old new
+begins_shut R kind reset old new shut lets = begins_put R kind reset Closed old new Refuses (λ full. inl shut) (put_shut old.1 Closed new shut) lets
+
+-- for whatever the other leads to
+pub puts_more : (R S : Type 0) (answer : Said) (taken : List ℕ) (old new : BodyAndWaits) → (S → R) → PutsSaid R answer taken old new → PutsSaid S answer taken old new
+puts_more R S said.Nothing taken old new f p = p
+puts_more R S (said.Begin kind reset) taken old new f p = record { mid = p.mid; begins = p.begins; starts = p.starts; still = p.still; parts = p.parts; lets = λ s. p.lets (f s) }
+puts_more R S (said.Body count) taken old new f p = p
+puts_more R S (said.End count) taken old new f p = p
+puts_more R S (said.Forget false) taken old new f p = p
+puts_more R S (said.Forget true) taken old new f p = tt
+puts_more R S said.Acknowledge taken old new f p = p
+puts_more R S said.HandOn taken old new f p = tt
 
 -- wherever the same waits
 place_as : (w v : ℕ → Option (List ℕ)) (a b : Body) → ((number : ℕ) → v number ≡ w number) → StartsInPlace v a b → StartsInPlace w a b

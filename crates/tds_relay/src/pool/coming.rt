@@ -200,8 +200,8 @@ impl Pool {
                 }
             },
             None => {
-                let is_there = clean(&mut self.service, number, cleaning_text(), out)?;
-                Ok(what_of(is_there))
+                clean(&mut self.service, number, cleaning_text(), out)?;
+                Ok(What::Goes)
             }
         }
     }

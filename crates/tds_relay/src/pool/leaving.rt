@@ -1,7 +1,7 @@
 //! Connections that are let go, and cleaned; that come without being asked for; and that are lost.
-ghost use Rattle.std.specs.Prelude.{◌≡◌, ◌≤◌, [], ℕ, Bool, IfOk, IfSome, None, OnOk, suc, true};
+ghost use Rattle.std.specs.Prelude.{◌≡◌, ◌≤◌, [], ℕ, Bool, IfNone, IfOk, IfSome, None, OnOk, false, suc, true};
 ghost use Rattle.tds_service.specs.Table.{KeepsClientsOff, client_of, reading_on, service_in};
-ghost use Rattle.tds_relay.specs.Cleaning.{CleansFirst, CleansIfPut, GoesOutAtEnd, GoesOutBy, IsBatch, IsCleaning, IsLentBy, IsPutBehind, text_of_cleaning};
+ghost use Rattle.tds_relay.specs.Cleaning.{CleansFirst, CleansIfPut, GoesOutAtEnd, GoesOutBy, IsBatch, IsBrokenFor, IsCleaning, IsLentBy, IsPutBehind, IsShutFor, LendsNone, text_of_cleaning};
 ghost use Rattle.tds_relay.specs.Pool.{Brings, Leaves, Loses, Renews, Way, cleaning, find_key, find_number, key_of, releasing, without_number};
 ghost use Rattle.tds_relay.specs.Sparing.{AsideStay, IsKeptBy, IsLentLater, IsRenewed, OffHold, OthersHold};
 ghost use Rattle.tds_relay.specs.Ties.{IsNumberOf, IsReached, Makes, Turns, pool_in, is_sent, lost_by};
@@ -55,46 +55,41 @@ pub(super) fn forget(service: &mut Service, number: u64) -> Result<(), NoMemory>
     }
 }
 
-/// Cleans a connection that is free, by a request that asks for a reset. False where memory was refused:
-/// it is in the service no longer.
+/// Cleans a connection that is free, by a request that asks for a reset. Nothing but memory is refused to
+/// that.
 pub(super) fn clean(
     service: &mut Service,
     number: u64,
     text: &[u8],
     out: &mut Vec<u8>,
-) -> Result<bool, NoMemory>
-    ensures makes { IfOk result (λ is_there. (way : Way) × (is_there ≡ is_sent way)
+) -> Result<(), NoMemory>
+    ensures makes { OnOk result ((way : Way) × (is_sent way ≡ true)
         × Makes (cleaning (service_in service.old) number way) (service_in service.old)
         (service_in service.new) out.old.items out.new.items) }
     ensures stand { OnOk result (AllStand service.old service.new) }
     ensures aside { OnOk result ((but : ℕ) → AsideStay but number service.old service.new) }
-    ensures puts { IfOk result (λ is_there. is_there ≡ true
-        → IsPutBehind (IsBatch text.now) out.old.items out.new.items) }
-    ensures cleans { IsLed (service_in service.old) → IfOk result (λ is_there. is_there ≡ true
-        → IsPutBehind (IsCleaning text.now) out.old.items out.new.items) }
-    ensures leases { IfOk result (λ is_there. is_there ≡ true
-        → suc service.old.given ≤ service.new.given) }
+    ensures puts { OnOk result (IsPutBehind (IsBatch text.now) out.old.items out.new.items) }
+    ensures cleans { IsLed (service_in service.old)
+        → OnOk result (IsPutBehind (IsCleaning text.now) out.old.items out.new.items) }
+    ensures leases { OnOk result (suc service.old.given ≤ service.new.given) }
 {
     let Ok(lent) = service.clean(number) else {
-        forget(service, number)?;
-        return Ok(false);
+        return Err(AllocError);
     };
     let Ok(_) = service.ask(lent.lease, MessageKind::Batch) else {
-        forget(service, number)?;
-        return Ok(false);
+        return Err(AllocError);
     };
     let Ok(_) = service.put(lent.lease, text, out) else {
-        forget(service, number)?;
-        return Ok(false);
+        return Err(AllocError);
     };
     let Ok(_) = service.finish(lent.lease, out) else {
-        forget(service, number)?;
-        return Ok(false);
+        return Err(AllocError);
     };
-    Ok(true)
+    Ok(())
 }
 
-/// Gives a connection back, and cleans it if it is free. False where it is in the service no longer.
+/// Gives a connection back, and cleans it if it is free. False where the rules were broken there: it is in the
+/// service no longer.
 fn release(
     service: &mut Service,
     hold: Hold,
@@ -115,15 +110,18 @@ fn release(
     ensures newly { IsLed (service_in service.old) → IfOk result (λ is_there. is_there ≡ true
         → CleansIfPut text.now out.old.items out.new.items (service_in service.old)
         (service_in service.new)) }
+    ensures shut { IfOk result (λ is_there. is_there ≡ false
+        → IsBrokenFor (client_of hold.lease service.old)) }
 {
     match service.give_back(hold.lease, out) {
-        Ok((_, Rest::Free)) => clean(service, hold.number, text, out),
+        Ok((_, Rest::Free)) => {
+            clean(service, hold.number, text, out)?;
+            Ok(true)
+        }
         Ok((_, Rest::Draining)) => Ok(true),
         Ok((_, Rest::Closed)) => Ok(false),
-        Err(_) => {
-            forget(service, hold.number)?;
-            Ok(false)
-        }
+        // It is lent by this lease: nothing but memory is refused to it.
+        Err(_) => Err(AllocError),
     }
 }
 
@@ -146,6 +144,8 @@ impl Pool {
         ensures newly { IsReached (pool_in self.old) → IfOk result (λ left. IfSome left (λ it.
             it.is_there ≡ true → CleansIfPut text_of_cleaning out.old.items out.new.items
             (pool_in self.old).service (pool_in self.new).service)) }
+        ensures shut { IfOk result (λ left.
+            IsShutFor self.old.service (find_key key (pool_in self.old).holds) left) }
     {
         remove_key(&mut self.line, key);
         let Some(hold) = find_key(&self.holds, key) else {
@@ -171,11 +171,15 @@ impl Pool {
             (CleansFirst out.old.items out.new.items)) }
         ensures seats { IsReached (pool_in self.old) → IfOk result (λ left. BringsSeat left
             (pool_in self.old).service (pool_in self.new).service) }
+        ensures none { IfOk result (λ left. IfNone left (LendsNone (pool_in self.old).service)) }
+        ensures same { IfOk result (λ left. IfNone left (pool_in self.new ≡ pool_in self.old)) }
+        ensures there { IsReached (pool_in self.old) → IfOk result (λ left. IfSome left
+            (λ it. it.is_there ≡ true)) }
     {
         let lent = match self.service.lease() {
             Ok(lent) => lent,
-            Err(Refusal::Memory) => return Err(AllocError),
-            Err(_) => return Ok(None),
+            Err(Refusal::AllInUse) => return Ok(None),
+            Err(_) => return Err(AllocError),
         };
         let hold = Hold {
             key: 0,

@@ -4,19 +4,20 @@ ghost use Rattle.slab.specs.Slab.{get};
 ghost use Rattle.tds_relay.specs.Cleaning.{CleaningsWaitAt};
 ghost use Rattle.tds_relay.specs.Lent.{AnewIfLent, DialsNewAt, KeepsGiven, KeepsAnswers, OthersKeepAt, PutsOnly};
 ghost use Rattle.tds_relay.specs.Asking.{AsksByBytes, AsksOn, IsObeyed, IsUnderway, waits_of};
-ghost use Rattle.tds_relay.specs.Bodies.{Body, HeedsAll, HeedsOn, HeedsServed, CancelsSaid, Carries, CarriesOn, Grows, GrowsFrom, Obeys, PutsSaid, Starts, GoesFrom, body_of, last_of, standing_in};
+ghost use Rattle.tds_relay.specs.Bodies.{Body, CancelsSaid, Carries, CarriesOn, Grows, GrowsFrom, Obeys, Starts, GoesFrom, body_of, last_of, standing_in};
+ghost use Rattle.tds_relay.specs.Waking.{HeedsAll, HeedsOn, HeedsServed, PutsSaid};
 ghost use Rattle.tds_relay.specs.Closings.{ClosesOnly, register_in, Itself};
-ghost use Rattle.tds_relay.specs.Pool.{find_key};
+ghost use Rattle.tds_relay.specs.Pool.{Sharing, find_key};
 ghost use Rattle.tds_relay.specs.Few.{Few, IsSeated, NobodyWaits};
 ghost use Rattle.tds_relay.specs.Fronts.{FedOn, Moved, ends_in, given_by, core_in, machine_in};
 ghost use Rattle.tds_relay.specs.Core.{IfOpen, IsBegun, end_at, holder};
-ghost use Rattle.tds_relay.specs.Machine.{Steps};
+ghost use Rattle.tds_relay.specs.Machine.{IsLedTo, Steps};
 ghost use Rattle.tds_relay.specs.Queues.{names_in, queues_in};
 ghost use Rattle.tds_relay.specs.Reads.{Opens, LinksStay};
 ghost use Rattle.tds_relay.specs.Reasons.{CannotGoOnAt, GivesReason, IsTurnedAwayAt, ItselfFor, MayCloseAt};
 ghost use Rattle.tds_relay.specs.Taking.{Tells, TellsOn};
 ghost use Rattle.tds_relay.specs.Ties.{Application, LedTo, IsReached, pool_in};
-ghost use Rattle.tds_relay.specs.Waiting.{KeepsInLine, KeepsSaid, ForReasonOrWaiting, HasReason, IsRightlyKept};
+ghost use Rattle.tds_relay.specs.Waiting.{KeepsInLine, KeepsSaid, ForReasonOrWaiting, HasReason, IsRightlyKept, LendsSaying};
 ghost use Rattle.tds_relay.specs.TokenParsers.{AllStand};
 ghost use Rattle.tds_relay.specs.Ordering.{GrowsByOrders, OpensNew, opens_in};
 ghost use Rattle.tds_relay.specs.Sparing.{OthersGo, OthersRest, ClientsStay};
@@ -67,6 +68,9 @@ impl Relay {
         ensures clients { IsReached (pool_in self.old.pool)
             → OnOk result (ClientsStay (Itself key) self.old self.new) }
         ensures awaits { OnOk result (CleaningsWaitAt self.old self.new) }
+        ensures behind { IsReached (pool_in self.old.pool) → (sharing : Sharing)
+            → IsLedTo sharing (machine_in self.old)
+            → OnOk result (LendsSaying key piece.now self.old self.new) }
     {
         self.take_all(key, piece)?;
         self.serve_line()
@@ -194,8 +198,8 @@ impl Relay {
         ensures opening { opens_in self.new.orders.items ≡ opens_in self.old.orders.items }
         ensures aside { IsReached (pool_in self.old.pool)
             → OnOk result (OthersKeepAt key self.old self.new) }
-        ensures puts { OnOk result (PutsSaid said bytes.now (standing_in key self.old)
-            (standing_in key self.new)) }
+        ensures puts { OnOk result (PutsSaid (IsReached (pool_in self.old.pool)) said bytes.now
+            (standing_in key self.old) (standing_in key self.new)) }
         ensures right { IsRightlyKept key self.old → OnOk result (IsRightlyKept key self.new) }
         ensures anew { IsReached (pool_in self.old.pool)
             → OnOk result (AnewIfLent self.old self.new) }

@@ -1,21 +1,23 @@
 //! Requests that begin: asked, or kept for a connection.
-ghost use Rattle.std.specs.Prelude.{◌≡◌, ◌⊎◌, Bool, IfNone, None, IfSome, OnOk, Some, false, true};
+ghost use Rattle.std.specs.Prelude.{◌≡◌, ◌⊎◌, Bool, IfNone, IsSome, None, IfSome, OnOk, Some, false, true};
 ghost use Rattle.slab.specs.Slab.{get};
 ghost use Rattle.tds_relay.specs.Asking.{IsTakenBack, IsUnderway, waits_of};
 ghost use Rattle.tds_client.specs.Streams.{packets_are};
 ghost use Rattle.tds_packet.specs.declared.status.Reset.TheVariants.{KeepTransaction};
-ghost use Rattle.tds_relay.specs.Bodies.{BeginsBody, BeginsFrom, Body, Spared, Starts, StartsInPlace, body_of, standing_in};
-ghost use Rattle.tds_relay.specs.Cleaning.{CleaningsWaitAt};
+ghost use Rattle.tds_relay.specs.Bodies.{BeginsBody, Body, Spared, Starts, StartsInPlace, body_of, standing_in};
+ghost use Rattle.tds_relay.specs.Cleaning.{CleaningsWaitAt, LeavesAllAt, OfItsHold, WaitsAtEnd};
 ghost use Rattle.tds_relay.specs.Closings.{ClosesOnly, IsNoRequest, register_in};
 ghost use Rattle.tds_relay.specs.Few.{IsSeated};
+ghost use Rattle.tds_relay.specs.Waking.{BeginsFrom};
 ghost use Rattle.tds_relay.specs.Fronts.{Moved, ends_in, core_in};
 ghost use Rattle.tds_relay.specs.Core.{AsksFor, AsksToPart, IfAsked, IfOpen, IsBegun, end_at};
 ghost use Rattle.tds_relay.specs.Lent.{AnewIfLent, KeepsAnswers, OthersKeepAt};
 ghost use Rattle.tds_relay.specs.Waiting.{IsRightlyKept};
 ghost use Rattle.tds_relay.specs.Ordering.{opens_in};
 ghost use Rattle.tds_relay.specs.Places.{HasNoTransaction};
+ghost use Rattle.tds_relay.specs.Pool.{find_key};
 ghost use Rattle.tds_relay.specs.Queues.{queues_in};
-ghost use Rattle.tds_relay.specs.Reads.{LinksStay};
+ghost use Rattle.tds_relay.specs.Reads.{LinksStay, waits_on};
 ghost use Rattle.tds_relay.specs.Reasons.{CannotBegin, CannotPart, HasTransaction, IsUnrenewed, ItselfFor};
 ghost use Rattle.tds_relay.specs.Ties.{Application, LedTo, IsReached, pool_in};
 ghost use Rattle.tds_relay.specs.TokenParsers.{AllStand};
@@ -61,8 +63,8 @@ impl Relay {
         ensures opening { opens_in self.new.orders.items ≡ opens_in self.old.orders.items }
         ensures aside { IsReached (pool_in self.old.pool)
             → OnOk result (OthersKeepAt key self.old self.new) }
-        ensures puts { OnOk result (BeginsFrom kind reset (standing_in key self.old)
-            (standing_in key self.new)) }
+        ensures puts { OnOk result (BeginsFrom (IsReached (pool_in self.old.pool)) kind reset
+            (standing_in key self.old) (standing_in key self.new)) }
         ensures right { OnOk result (IsRightlyKept key self.new) }
         ensures anew { IsReached (pool_in self.old.pool)
             → OnOk result (AnewIfLent self.old self.new) }
@@ -125,6 +127,7 @@ impl Relay {
             ≡ queues_in self.old.applications) }
         ensures moves { OnOk result (AsksToPart (core_in self.old) key
             → IfOpen IsBegun (end_at (ends_in self.old.applications) key)
+            → IsSome (find_key key (pool_in self.old.pool).holds)
             → Moved (Application key) (core_in self.old) (core_in self.new)) }
         ensures underway { OnOk result ((whole : Bool)
             → IsUnderway whole self.new.links.items key (core_in self.new)) }
@@ -145,6 +148,10 @@ impl Relay {
         ensures right { OnOk result (IsRightlyKept key self.new) }
         ensures answers { OnOk result (KeepsAnswers self.old.links.items self.new.links.items) }
         ensures awaits { OnOk result (CleaningsWaitAt self.old self.new) }
+        ensures lets { IsReached (pool_in self.old.pool)
+            → OnOk result (LeavesAllAt self.old self.new) }
+        ensures ends { IsReached (pool_in self.old.pool) → OnOk result (OfItsHold WaitsAtEnd key
+            self.old (λ number. waits_on number self.new.links.items)) }
     {
         if !self.has_nothing_out(key) {
             return self.expel(key);
@@ -166,6 +173,7 @@ impl Relay {
         ensures moves { OnOk result (AsksFor KeepTransaction
             (end_at (ends_in self.old.applications) key)
             → IfOpen IsBegun (end_at (ends_in self.old.applications) key)
+            → IsSome (find_key key (pool_in self.old.pool).holds)
             → Moved (Application key) (core_in self.old) (core_in self.new)) }
         ensures underway { (whole : Bool) → waits_of (get self.old.applications key) ≡ Some whole
             → OnOk result (IsUnderway whole self.new.links.items key (core_in self.new)) }

@@ -1,22 +1,17 @@
 //! The first connection of all, which has come before any application asked.
-ghost use Rattle.std.specs.Prelude.{◌≡◌, IfNone, IfOk, IfSome, List, None, OnOk, Some};
-ghost use Rattle.std.specs.Prelude.{[], IsSome, false, true};
-ghost use Rattle.tds_relay.specs.Cleaning.{CleaningWaits, CountsBrought, CountsSince, IsFirst, IsLentBy};
-ghost use Rattle.tds_relay.specs.Cleaning.{IsNotBrought, IsTooLong, LosesWaiting, cleaned_in};
-ghost use Rattle.tds_relay.specs.Closings.{ClosesOnly, IsWaiting};
-ghost use Rattle.tds_relay.specs.Closings.{register_in, settings_in, with_links};
+ghost use Rattle.std.specs.Prelude.{◌≡◌, IfNone, IfOk, IfSome, List, None, OnOk, Some, [], IsSome, false, true};
+ghost use Rattle.tds_relay.specs.Cleaning.{CleaningWaits, CountsBrought, CountsSince, IsFirst, IsLentBy, IsNotBrought, IsTooLong, LosesWaiting, cleaned_in};
+ghost use Rattle.tds_relay.specs.Closings.{ClosesOnly, IsWaiting, register_in, settings_in, with_links};
 ghost use Rattle.tds_relay.specs.Apart.{LendsInTurn};
 ghost use Rattle.tds_relay.specs.Fronts.{ends_in, core_in, machine_in};
 ghost use Rattle.tds_relay.specs.Core.{holder};
 ghost use Rattle.tds_relay.specs.Machine.{Steps};
 ghost use Rattle.tds_relay.specs.Queues.{names_in, queues_in};
 ghost use Rattle.tds_relay.specs.Lent.{FirstStays, IsMade};
-ghost use Rattle.tds_relay.specs.Reads.{IsCalled, OpensFirst};
-ghost use Rattle.tds_relay.specs.Reads.{bytes_on, open_waits, seen_at};
+ghost use Rattle.tds_relay.specs.Reads.{IsCalled, OpensFirst, bytes_on, open_waits, seen_at};
 ghost use Rattle.tds_relay.specs.Ordering.{GrowsBrought, OpensAbove, OpensNew, StayOrdered};
 ghost use Rattle.tds_relay.specs.Sparing.{AllGo};
-ghost use Rattle.tds_relay.specs.Ties.{LedTo, IsReached, Neither};
-ghost use Rattle.tds_relay.specs.Ties.{pool_in};
+ghost use Rattle.tds_relay.specs.Ties.{LedTo, IsReached, Neither, pool_in};
 ghost use Rattle.tds_relay.specs.TokenParsers.{AllStand};
 ghost use Rattle.tds_relay.specs.Few.{IsSeated};
 
@@ -26,7 +21,8 @@ use crate::link::Link;
 
 impl Relay {
     /// A connection that is open and logged in has come before any application asked: the first one of
-    /// all. It is cleaned first. Answers its number, or none where there are others, or the pool gave it up.
+    /// all. It is cleaned first. Answers its number, or none where there are others, or as many are in use
+    /// as may be.
     #[tactic(auto, using(crate::proofs::steps::Reaching::reaches_turn, crate::proofs::steps::Reaching::reaches_turned, crate::proofs::lending::Resting::go_refl, crate::proofs::spared::Ordered::ordered_refl))]
     pub fn bring(&mut self, tag: usize) -> Result<Option<u64>, NoMemory>
         ensures goes { OnOk result (LedTo Neither (pool_in self.old.pool) (pool_in self.new.pool)) }
@@ -51,8 +47,9 @@ impl Relay {
             (with_links first (register_in self.old)) (register_in self.new)) }
         ensures lent { IfOk result (λ brought. IfSome brought (λ number.
             IsLentBy number (pool_in self.old.pool).service)) }
-        ensures tries { IfOk result (λ brought. IfNone brought (IsNotBrought self.old.links.items
-            (pool_in self.old.pool) (pool_in self.new.pool))) }
+        ensures tries { IsReached (pool_in self.old.pool) → IfOk result (λ brought.
+            IfNone brought (IsNotBrought self.old.links.items (pool_in self.old.pool)
+            (pool_in self.new.pool))) }
         ensures seated { IsSeated self.old → OnOk result (IsSeated self.new) }
         ensures counts { IfOk result (λ brought. CountsBrought brought
             (cleaned_in self.old) (cleaned_in self.new)) }

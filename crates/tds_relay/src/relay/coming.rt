@@ -8,13 +8,13 @@ ghost use Rattle.tds_relay.specs.Bodies.{AskAsBefore, Body, body_in};
 ghost use Rattle.tds_relay.specs.Cleaning.{CleansAlone, CleansOn, CountsGone, CountsLost, PutsByLease, cleaned_in, CleaningsWaitAt, CleansNobodys};
 ghost use Rattle.tds_relay.specs.Closings.{ClosesOnly, but_told, is_shut, IsWho, register_in, settings_in};
 ghost use Rattle.tds_relay.specs.Coming.{AllAlong, ComesAnew, ComesTold, ContinuesAnew, ContinuesTold, StreamsAnew, StreamsTold, asking_in};
-ghost use Rattle.tds_relay.specs.Pool.{whose};
+ghost use Rattle.tds_relay.specs.Pool.{Sharing, whose};
 ghost use Rattle.tds_relay.specs.Faults.{IsHeaderOf, IsRefusedOn};
 ghost use Rattle.tds_relay.specs.Few.{Few, HearsSeat, IsSeated, IsSeatedBehind, NobodyWaits, NoneNew};
 ghost use Rattle.tds_relay.specs.Fronts.{own_end, ends_in, core_in, told_by, machine_in, machine_of, machine_with};
 ghost use Rattle.tds_relay.specs.Core.{holder, end_told};
 ghost use Rattle.tds_relay.specs.Handing.{BringsPacket, HearsBy, IsKnown, KnowsOn, Passes, filled, heard_key, news_for};
-ghost use Rattle.tds_relay.specs.Machine.{Steps};
+ghost use Rattle.tds_relay.specs.Machine.{IsLedTo, Steps};
 ghost use Rattle.tds_relay.specs.Reasons.{Cleans, IsHeardAs, IsIdle, IsLeftOpen, HearsNothing};
 ghost use Rattle.tds_relay.specs.Queues.{names_in, queue_of, queues_in};
 ghost use Rattle.tds_packet.specs.Stream.{IsLess};
@@ -24,7 +24,7 @@ ghost use Rattle.tds_relay.specs.Ordering.{GrowsByOrders, OpensNew, StayOrdered,
 ghost use Rattle.tds_relay.specs.Sending.{sending_at};
 ghost use Rattle.tds_relay.specs.Sparing.{OffGo, OffHold, ClientsStay};
 ghost use Rattle.tds_relay.specs.Ties.{Connection, LedTo, IsReached, pool_in};
-ghost use Rattle.tds_relay.specs.Waiting.{HeardFor, IsItsHolders, KeepsQueues, KeepsWaiting, RestsForHolder};
+ghost use Rattle.tds_relay.specs.Waiting.{HeardFor, IsItsHolders, KeepsQueues, KeepsWaiting, LendsHearing, RestsForHolder};
 ghost use Rattle.tds_relay.specs.Waking.{HandsTo, IsWoken, PutsFor, Wakes};
 ghost use Rattle.tds_relay.specs.TokenParsers.{AllStand, HasRead, ReadsBy};
 
@@ -50,8 +50,7 @@ impl Relay {
         ensures steps { OnOk result (Steps (Connection number) (machine_in self.old)
             (machine_in self.new)) }
         ensures served { OnOk result (NobodyWaits self.new) }
-        ensures few { OnOk result (Few self.old.most self.old.links.items
-            self.new.links.items) }
+        ensures few { OnOk result (Few self.old.most self.old.links.items self.new.links.items) }
         ensures comes { OnOk result (BytesCome number (open_at number self.old.links.items)
             (machine_in self.old) self.old.pool.service piece.now
             (open_at number self.new.links.items) (machine_in self.new) self.new.pool.service) }
@@ -87,9 +86,11 @@ impl Relay {
         ensures clients { IsReached (pool_in self.old.pool) → OnOk result
             (ClientsStay (IsWho (holder (pool_in self.old.pool) number)) self.old self.new) }
         ensures awaits { OnOk result (CleaningsWaitAt self.old self.new) }
-        ensures rests { IsSeated self.old
-            → OnOk result (RestsForHolder number self.old self.new) }
+        ensures rests { IsSeated self.old → OnOk result (RestsForHolder number self.old self.new) }
         ensures sizes { OnOk result (KeepsSize self.old.pool.service self.new.pool.service) }
+        ensures behind { IsReached (pool_in self.old.pool) → (sharing : Sharing)
+            → IsLedTo sharing (machine_in self.old)
+            → OnOk result (LendsHearing number self.old self.new) }
     {
         self.hear_all(number, piece)?;
         self.serve_line()

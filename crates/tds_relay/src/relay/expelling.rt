@@ -1,7 +1,7 @@
 //! Applications of which nothing more is taken.
 ghost use Rattle.std.specs.Prelude.{◌≡◌, None, OnOk, false};
 ghost use Rattle.tds_relay.specs.Bodies.{AskOn};
-ghost use Rattle.tds_relay.specs.Cleaning.{CleaningsWaitAt};
+ghost use Rattle.tds_relay.specs.Cleaning.{CleaningsWaitAt, LetsGoAt, OfItsHold, WaitsAtEnd};
 ghost use Rattle.tds_relay.specs.Lent.{KeepsAnswers, OthersKeepAt};
 ghost use Rattle.tds_relay.specs.Few.{IsSeated};
 ghost use Rattle.tds_relay.specs.Fronts.{Moved, ends_in, core_in, core_of_ends};
@@ -9,7 +9,7 @@ ghost use Rattle.tds_relay.specs.Core.{change_end, closes, closes_for, end_at, i
 ghost use Rattle.tds_relay.specs.Closings.{ClosesOnly, Itself, register_in};
 ghost use Rattle.tds_relay.specs.Queues.{queues_in};
 ghost use Rattle.tds_relay.specs.Ordering.{opens_in};
-ghost use Rattle.tds_relay.specs.Reads.{LinksStay};
+ghost use Rattle.tds_relay.specs.Reads.{LinksStay, waits_on};
 ghost use Rattle.tds_relay.specs.Sparing.{OthersRest};
 ghost use Rattle.tds_relay.specs.Taking.{IsDeaf};
 ghost use Rattle.tds_relay.specs.Ties.{Application, LedTo, IsReached, pool_in};
@@ -44,6 +44,10 @@ impl Relay {
             → OnOk result (OthersKeepAt key self.old self.new) }
         ensures answers { OnOk result (KeepsAnswers self.old.links.items self.new.links.items) }
         ensures awaits { OnOk result (CleaningsWaitAt self.old self.new) }
+        ensures lets { IsReached (pool_in self.old.pool)
+            → OnOk result (LetsGoAt key self.old self.new) }
+        ensures ends { IsReached (pool_in self.old.pool) → OnOk result (OfItsHold WaitsAtEnd key
+            self.old (λ number. waits_on number self.new.links.items)) }
     {
         self.expel_for(key, None)
     }
@@ -74,6 +78,10 @@ impl Relay {
             → OnOk result (OthersKeepAt key self.old self.new) }
         ensures answers { OnOk result (KeepsAnswers self.old.links.items self.new.links.items) }
         ensures awaits { OnOk result (CleaningsWaitAt self.old self.new) }
+        ensures lets { IsReached (pool_in self.old.pool)
+            → OnOk result (LetsGoAt key self.old self.new) }
+        ensures ends { IsReached (pool_in self.old.pool) → OnOk result (OfItsHold WaitsAtEnd key
+            self.old (λ number. waits_on number self.new.links.items)) }
     {
         self.end_for(key, why)?;
         self.release(key)

@@ -1,15 +1,15 @@
 //! Applications that leave, and connections that are lost.
 ghost use Rattle.std.specs.Prelude.{◌≡◌, ◌≢◌, ℕ, None, OnOk, Some, slice_set};
 ghost use Rattle.slab.specs.Slab.{get};
-ghost use Rattle.tds_relay.specs.Lent.{DialsNewAt, KeepsGiven, OffRest, IsLetGo, IsOnItsOwn, OthersKeepAt, PutsOnly, AllLastBut, KeepsAnswers, LastBesides};
+ghost use Rattle.tds_relay.specs.Lent.{DialsNewAt, KeepsGiven, LendsBehind, OffRest, IsLetGo, IsOnItsOwn, OthersKeepAt, PutsOnly, AllLastBut, KeepsAnswers, LastBesides};
 ghost use Rattle.tds_relay.specs.Apart.{Alone, LendsInTurn, LosesOnly};
 ghost use Rattle.tds_relay.specs.Bodies.{AskAsBefore, AskOn, Body, Closed, body_in};
-ghost use Rattle.tds_relay.specs.Cleaning.{CleaningsWaitAt, CountsAtEnd, CountsHold, CountsSinceEnd, OfItsHold, WaitsAtEnd, WaitsSinceEnd, cleaned_in};
-ghost use Rattle.tds_relay.specs.Pool.{Loses, find_key, find_number, key_of, turn, without, without_number};
+ghost use Rattle.tds_relay.specs.Cleaning.{CleaningsWaitAt, CountsAtEnd, CountsHold, CountsSinceEnd, OfItsHold, WaitsAtEnd, WaitsSinceEnd, cleaned_in, LetsGoAt};
+ghost use Rattle.tds_relay.specs.Pool.{Loses, Sharing, find_key, find_number, key_of, turn, without, without_number};
 ghost use Rattle.tds_relay.specs.Few.{Few, IsSeated, IsSeatedOff, NobodyWaits, TakenOut};
 ghost use Rattle.tds_relay.specs.Fronts.{LetsGoFirst, MovedOn, ends_in, core_in, machine_in};
 ghost use Rattle.tds_relay.specs.Core.{change_end, change_whose, closes, closes_for, holder, lets_go};
-ghost use Rattle.tds_relay.specs.Machine.{Steps, StepsOn};
+ghost use Rattle.tds_relay.specs.Machine.{IsLedTo, Steps, StepsOn};
 ghost use Rattle.tds_relay.specs.Closings.{ClosesOnly, IsWaiting, IsWho, Itself, NoKey, register_in, without_key};
 ghost use Rattle.tds_relay.specs.Waiting.{IsLentByParting, LosesOrLends};
 ghost use Rattle.tds_relay.specs.Law.{closing};
@@ -70,6 +70,8 @@ impl Relay {
         ensures clients { IsReached (pool_in self.old.pool)
             → OnOk result (ClientsStay (Itself key) self.old self.new) }
         ensures awaits { OnOk result (CleaningsWaitAt self.old self.new) }
+        ensures behind { IsReached (pool_in self.old.pool) → (sharing : Sharing)
+            → IsLedTo sharing (machine_in self.old) → OnOk result (LendsBehind self.old self.new) }
     {
         let _ = self.applications.try_remove(key).is_some();
         self.release(key)?;
@@ -111,6 +113,8 @@ impl Relay {
         ensures fresh { OnOk result (DialsNewAt self.old self.new) }
         ensures clients { IsReached (pool_in self.old.pool)
             → OnOk result (ClientsStay NoKey self.old self.new) }
+        ensures behind { IsReached (pool_in self.old.pool) → (sharing : Sharing)
+            → IsLedTo sharing (machine_in self.old) → OnOk result (LendsBehind self.old self.new) }
     {
         self.lose(number)?;
         self.serve_line()
@@ -206,6 +210,8 @@ impl Relay {
             (IsLetGo key self.old.pool.holds.items self.new.pool.holds.items) }
         ensures answers { OnOk result (KeepsAnswers self.old.links.items self.new.links.items) }
         ensures awaits { OnOk result (CleaningsWaitAt self.old self.new) }
+        ensures lets { IsReached (pool_in self.old.pool)
+            → OnOk result (LetsGoAt key self.old self.new) }
     {
         self.outbox.clear();
         let left = self.pool.leave(key, &mut self.outbox)?;

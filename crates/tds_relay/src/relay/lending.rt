@@ -1,16 +1,16 @@
 //! Connections that are lent to those who wait, opened, and asked.
 ghost use Rattle.std.specs.Prelude.{◌≡◌, ◌≢◌, ◌⊎◌, ◌++◌, ◌<◌, ◌≤◌, [], ℕ, Bool, IfOk, List, None, OnOk, Some, false, length, option_map, true};
 ghost use Rattle.slab.specs.Slab.{get};
-ghost use Rattle.tds_relay.specs.Lent.{AllLast, AnewIfLent, Any, BeginsOn, DialsNewAt, FirstKeeps, GivenStay, IsMadeOn, IsOnItsOwn, IsWithHolder, KeepsAnswers, KeepsGiven, LastBut, LendsInLine, OffRest, OpensGiven, PutsOnly, ShutGiven, ShutRest, ShutStay, StaysDialledAt, seen_in};
+ghost use Rattle.tds_relay.specs.Lent.{AllLast, AnewIfLent, Any, AsksLent, BeginsOn, DialsNewAt, FirstKeeps, GivenStay, IsMadeOn, IsOnItsOwn, IsWithHolder, KeepsAnswers, KeepsGiven, LastBut, LendsBehind, LendsInLine, OffRest, OpensGiven, PutsOnly, ShutGiven, ShutRest, ShutStay, StaysDialledAt, seen_in};
 ghost use Rattle.tds_relay.specs.Apart.{Alone, AloneWho, LendsAfter, LendsInTurn, UnlessServed};
 ghost use Rattle.tds_relay.specs.Asking.{HasBegun, IsUnderway, waits_of};
 ghost use Rattle.tds_relay.specs.Bodies.{AskAsBefore, AskOn, Grows, Starts, GoesFrom, body_of, going_of, held_of, standing_in};
 ghost use Rattle.tds_relay.specs.Closings.{ClosesOnly, IsWaiting, IsWho, Itself, NoKey, WhoOrWaiting, register_in};
-ghost use Rattle.tds_relay.specs.Pool.{find_number, key_of};
+ghost use Rattle.tds_relay.specs.Pool.{Sharing, find_key, find_number, key_of};
 ghost use Rattle.tds_relay.specs.Few.{Few, FewBy, IsSeated, IsSeatedIf, NobodyWaits};
 ghost use Rattle.tds_relay.specs.Fronts.{MovedOn, ends_in, core_in, machine_in};
 ghost use Rattle.tds_relay.specs.Core.{IsReset, end_at, holder};
-ghost use Rattle.tds_relay.specs.Machine.{StepsOn};
+ghost use Rattle.tds_relay.specs.Machine.{IsLedTo, StepsOn};
 ghost use Rattle.tds_relay.specs.Waiting.{GoesOrWaits, IsUnheldOrTurnedAway, IsLentInVain, OpensOrLends, RestsForHolder, RestsIfStill};
 ghost use Rattle.tds_relay.specs.Queues.{names_in, queues_in};
 ghost use Rattle.tds_relay.specs.Cutting.{at_its_beginning};
@@ -91,6 +91,8 @@ impl Relay {
             (ClientsStay (IsWho (holder (pool_in self.old.pool) number)) self.old self.new) }
         ensures rests { IsReached (pool_in self.old.pool)
             → OnOk result (RestsForHolder number self.old self.new) }
+        ensures behind { IsReached (pool_in self.old.pool) → (sharing : Sharing)
+            → IsLedTo sharing (machine_in self.old) → OnOk result (LendsBehind self.old self.new) }
     {
         self.set_open(number);
         self.order_write_on(number)?;
@@ -197,6 +199,8 @@ impl Relay {
         ensures still { OnOk result (ShutGiven self.old self.new) }
         ensures anew { IsReached (pool_in self.old.pool)
             → OnOk result (AnewIfLent self.old self.new) }
+        ensures behind { IsReached (pool_in self.old.pool) → (sharing : Sharing)
+            → IsLedTo sharing (machine_in self.old) → OnOk result (LendsBehind self.old self.new) }
     {
         let waiting = self.pool.waiting();
         'line: for turn in 0..waiting {
@@ -258,6 +262,10 @@ impl Relay {
             → OnOk result (ShutStay (λ n. n ≤ last) self.old.links.items self.new.links.items) }
         ensures elsewhere { OnOk result ((n : ℕ) → n ≢ served.hold.number
             → StaysAt (answer_at n self.old.links.items) (answer_at n self.new.links.items)) }
+        ensures behind { served.had ≡ true
+            → find_key served.hold.key (pool_in self.old.pool).holds ≡ Some served.hold
+            → OnOk result (AsksLent served.hold.number served.hold.key self.old self.new) }
+        ensures placed { served.had ≡ true → OnOk result (GoesOrWaits served.hold.key self.new) }
     {
         let number = served.hold.number;
         if served.had {

@@ -5,10 +5,12 @@ ghost use Rattle.tds_relay.specs.Apart.{LendsInTurn, UnlessServed};
 ghost use Rattle.tds_relay.specs.Cleaning.{cleaned_in};
 ghost use Rattle.tds_relay.specs.Closings.{ClosesOnly, IsWaiting, NoKey};
 ghost use Rattle.tds_relay.specs.Closings.{register_in, with_most};
-ghost use Rattle.tds_relay.specs.Lent.{LastBut, PutsOnly};
+ghost use Rattle.tds_relay.specs.Lent.{LastBut, LendsBehind, PutsOnly};
 ghost use Rattle.tds_relay.specs.Waiting.{IsLentInVain};
 ghost use Rattle.tds_relay.specs.Few.{Few, IsCrowded, IsSeated, MayServe, NobodyWaits};
-ghost use Rattle.tds_relay.specs.Fronts.{MovedOn, ends_in, core_in};
+ghost use Rattle.tds_relay.specs.Fronts.{MovedOn, ends_in, core_in, machine_in};
+ghost use Rattle.tds_relay.specs.Machine.{IsLedTo};
+ghost use Rattle.tds_relay.specs.Pool.{Sharing};
 ghost use Rattle.tds_relay.specs.Ordering.{GrowsByOrders, OpensNew, StayOrdered};
 ghost use Rattle.tds_relay.specs.Queues.{queues_in};
 ghost use Rattle.tds_relay.specs.Reads.{Opens};
@@ -52,6 +54,8 @@ impl Relay {
         ensures fresh { OnOk result (DialsNewAt self.old self.new) }
         ensures clients { IsReached (pool_in self.old.pool)
             → OnOk result (ClientsStay NoKey self.old self.new) }
+        ensures behind { IsReached (pool_in self.old.pool) → (sharing : Sharing)
+            → IsLedTo sharing (machine_in self.old) → OnOk result (LendsBehind self.old self.new) }
     {
         self.most = most;
         self.serve_line()

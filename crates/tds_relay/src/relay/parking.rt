@@ -1,6 +1,6 @@
 //! Applications that are parked: each is parted from its connection at rest, for those who wait.
 ghost use Rattle.std.specs.Prelude.{◌≡◌, OnOk, IfOk, false, true, Some};
-ghost use Rattle.tds_relay.specs.Lent.{DialsNewAt, KeepsGiven, LastBesides, PutsOnly};
+ghost use Rattle.tds_relay.specs.Lent.{DialsNewAt, KeepsGiven, LastBesides, LendsBehind, PutsOnly};
 ghost use Rattle.tds_relay.specs.Apart.{LendsInTurn, UnlessServed};
 ghost use Rattle.tds_relay.specs.Cleaning.{CountsHold, CountsSinceEnd, WaitsSinceEnd, cleaned_in, CleaningsWaitAt};
 ghost use Rattle.tds_relay.specs.Closings.{ClosesOnly, IsWaiting, register_in, Itself};
@@ -80,6 +80,8 @@ impl Relay {
         ensures clients { IsReached (pool_in self.old.pool)
             → OnOk result (ClientsStay (Itself key) self.old self.new) }
         ensures awaits { OnOk result (CleaningsWaitAt self.old self.new) }
+        ensures behind { IsReached (pool_in self.old.pool) → (sharing : Sharing)
+            → IsLedTo sharing (machine_in self.old) → OnOk result (LendsBehind self.old self.new) }
     {
         if !self.may_park(key) {
             return Ok(false);

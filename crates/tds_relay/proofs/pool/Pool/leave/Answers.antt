@@ -1,7 +1,7 @@
 use Rattle.std.proofs.Common.{refl, rules}
 use Rattle.tds_relay.proofs.spared.Aside.{left_others, none_others, led_at}
 use Rattle.tds_relay.specs.Pool.{find_key}
-use Rattle.tds_relay.proofs.spared.Cleaned.{ends_none, ends_some, text_is}
+use Rattle.tds_relay.proofs.spared.Cleaned.{ends_none, ends_some, shut_none, shut_some, text_is}
 use Rattle.tds_relay.specs.Ties.{pool_in}
 use Rattle.tds_relay.proofs.seats.Rests.{held_on}
 use Rattle.tds_relay.proofs.lending.Tending.{put_text}
@@ -29,3 +29,9 @@ returns-clause-seats c = λ reached. c.in_ok-is_there.ensures.seats (led_at (poo
 pub returns-clause-newly : goal.returns-clause-newly
 returns-clause-newly c = λ reached there.
     put_text c.cleaning_text.result.now _ _ _ _ c.cleaning_text.ensures (c.in_ok-is_there.ensures.newly (led_at (pool_in c.args.self.now) reached) there)
+
+pub returns-in_default-clause-shut : goal.returns-in_default-clause-shut
+returns-in_default-clause-shut c = shut_none c.args.self.now.service (find_key c.args.key c.args.self.now.holds.items)
+
+pub returns-clause-shut : goal.returns-clause-shut
+returns-clause-shut c = shut_some c.args.self.now.service (find_key c.args.key c.args.self.now.holds.items) c.in-Some.hold _ (search rules) c.in_ok-is_there.ensures.shut

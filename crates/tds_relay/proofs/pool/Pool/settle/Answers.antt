@@ -1,4 +1,4 @@
-use Rattle.std.proofs.Common.{◌≡◌, ◌∙◌, ap, rules, ℕ, subst, sym, Bool, inl, inr, refl, List}
+use Rattle.std.proofs.Common.{◌≡◌, ◌∙◌, ap, rules, true, ℕ, subst, sym, Bool, inl, inr, refl, List}
 use Rattle.std.specs.Prelude.{Option, None}
 use Rattle.tds_service.specs.Table.{service_in}
 use Rattle.tds_relay.specs.declared.pool.Hold.{Hold}
@@ -9,7 +9,6 @@ use Rattle.tds_relay.specs.Few.{SeatStays}
 use Rattle.tds_relay.proofs.seats.Counting.{stays_refl}
 use Rattle.tds_relay.proofs.seats.Rests.{if_left, made_stays}
 use Rattle.tds_relay.proofs.spared.Aside.{drained_held}
-use Rattle.tds_relay.proofs.lending.Leases.{is_left_there}
 use Rattle.tds_relay.proofs.lending.Awaiting.{settled_was}
 use Rattle.tds_relay.specs.Cleaning.{IsCleaning, IsPutBehind}
 use Rattle.tds_relay.proofs.pool.Pool.settle.Goals as goal
@@ -34,24 +33,19 @@ returns-in_ok-is_there-in-None-find_lease-clause-seats c = λ led on left.
     if_left c.in_ok-is_there-in-None-find_lease.is_there c.what_of.result c.args.number (service_in c.args.self.now.service) (service_in c.cleaned.new.service) c.what_of.ensures
     (c.in_ok-is_there-in-None-find_lease.ensures.seats led (on c.in-Some.lease c.in-Some.is))
 
-pub returns-in_ok-is_there-in-None-clause-seats : goal.returns-in_ok-is_there-in-None-clause-seats
-returns-in_ok-is_there-in-None-clause-seats c = λ led on left.
-    let made = c.in_ok-is_there-in-None.ensures.makes in
-    if_left c.in_ok-is_there-in-None.is_there c.what_of-in-None.result c.args.number (service_in c.args.self.now.service) (service_in c.clean.new.service) c.what_of-in-None.ensures
-    (made_stays (service_in c.args.self.now.service) (service_in c.clean.new.service) c.args.number c.in_ok-is_there-in-None.is_there made.0 _ _ led made.1 made.2)
+pub returns-in_ok-clean-in-None-clause-seats : goal.returns-in_ok-clean-in-None-clause-seats
+returns-in_ok-clean-in-None-clause-seats c = λ led on left.
+    let made = c.in_ok-clean-in-None.ensures.makes in
+    made_stays (service_in c.args.self.now.service) (service_in c.clean.new.service) c.args.number true made.0 _ _ led (sym made.1) made.2
 
-pub returns-in_ok-is_there-in-None-clause-aside : goal.returns-in_ok-is_there-in-None-clause-aside
-returns-in_ok-is_there-in-None-clause-aside c = drained_held c.args.number c.args.self.now.holds.items c.args.self.now.service c.clean.new.service c.in_ok-is_there-in-None.ensures.aside
+pub returns-in_ok-clean-in-None-clause-aside : goal.returns-in_ok-clean-in-None-clause-aside
+returns-in_ok-clean-in-None-clause-aside c = drained_held c.args.number c.args.self.now.holds.items c.args.self.now.service c.clean.new.service c.in_ok-clean-in-None.ensures.aside
 
 pub returns-in-Some-find_lease-clause-leases : goal.returns-in-Some-find_lease-clause-leases
 returns-in-Some-find_lease-clause-leases c = λ left. inl refl
 
 pub returns-in_ok-is_there-in-None-find_lease-clause-leases : goal.returns-in_ok-is_there-in-None-find_lease-clause-leases
 returns-in_ok-is_there-in-None-find_lease-clause-leases c = λ left. inl refl
-
-pub returns-in_ok-is_there-in-None-clause-leases : goal.returns-in_ok-is_there-in-None-clause-leases
-returns-in_ok-is_there-in-None-clause-leases c = λ left.
-    inr (c.in_ok-is_there-in-None.ensures.leases (is_left_there c.in_ok-is_there-in-None.is_there c.what_of-in-None.result c.what_of-in-None.ensures left))
 
 pub returns-in-Some-find_lease-clause-newly : goal.returns-in-Some-find_lease-clause-newly
 returns-in-Some-find_lease-clause-newly c = λ led left. record { here = λ l at. inl (at, refl) }
@@ -64,11 +58,7 @@ returns-in_ok-is_there-in-None-find_lease-clause-newly c = λ led left. record {
   );
 }
 
-pub returns-in_ok-is_there-in-None-clause-newly : goal.returns-in_ok-is_there-in-None-clause-newly
-returns-in_ok-is_there-in-None-clause-newly c = λ led left. record {
-  here = λ l at. inr (
-    c.in-None.is,
-    subst (λ (text : List ℕ). IsPutBehind (IsCleaning text) c.args.out.now.items c.clean.new.out.items) c.cleaning_text.ensures
-        (c.in_ok-is_there-in-None.ensures.cleans led (is_left_there c.in_ok-is_there-in-None.is_there c.what_of-in-None.result c.what_of-in-None.ensures left)),
-  );
+pub returns-in_ok-clean-in-None-clause-newly : goal.returns-in_ok-clean-in-None-clause-newly
+returns-in_ok-clean-in-None-clause-newly c = λ led left. record {
+  here = λ l at. inr (c.in-None.is, subst (λ (text : List ℕ). IsPutBehind (IsCleaning text) c.args.out.now.items c.clean.new.out.items) c.cleaning_text.ensures (c.in_ok-clean-in-None.ensures.cleans led));
 }

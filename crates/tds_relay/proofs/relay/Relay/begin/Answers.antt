@@ -33,8 +33,8 @@ use Rattle.tds_relay.proofs.spared.Rightly.{deaf_right_on, held_right_on, unkept
 use Rattle.tds_relay.proofs.spared.Starting.{unkept_none, unkept_over}
 use Rattle.tds_relay.proofs.lending.Earlier.{anew_kept, anew_refl}
 use Rattle.tds_relay.proofs.spared.Begun.{answers_unchanged}
-use Rattle.tds_relay.specs.declared.relay.Relay as code
 use Rattle.tds_relay.proofs.lending.Tending.{none_led, tend_kept_at, tend_refl, tend_waits_at}
+use Rattle.tds_relay.proofs.lending.Parting.{leaves_links, leaves_of, over_lets}
 use Rattle.tds_relay.proofs.relay.Relay.begin.Goals as goal
 
 pub returns-in-false-default-clause-goes : goal.returns-in-false-default-clause-goes
@@ -62,16 +62,18 @@ pub returns-in-true-Some-Full-clause-moves : goal.returns-in-true-Some-Full-clau
 returns-in-true-Some-Full-clause-moves c =
     let kept = ends_kept c.args.self.now.applications c.args.key c.in-Some.application.now c.forget.new.self c.in-Some.ensures.value c.forget.ensures.end in
     let full : c.args.reset ≡ Some Full = search rules in
+    let held : IsSome (find_key c.args.key (pool_in c.args.self.now.pool).holds) = search rules in
     ok_more c.change.result _ _
-    (λ m asks begun from h. m (subst (λ (es : EndList). AsksToPart (core_of_ends (pool_in c.args.self.now.pool) es) c.args.key) (sym kept) (inl (subst (λ (r : Option Reset). IfAsked r (end_at (ends_in c.args.self.now.applications) c.args.key)) full asks))) (subst (λ (es : EndList). IfOpen IsBegun (end_at es c.args.key)) (sym kept) begun) from (moves_same (Application c.args.key) from _ _ _ _ refl kept h))
+    (λ m asks begun from h. m (subst (λ (es : EndList). AsksToPart (core_of_ends (pool_in c.args.self.now.pool) es) c.args.key) (sym kept) (inl (subst (λ (r : Option Reset). IfAsked r (end_at (ends_in c.args.self.now.applications) c.args.key)) full asks))) (subst (λ (es : EndList). IfOpen IsBegun (end_at es c.args.key)) (sym kept) begun) held from (moves_same (Application c.args.key) from _ _ _ _ refl kept h))
     c.change.ensures.moves
 
 pub returns-else-may_keep_later-clause-moves : goal.returns-else-may_keep_later-clause-moves
 returns-else-may_keep_later-clause-moves c =
     let kept = ends_kept c.args.self.now.applications c.args.key c.in-Some.application.now c.forget.new.self c.in-Some.ensures.value c.forget.ensures.end in
     let keeps : c.args.reset ≡ Some KeepTransaction = search rules in
+    let held : IsSome (find_key c.args.key (pool_in c.args.self.now.pool).holds) = search rules in
     ok_more c.renew.result _ _
-    (λ m asks begun from h. m (subst (λ (es : EndList). AsksFor KeepTransaction (end_at es c.args.key)) (sym kept) (subst (λ (r : Option Reset). IfAsked r (end_at (ends_in c.args.self.now.applications) c.args.key)) keeps asks)) (subst (λ (es : EndList). IfOpen IsBegun (end_at es c.args.key)) (sym kept) begun) from (moves_same (Application c.args.key) from _ _ _ _ refl kept h))
+    (λ m asks begun from h. m (subst (λ (es : EndList). AsksFor KeepTransaction (end_at es c.args.key)) (sym kept) (subst (λ (r : Option Reset). IfAsked r (end_at (ends_in c.args.self.now.applications) c.args.key)) keeps asks)) (subst (λ (es : EndList). IfOpen IsBegun (end_at es c.args.key)) (sym kept) begun) held from (moves_same (Application c.args.key) from _ _ _ _ refl kept h))
     c.renew.ensures.moves
 
 pub returns-in_default-message_kind-clause-moves : goal.returns-in_default-message_kind-clause-moves
@@ -225,23 +227,23 @@ pub returns-in-true-Some-Full-clause-aside : goal.returns-in-true-Some-Full-clau
 returns-in-true-Some-Full-clause-aside c = λ reached. c.change.ensures.aside reached
 
 pub returns-in_default-clause-puts : goal.returns-in_default-clause-puts
-returns-in_default-clause-puts c = begins_shut c.args.kind c.args.reset (standing_in c.args.key c.args.self.now) (standing_in c.args.key c.args.self.now) (none_shut c.args.self.now.applications c.args.key (going_of c.args.key c.args.self.now) (search rules))
+returns-in_default-clause-puts c = begins_shut _ c.args.kind c.args.reset (standing_in c.args.key c.args.self.now) (standing_in c.args.key c.args.self.now) (none_shut c.args.self.now.applications c.args.key (going_of c.args.key c.args.self.now) (search rules)) (λ reached full. leaves_links c.args.self.now c.args.self.now refl)
 
 pub returns-in_default-message_kind-clause-puts : goal.returns-in_default-message_kind-clause-puts
-returns-in_default-message_kind-clause-puts c = ok_more c.expel.result _ _ (λ d. begins_shut c.args.kind c.args.reset (standing_in c.args.key c.args.self.now) (standing_in c.args.key c.expel.new.self) (shut c.expel.new.self.applications c.args.key (going_of c.args.key c.expel.new.self) d)) c.expel.ensures.over
+returns-in_default-message_kind-clause-puts c = over_lets c.expel.result _ _ _ _ (λ d lets. begins_shut _ c.args.kind c.args.reset (standing_in c.args.key c.args.self.now) (standing_in c.args.key c.expel.new.self) (shut c.expel.new.self.applications c.args.key (going_of c.args.key c.expel.new.self) d) (λ reached full. leaves_of c.args.key c.args.self.now c.expel.new.self (lets reached))) c.expel.ensures.over c.expel.ensures.lets
 
 pub returns-in-true-None-clause-puts : goal.returns-in-true-None-clause-puts
 returns-in-true-None-clause-puts c =
     let none : c.args.reset ≡ None = search rules in
     ok_more c.start.result _ _
-    (λ s. begins_put c.args.kind c.args.reset _ (standing_in c.args.key c.args.self.now) (standing_in c.args.key c.start.new.self) (begun (get (with_value c.args.self.now.applications c.args.key c.forget.new.self) c.args.key) _ c.forget.new.self c.args.kind c.in-Some-message_kind.kind (written_there c.args.self.now.applications c.args.key c.in-Some.application.now c.forget.new.self c.in-Some.ensures.value) (c.forget.ensures.asking (c.forget.ensures.body.0 ∙ sym c.is_over.ensures ∙ c.if-is_over.false)) c.forget.ensures.body.1 (search rules))
-    (λ full. absurd (let u : None ≡ Some Full = sym none ∙ full in let v : ⊥ = cc in v)) s)
+    (λ s. begins_put _ c.args.kind c.args.reset _ (standing_in c.args.key c.args.self.now) (standing_in c.args.key c.start.new.self) (begun (get (with_value c.args.self.now.applications c.args.key c.forget.new.self) c.args.key) _ c.forget.new.self c.args.kind c.in-Some-message_kind.kind (written_there c.args.self.now.applications c.args.key c.in-Some.application.now c.forget.new.self c.in-Some.ensures.value) (c.forget.ensures.asking (c.forget.ensures.body.0 ∙ sym c.is_over.ensures ∙ c.if-is_over.false)) c.forget.ensures.body.1 (search rules))
+    (λ full. absurd (let u : None ≡ Some Full = sym none ∙ full in let v : ⊥ = cc in v)) s (λ reached full. absurd (let u : None ≡ Some Full = sym none ∙ full in let v : ⊥ = cc in v)))
     c.start.ensures.puts
 
 pub returns-then-may_keep_later-clause-puts : goal.returns-then-may_keep_later-clause-puts
 returns-then-may_keep_later-clause-puts c =
-    begins_put c.args.kind c.args.reset _ (standing_in c.args.key c.args.self.now) (body_in (get (with_value c.args.self.now.applications c.args.key c.forget.new.self) c.args.key) (going_of c.args.key c.args.self.now), λ (number : ℕ). waits_on number c.args.self.now.links.items) (begun (get (with_value c.args.self.now.applications c.args.key c.forget.new.self) c.args.key) _ c.forget.new.self c.args.kind c.in-Some-message_kind.kind (written_there c.args.self.now.applications c.args.key c.in-Some.application.now c.forget.new.self c.in-Some.ensures.value) (c.forget.ensures.asking (c.forget.ensures.body.0 ∙ sym c.is_over.ensures ∙ c.if-is_over.false)) c.forget.ensures.body.1 (search rules))
-    (λ full. inl refl) (put_refl (body_in (get (with_value c.args.self.now.applications c.args.key c.forget.new.self) c.args.key) (going_of c.args.key c.args.self.now), λ (number : ℕ). waits_on number c.args.self.now.links.items))
+    begins_put _ c.args.kind c.args.reset _ (standing_in c.args.key c.args.self.now) (body_in (get (with_value c.args.self.now.applications c.args.key c.forget.new.self) c.args.key) (going_of c.args.key c.args.self.now), λ (number : ℕ). waits_on number c.args.self.now.links.items) (begun (get (with_value c.args.self.now.applications c.args.key c.forget.new.self) c.args.key) _ c.forget.new.self c.args.kind c.in-Some-message_kind.kind (written_there c.args.self.now.applications c.args.key c.in-Some.application.now c.forget.new.self c.in-Some.ensures.value) (c.forget.ensures.asking (c.forget.ensures.body.0 ∙ sym c.is_over.ensures ∙ c.if-is_over.false)) c.forget.ensures.body.1 (search rules))
+    (λ full. inl refl) (put_refl (body_in (get (with_value c.args.self.now.applications c.args.key c.forget.new.self) c.args.key) (going_of c.args.key c.args.self.now), λ (number : ℕ). waits_on number c.args.self.now.links.items)) (λ reached full. leaves_links c.args.self.now c.args.self.now refl)
 
 pub returns-else-may_keep_later-clause-puts : goal.returns-else-may_keep_later-clause-puts
 returns-else-may_keep_later-clause-puts c =
@@ -253,29 +255,31 @@ returns-else-may_keep_later-clause-puts c =
       starts = s;
       still = λ none. absurd (let u : Some KeepTransaction ≡ None = sym keeps ∙ none in let v : ⊥ = cc in v);
       parts = λ full. absurd (let u : Some KeepTransaction ≡ Some Full = sym keeps ∙ full in let v : ⊥ = cc in v);
+      lets = λ reached full. absurd (let u : Some KeepTransaction ≡ Some Full = sym keeps ∙ full in let v : ⊥ = cc in v);
     })
     (c.renew.ensures.puts false (waits_written c.args.self.now.applications c.args.key c.in-Some.application.now c.forget.new.self _ false c.in-Some.ensures.value (c.forget.ensures.asking (c.forget.ensures.body.0 ∙ sym c.is_over.ensures ∙ c.if-is_over.false))))
 
 pub returns-in-true-Some-Full-clause-puts : goal.returns-in-true-Some-Full-clause-puts
 returns-in-true-Some-Full-clause-puts c =
     let full : c.args.reset ≡ Some Full = search rules in
-    ok_more c.change.result _ _
-    (λ s. record {
+    over_lets c.change.result _ _ _ _
+    (λ s lets. record {
       mid = _;
       begins = (begun (get (with_value c.args.self.now.applications c.args.key c.forget.new.self) c.args.key) _ c.forget.new.self c.args.kind c.in-Some-message_kind.kind (written_there c.args.self.now.applications c.args.key c.in-Some.application.now c.forget.new.self c.in-Some.ensures.value) (c.forget.ensures.asking (c.forget.ensures.body.0 ∙ sym c.is_over.ensures ∙ c.if-is_over.false)) c.forget.ensures.body.1 (search rules));
       starts = spared_place (λ (number : ℕ). waits_on number c.args.self.now.links.items) _ (body_of c.args.key c.change.new.self) s;
       still = λ none. absurd (let u : Some Full ≡ None = sym full ∙ none in let v : ⊥ = cc in v);
       parts = λ is. s;
+      lets = λ reached is. lets reached;
     })
-    (c.change.ensures.body false (waits_written c.args.self.now.applications c.args.key c.in-Some.application.now c.forget.new.self _ false c.in-Some.ensures.value (c.forget.ensures.asking (c.forget.ensures.body.0 ∙ sym c.is_over.ensures ∙ c.if-is_over.false))))
+    (c.change.ensures.body false (waits_written c.args.self.now.applications c.args.key c.in-Some.application.now c.forget.new.self _ false c.in-Some.ensures.value (c.forget.ensures.asking (c.forget.ensures.body.0 ∙ sym c.is_over.ensures ∙ c.if-is_over.false)))) c.change.ensures.lets
 
 pub returns-in-false-default-clause-puts : goal.returns-in-false-default-clause-puts
 returns-in-false-default-clause-puts c =
     ok_if c.wait.result _
-    (begins_put c.args.kind c.args.reset _ (standing_in c.args.key c.args.self.now) (standing_in c.args.key c.wait.new.self) (begun (get (with_value c.args.self.now.applications c.args.key c.forget.new.self) c.args.key) _ c.forget.new.self c.args.kind c.in-Some-message_kind.kind (written_there c.args.self.now.applications c.args.key c.in-Some.application.now c.forget.new.self c.in-Some.ensures.value) (c.forget.ensures.asking (c.forget.ensures.body.0 ∙ sym c.is_over.ensures ∙ c.if-is_over.false)) c.forget.ensures.body.1 (search rules))
+    (begins_put _ c.args.kind c.args.reset _ (standing_in c.args.key c.args.self.now) (standing_in c.args.key c.wait.new.self) (begun (get (with_value c.args.self.now.applications c.args.key c.forget.new.self) c.args.key) _ c.forget.new.self c.args.kind c.in-Some-message_kind.kind (written_there c.args.self.now.applications c.args.key c.in-Some.application.now c.forget.new.self c.in-Some.ensures.value) (c.forget.ensures.asking (c.forget.ensures.body.0 ∙ sym c.is_over.ensures ∙ c.if-is_over.false)) c.forget.ensures.body.1 (search rules))
     (λ full. inl (c.wait.ensures.body c.args.key))
     (put_same (body_in (get (with_value c.args.self.now.applications c.args.key c.forget.new.self) c.args.key) (going_of c.args.key c.args.self.now), λ (number : ℕ). waits_on number c.args.self.now.links.items) (standing_in c.args.key c.wait.new.self)
-    (c.wait.ensures.body c.args.key) (λ number. ap (waits_on number) c.wait.ensures.links)))
+    (c.wait.ensures.body c.args.key) (λ number. ap (waits_on number) c.wait.ensures.links)) (λ reached full. leaves_links c.args.self.now c.wait.new.self c.wait.ensures.links))
 
 pub returns-in_default-clause-right : goal.returns-in_default-clause-right
 returns-in_default-clause-right c = unkept_right c.args.key c.args.self.now (unkept_none c.args.self.now.applications c.args.key (going_of c.args.key c.args.self.now) (search rules))
@@ -323,22 +327,14 @@ returns-then-is_over-clause-moves c = λ asks begun from h. moves_same (Applicat
 
 pub returns-then-is_over-clause-underway : goal.returns-then-is_over-clause-underway
 returns-then-is_over-clause-underway c =
-    let r = c.args.self.now in
-    let key = c.args.key in
-    let a = c.in-Some.application.now in
-    let s = with_value r.applications key a in
-    let its : Some a ≡ get s key = sym (written_there r.applications key a a c.in-Some.ensures.value) in
-    of_over false _ key (pool_in r.pool) s a its (sym c.is_over.ensures ∙ c.if-is_over.true)
+    let s = with_value c.args.self.now.applications c.args.key c.in-Some.application.now in
+    of_over false _ c.args.key (pool_in c.args.self.now.pool) s c.in-Some.application.now (sym (written_there c.args.self.now.applications c.args.key c.in-Some.application.now c.in-Some.application.now c.in-Some.ensures.value)) (sym c.is_over.ensures ∙ c.if-is_over.true)
 
 pub returns-then-is_over-clause-body : goal.returns-then-is_over-clause-body
 returns-then-is_over-clause-body c =
-    let r = c.args.self.now in
-    let key = c.args.key in
-    let a = c.in-Some.application.now in
-    let s = with_value r.applications key a in
-    let back : code.Relay = record r { applications = s } in
-    let its : Some a ≡ get s key = sym (written_there r.applications key a a c.in-Some.ensures.value) in
-    (Closed, Refuses, shut_starts s key Closed (going_of key back) (over_deaf key s a its (sym c.is_over.ensures ∙ c.if-is_over.true)))
+    let s = with_value c.args.self.now.applications c.args.key c.in-Some.application.now in
+    let its : Some c.in-Some.application.now ≡ get s c.args.key = sym (written_there c.args.self.now.applications c.args.key c.in-Some.application.now c.in-Some.application.now c.in-Some.ensures.value) in
+    (Closed, Refuses, shut_starts s c.args.key Closed (going_of c.args.key c.args.self.now) (over_deaf c.args.key s c.in-Some.application.now its (sym c.is_over.ensures ∙ c.if-is_over.true)))
 
 pub returns-then-is_over-clause-closes : goal.returns-then-is_over-clause-closes
 returns-then-is_over-clause-closes c = closes_kept _ _ _ (ends_kept c.args.self.now.applications c.args.key c.in-Some.application.now c.in-Some.application.now c.in-Some.ensures.value refl) (queues_kept c.args.self.now.applications c.args.key c.in-Some.application.now c.in-Some.application.now c.in-Some.ensures.value refl) refl (kept_refl c.args.self.now.links.items) (unclosed _ _ refl)
@@ -352,22 +348,17 @@ returns-then-is_over-clause-aside c = λ reached. aside_refl c.args.key c.args.s
 pub returns-then-is_over-clause-puts : goal.returns-then-is_over-clause-puts
 returns-then-is_over-clause-puts c =
     let r = c.args.self.now in
-    let key = c.args.key in
-    let a = c.in-Some.application.now in
-    let s = with_value r.applications key a in
-    let back : code.Relay = record r { applications = s } in
-    let its : Some a ≡ get s key = sym (written_there r.applications key a a c.in-Some.ensures.value) in
-    begins_shut c.args.kind c.args.reset (standing_in key r) (standing_in key back) (shut s key (going_of key back) (over_deaf key s a its (sym c.is_over.ensures ∙ c.if-is_over.true)))
+    let s = with_value r.applications c.args.key c.in-Some.application.now in
+    let its : Some c.in-Some.application.now ≡ get s c.args.key = sym (written_there r.applications c.args.key c.in-Some.application.now c.in-Some.application.now c.in-Some.ensures.value) in
+    begins_shut _ c.args.kind c.args.reset (standing_in c.args.key r) (standing_in c.args.key (record r { applications = s })) (shut s c.args.key (going_of c.args.key r) (over_deaf c.args.key s c.in-Some.application.now its (sym c.is_over.ensures ∙ c.if-is_over.true)))
+    (λ reached full. leaves_links r r refl)
 
 pub returns-then-is_over-clause-right : goal.returns-then-is_over-clause-right
 returns-then-is_over-clause-right c =
     let r = c.args.self.now in
-    let key = c.args.key in
-    let a = c.in-Some.application.now in
-    let s = with_value r.applications key a in
-    let back : code.Relay = record r { applications = s } in
-    let its : Some a ≡ get s key = sym (written_there r.applications key a a c.in-Some.ensures.value) in
-    unkept_right key back (unkept_over s key a (going_of key back) its (sym c.is_over.ensures ∙ c.if-is_over.true))
+    let s = with_value r.applications c.args.key c.in-Some.application.now in
+    let its : Some c.in-Some.application.now ≡ get s c.args.key = sym (written_there r.applications c.args.key c.in-Some.application.now c.in-Some.application.now c.in-Some.ensures.value) in
+    unkept_right c.args.key (record r { applications = s }) (unkept_over s c.args.key c.in-Some.application.now (going_of c.args.key r) its (sym c.is_over.ensures ∙ c.if-is_over.true))
 
 pub returns-in_default-clause-awaits : goal.returns-in_default-clause-awaits
 returns-in_default-clause-awaits c = tend_refl (pool_in c.args.self.now.pool) c.args.self.now.links.items

@@ -17,8 +17,8 @@ use Rattle.tds_relay.proofs.spared.Closings.{closes_both, closes_more, closes_no
 use Rattle.tds_relay.proofs.seats.Linked.{seated_pushed}
 use Rattle.tds_relay.proofs.seats.Relays.{brought_none, brought_one, none_brought}
 use Rattle.tds_relay.proofs.spared.Opening.{grows_brought, grows_refl, brought_low, on_last, opens_above, opens_new_both, opens_none, opens_same, turn_last}
-use Rattle.std.specs.Prelude.{IfSome, IsSome, None, Option}
-use Rattle.tds_relay.specs.Cleaning.{IsLentBy, IsTooLong, CountsOnce, cleaned_in}
+use Rattle.std.specs.Prelude.{IfNone, IfSome, IsSome, None, Option}
+use Rattle.tds_relay.specs.Cleaning.{IsLentBy, IsTooLong, CountsOnce, LendsNone, cleaned_in}
 use Rattle.tds_relay.specs.Pool.{find_number}
 use Rattle.tds_relay.specs.declared.pool.leaving.Left.{Left}
 use Rattle.tds_relay.proofs.spared.Brought.{brought_holds, first_served, if_some, first_waits, lent_unheld}
@@ -133,15 +133,21 @@ pub returns-then-not-left-clause-closes : goal.returns-then-not-left-clause-clos
 returns-then-not-left-clause-closes c = (c.args.self.now.links.items, inl refl, closes_refl (IsWaiting (pool_in c.args.self.now.pool).line) (register_in c.args.self.now))
 
 pub returns-then-not-is_empty-clause-tries : goal.returns-then-not-is_empty-clause-tries
-returns-then-not-is_empty-clause-tries c =
+returns-then-not-is_empty-clause-tries c = λ reached.
     let some : c.is_empty.result ≡ false = search rules in
-    inl (sym c.is_empty.ensures ∙ some, refl)
+    (inl (sym c.is_empty.ensures ∙ some), refl)
 
 pub returns-in_default-clause-tries : goal.returns-in_default-clause-tries
-returns-in_default-clause-tries c = inr (c.in_ok-left.ensures.turns.0, c.in_ok-left.ensures.turns.1, c.in_ok-left.ensures.turns.2.pool_is)
+returns-in_default-clause-tries c = λ reached. (
+  inr (subst (λ (o : Option Left). IfNone o (LendsNone (pool_in c.args.self.now.pool).service)) c.in_default.is c.in_ok-left.ensures.none),
+  subst (λ (o : Option Left). IfNone o (pool_in c.bring.new.self ≡ pool_in c.args.self.now.pool)) c.in_default.is c.in_ok-left.ensures.same,
+)
 
 pub returns-then-not-left-clause-tries : goal.returns-then-not-left-clause-tries
-returns-then-not-left-clause-tries c = inr (c.in_ok-left.ensures.turns.0, c.in_ok-left.ensures.turns.1, c.in_ok-left.ensures.turns.2.pool_is)
+returns-then-not-left-clause-tries c = λ reached.
+    let gone : c.in-Some.left.is_there ≡ false = search rules in
+    let there : c.in-Some.left.is_there ≡ true = subst (λ (o : Option Left). IfSome o (λ (it : Left). it.is_there ≡ true)) c.in-Some.is (c.in_ok-left.ensures.there reached) in
+    absurd (let u : true ≡ false = sym there ∙ gone in let v : ⊥ = cc in v)
 
 pub returns-in_default-clause-seated : goal.returns-in_default-clause-seated
 returns-in_default-clause-seated c = λ s. brought_none c.in_ok-left.ensures.turns.0 c.in_ok-left.ensures.turns.1 c.args.self.now.pool c.bring.new.self _ _ c.args.self.now.links.items c.in_ok-left.field-0 c.in_ok-left.ensures.turns.2 c.in_ok-left.ensures.seats s c.in_default.is

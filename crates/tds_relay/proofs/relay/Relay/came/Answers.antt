@@ -1,6 +1,6 @@
 use Rattle.tds_relay.specs.Fronts.{machine_in, core_in}
 use Rattle.tds_relay.specs.Ties.{Connection, pool_in, Neither}
-use Rattle.tds_relay.proofs.steps.Stepping.{steps_on_ok}
+use Rattle.tds_relay.proofs.steps.Stepping.{led_on, steps_on_ok}
 use Rattle.tds_relay.proofs.bytes.Streaming.{comes, streams_steps}
 use Rattle.tds_relay.proofs.steps.Faults.{refused_served}
 use Rattle.tds_relay.proofs.steps.Staying.{others_served}
@@ -24,6 +24,7 @@ use Rattle.std.proofs.Common.{◌≡◌, ◌∙◌, None, Some, sym}
 use Rattle.tds_relay.proofs.lending.Clients.{clients_off}
 use Rattle.tds_relay.proofs.lending.Drained.{served_alone}
 use Rattle.tds_relay.specs.Reads.{waits_on}
+use Rattle.tds_relay.proofs.lending.Behind.{since_on}
 use Rattle.tds_relay.proofs.lending.Firsts.{came_puts}
 use Rattle.tds_relay.proofs.lending.Dialled.{hears_served}
 use Rattle.tds_relay.proofs.lending.Fresh.{features_kept, new_behind, size_kept}
@@ -157,3 +158,13 @@ returns-clause-rests c = λ seated.
 
 pub returns-clause-sizes : goal.returns-clause-sizes
 returns-clause-sizes c = size_on c.serve_line.result c.args.self.now.pool.service c.hear_all.new.self.pool.service c.serve_line.new.self.pool.service c.in_ok-hear_all.ensures.streams.streams.walks.sized c.serve_line.ensures.stand
+
+pub returns-clause-behind : goal.returns-clause-behind
+returns-clause-behind c = λ reached sharing led.
+    let number = c.args.number in
+    let old = c.args.self.now in
+    let mid = c.hear_all.new.self in
+    let here = reached_on (Connection number) _ _ c.in_ok-hear_all.ensures.goes reached in
+    let there = led_on sharing (Connection number) (machine_in old) (machine_in mid) (streams_steps number _ _ _ _ _ _ _ _ c.in_ok-hear_all.ensures.streams.streams) led in
+    since_on c.serve_line.result sharing number old mid c.serve_line.new.self there here (goes_last (Connection number) (pool_in old.pool) (pool_in mid.pool) c.in_ok-hear_all.ensures.goes) (c.in_ok-hear_all.ensures.spares reached)
+    (c.in_ok-hear_all.ensures.cleans reached) (c.in_ok-hear_all.ensures.bodies reached) c.serve_line.ensures.goes (c.serve_line.ensures.behind here sharing there) (c.in_ok-hear_all.ensures.keeps reached)

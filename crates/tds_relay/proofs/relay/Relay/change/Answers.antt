@@ -1,6 +1,8 @@
 use Rattle.std.proofs.Common.{inr, refl, rules, subst, sym}
-use Rattle.tds_relay.specs.Ties.{Application}
-use Rattle.tds_relay.proofs.steps.Fronts.{moves_closes, moves_lets_go}
+use Rattle.tds_relay.specs.Ties.{Application, pool_in}
+use Rattle.tds_relay.specs.Pool.{find_key}
+use Rattle.std.specs.Prelude.{IsSome}
+use Rattle.tds_relay.proofs.steps.Fronts.{moves_closes, moves_lets_go, open_any}
 use Rattle.tds_relay.proofs.steps.Reaching.{ok_if, ok_more, reaches_left}
 use Rattle.tds_relay.proofs.steps.Staying.{stays_on, stays_same}
 use Rattle.tds_relay.specs.Asking.{Closes}
@@ -22,10 +24,11 @@ use Rattle.tds_relay.proofs.spared.Elsewhere.{aside_on, aside_waits}
 use Rattle.tds_relay.proofs.spared.Rightly.{deaf_right_on, waits_right_on}
 use Rattle.tds_relay.proofs.spared.Begun.{answers_on, answers_then}
 use Rattle.tds_relay.proofs.lending.Tending.{tend_on, tend_waits}
+use Rattle.tds_relay.proofs.lending.Parting.{ends_both, ends_then, leaves_both, leaves_of, leaves_then}
 use Rattle.tds_relay.proofs.relay.Relay.change.Goals as goal
 
 pub returns-then-not-has_nothing_out-clause-moves : goal.returns-then-not-has_nothing_out-clause-moves
-returns-then-not-has_nothing_out-clause-moves c = ok_more c.expel.result _ _ (λ m asks begun from h. m from (moves_closes (Application c.args.key) from _ _ _ _ c.args.key refl refl h)) c.expel.ensures.moves
+returns-then-not-has_nothing_out-clause-moves c = ok_more c.expel.result _ _ (λ m asks begun held from h. m from (moves_closes (Application c.args.key) from _ _ _ _ c.args.key refl refl h)) c.expel.ensures.moves
 
 pub returns-clause-goes : goal.returns-clause-goes
 returns-clause-goes c = ok_more c.wait.result _ _ (λ g from h. g (Application c.args.key) refl from (reaches_left c.args.key from _ _ c.in_ok-release.ensures.leaving h)) c.wait.ensures.goes
@@ -33,8 +36,8 @@ returns-clause-goes c = ok_more c.wait.result _ _ (λ g from h. g (Application c
 pub returns-clause-moves : goal.returns-clause-moves
 returns-clause-moves c =
     ok_more c.wait.result _ _
-    (λ m asks begun from h. m (Application c.args.key) refl
-    (subst (λ (es : EndList). IfOpen IsBegun (end_at es c.args.key)) (sym c.in_ok-release.ensures.fronts) (open_lets_go IsBegun (ends_in c.args.self.now.applications) c.args.key begun)) from (moves_lets_go c.args.key from _ _ _ (c.has_nothing_out.ensures.here (search rules), asks) c.in_ok-release.ensures.lets_go h))
+    (λ m asks begun held from h. m (Application c.args.key) refl
+    (subst (λ (es : EndList). IfOpen IsBegun (end_at es c.args.key)) (sym c.in_ok-release.ensures.fronts) (open_lets_go IsBegun (ends_in c.args.self.now.applications) c.args.key begun)) from (moves_lets_go c.args.key from _ _ _ ((c.has_nothing_out.ensures.here (search rules), asks), open_any (IsSome (find_key c.args.key (pool_in c.args.self.now.pool).holds)) (end_at (ends_in c.args.self.now.applications) c.args.key) held) c.in_ok-release.ensures.lets_go h))
     c.wait.ensures.moves
 
 pub returns-clause-read : goal.returns-clause-read
@@ -49,7 +52,7 @@ returns-then-is_some-clause-goes c = ok_more c.expel-then-is_some.result _ _ (λ
 pub returns-then-is_some-clause-moves : goal.returns-then-is_some-clause-moves
 returns-then-is_some-clause-moves c =
     ok_more c.expel-then-is_some.result _ _
-    (λ m asks begun from h. m from (moves_closes (Application c.args.key) from _ _ _ _ c.args.key refl refl (moves_lets_go c.args.key from _ _ _ (c.has_nothing_out.ensures.here (search rules), asks) c.in_ok-release.ensures.lets_go h)))
+    (λ m asks begun held from h. m from (moves_closes (Application c.args.key) from _ _ _ _ c.args.key refl refl (moves_lets_go c.args.key from _ _ _ ((c.has_nothing_out.ensures.here (search rules), asks), open_any (IsSome (find_key c.args.key (pool_in c.args.self.now.pool).holds)) (end_at (ends_in c.args.self.now.applications) c.args.key) held) c.in_ok-release.ensures.lets_go h)))
     c.expel-then-is_some.ensures.moves
 
 pub returns-then-is_some-clause-underway : goal.returns-then-is_some-clause-underway
@@ -145,3 +148,25 @@ returns-clause-awaits c =
 
 pub returns-then-not-has_nothing_out-clause-awaits : goal.returns-then-not-has_nothing_out-clause-awaits
 returns-then-not-has_nothing_out-clause-awaits c = c.expel.ensures.awaits
+
+pub returns-then-not-has_nothing_out-clause-lets : goal.returns-then-not-has_nothing_out-clause-lets
+returns-then-not-has_nothing_out-clause-lets c = λ reached. ok_more c.expel.result _ _ (leaves_of c.args.key c.args.self.now c.expel.new.self) (c.expel.ensures.lets reached)
+
+pub returns-then-is_some-clause-lets : goal.returns-then-is_some-clause-lets
+returns-then-is_some-clause-lets c = λ reached.
+    let led = reached_left c.args.key c.args.self.now.pool c.release.new.self.pool c.in_ok-release.ensures.leaving reached in
+    leaves_both c.expel-then-is_some.result c.args.key c.args.self.now c.release.new.self c.expel-then-is_some.new.self led (c.in_ok-release.ensures.frees reached) (c.in_ok-release.ensures.lets reached) (c.expel-then-is_some.ensures.lets led)
+
+pub returns-clause-lets : goal.returns-clause-lets
+returns-clause-lets c = λ reached. ok_if c.wait.result _ (leaves_then c.args.key c.args.self.now c.release.new.self c.wait.new.self (c.in_ok-release.ensures.lets reached) c.wait.ensures.links)
+
+pub returns-then-is_some-clause-ends : goal.returns-then-is_some-clause-ends
+returns-then-is_some-clause-ends c = λ reached.
+    let led = reached_left c.args.key c.args.self.now.pool c.release.new.self.pool c.in_ok-release.ensures.leaving reached in
+    ends_both c.expel-then-is_some.result c.args.key c.args.self.now c.release.new.self c.expel-then-is_some.new.self led (c.in_ok-release.ensures.frees reached) (c.in_ok-release.ensures.ends reached) (c.expel-then-is_some.ensures.lets led)
+
+pub returns-clause-ends : goal.returns-clause-ends
+returns-clause-ends c = λ reached. ok_if c.wait.result _ (ends_then c.args.key c.args.self.now c.release.new.self c.wait.new.self c.wait.ensures.links (c.in_ok-release.ensures.ends reached))
+
+pub returns-then-not-has_nothing_out-clause-ends : goal.returns-then-not-has_nothing_out-clause-ends
+returns-then-not-has_nothing_out-clause-ends c = c.expel.ensures.ends

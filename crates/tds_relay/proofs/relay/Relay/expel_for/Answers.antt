@@ -2,8 +2,11 @@ use Rattle.std.proofs.Common.{ap, subst, sym}
 use Rattle.tds_relay.specs.declared.pool.Pool as code
 use Rattle.tds_relay.specs.Ties.{Application, Reaches, pool_in, IsReached}
 use Rattle.tds_relay.specs.Fronts.{ends_in, core_in, core_of_ends}
-use Rattle.tds_relay.specs.Core.{EndList, MayPart, end_at}
-use Rattle.tds_relay.proofs.steps.Fronts.{closed_parts, moves_lets_go, moves_same}
+use Rattle.tds_relay.specs.Core.{EndList, IfOpen, MayPart, end_at}
+use Rattle.tds_front.specs.declared.stage.Stage.{Stage}
+use Rattle.std.specs.Prelude.{IsSome}
+use Rattle.tds_relay.specs.Pool.{find_key}
+use Rattle.tds_relay.proofs.steps.Fronts.{closed_lets, moves_lets_go, moves_same}
 use Rattle.tds_relay.proofs.steps.Reaching.{ok_more, reaches_left}
 use Rattle.tds_relay.proofs.steps.Staying.{stays_from}
 use Rattle.tds_relay.specs.Taking.{IsDeaf}
@@ -17,6 +20,7 @@ use Rattle.tds_relay.proofs.spared.Elsewhere.{aside_on, aside_same}
 use Rattle.tds_relay.proofs.spared.Begun.{answers_from}
 use Rattle.tds_relay.proofs.steps.Underway.{out_freed}
 use Rattle.tds_relay.proofs.lending.Tending.{tend_pool}
+use Rattle.tds_relay.proofs.lending.Parting.{ends_from, let_go_from}
 use Rattle.tds_relay.proofs.relay.Relay.expel_for.Goals as goal
 
 pub returns-clause-goes : goal.returns-clause-goes
@@ -30,7 +34,7 @@ pub returns-clause-moves : goal.returns-clause-moves
 returns-clause-moves c =
     ok_more c.release.result _ _
     (λ l from h. moves_lets_go c.args.key from _ _ _
-    (subst (λ (es : EndList). MayPart (core_of_ends (pool_in c.end_for.new.self.pool) es) c.args.key) (sym c.in_ok-end_for.ensures.ends) (closed_parts c.args.why (pool_in c.end_for.new.self.pool) (ends_in c.args.self.now.applications) c.args.key)) l
+    (subst (λ (es : EndList). MayPart (core_of_ends (pool_in c.end_for.new.self.pool) es) c.args.key × IfOpen (λ (stage : Stage). IsSome (find_key c.args.key (pool_in c.end_for.new.self.pool).holds)) (end_at es c.args.key)) (sym c.in_ok-end_for.ensures.ends) (closed_lets c.args.why (pool_in c.end_for.new.self.pool) (ends_in c.args.self.now.applications) c.args.key)) l
     (moves_same (Application c.args.key) from _ _ _ _ (ap pool_in c.in_ok-end_for.ensures.pool) c.in_ok-end_for.ensures.ends h))
     c.release.ensures.lets_go
 
@@ -71,3 +75,13 @@ returns-clause-away c = out_freed c.release.result c.args.key (pool_in c.end_for
 
 pub returns-clause-awaits : goal.returns-clause-awaits
 returns-clause-awaits c = tend_pool c.release.result c.args.self.now c.end_for.new.self c.release.new.self c.end_for.ensures.pool c.in_ok-end_for.ensures.links c.release.ensures.awaits
+
+pub returns-clause-lets : goal.returns-clause-lets
+returns-clause-lets c = λ reached.
+    let_go_from c.release.result c.args.key c.args.self.now c.end_for.new.self c.release.new.self c.end_for.ensures.pool c.in_ok-end_for.ensures.links
+    (c.release.ensures.lets (subst (λ (d : code.Pool). IsReached (pool_in d)) (sym c.end_for.ensures.pool) reached))
+
+pub returns-clause-ends : goal.returns-clause-ends
+returns-clause-ends c = λ reached.
+    ends_from c.release.result c.args.key c.args.self.now c.end_for.new.self c.release.new.self c.end_for.ensures.pool c.in_ok-end_for.ensures.links
+    (c.release.ensures.ends (subst (λ (d : code.Pool). IsReached (pool_in d)) (sym c.end_for.ensures.pool) reached))

@@ -7,7 +7,7 @@ use Rattle.tds_relay.proofs.spared.Apart.{lends_from}
 use Rattle.tds_relay.proofs.steps.Fronts.{ends_quit, gone_stays}
 use Rattle.tds_relay.proofs.steps.Queueing.{quits_is}
 use Rattle.tds_relay.proofs.steps.Reaching.{ok_more, reached_on, reaches_left}
-use Rattle.tds_relay.proofs.steps.Stepping.{no_steps, steps_on_ok, steps_quits}
+use Rattle.tds_relay.proofs.steps.Stepping.{led_on, no_steps, steps_on_ok, steps_quits}
 use Rattle.tds_relay.proofs.steps.Staying.{opens_served}
 use Rattle.tds_relay.proofs.bytes.Calls.{stand_on}
 use Rattle.tds_relay.proofs.spared.Letting.{gone_go, removed_rest}
@@ -33,6 +33,8 @@ use Rattle.tds_relay.proofs.spared.Opening.{left_last, opens_new_on, opens_same,
 use Rattle.tds_relay.proofs.spared.Filling.{first_own, puts_on}
 use Rattle.tds_relay.specs.Waiting.{IsLentByParting, IsLentInVain}
 use Rattle.tds_relay.proofs.lending.Dialled.{given_served}
+use Rattle.tds_relay.proofs.lending.Freed.{free_own}
+use Rattle.tds_relay.proofs.lending.Front.{front_on}
 use Rattle.tds_relay.proofs.lending.Fresh.{features_kept, new_served, size_kept}
 use Rattle.tds_relay.proofs.lending.Tending.{tend_line, tend_on}
 use Rattle.tds_relay.proofs.relay.Relay.left.Goals as goal
@@ -156,7 +158,7 @@ returns-clause-cleaned c = λ reached.
     let mid = c.release.new.self in
     let quit = ends_quit old.applications c.try_remove.new.self c.args.key c.try_remove.result c.try_remove.ensures.value c.try_remove.ensures.slots c.try_remove.ensures.absent in
     let gone = quits_is old.applications c.try_remove.new.self c.args.key c.try_remove.result c.try_remove.ensures.value c.try_remove.ensures.slots c.try_remove.ensures.absent in
-    since_served_on c.serve_line.result c.args.key (without_key c.args.key (register_in old)) old mid c.serve_line.new.self reached (left_last c.args.key (pool_in old.pool) (pool_in mid.pool) c.in_ok-release.ensures.leaving) (c.in_ok-release.ensures.cleaned reached) c.serve_line.ensures.goes c.serve_line.ensures.given
+    since_served_on c.serve_line.result c.args.key (without_key c.args.key (register_in old)) old mid c.serve_line.new.self reached (left_last c.args.key (pool_in old.pool) (pool_in mid.pool) c.in_ok-release.ensures.leaving) (c.in_ok-release.ensures.cleaned reached) c.serve_line.ensures.given
     c.serve_line.ensures.counts
     (closes_both NoKey _ _ _ (closes_kept NoKey (without_key c.args.key (register_in old)) _ quit gone refl (kept_refl old.links.items) (unclosed _ _ refl)) c.in_ok-release.ensures.closes)
     (last_more_on c.serve_line.result (IsWaiting (pool_in mid.pool).line) (IsWaiting (pool_in old.pool).line) (register_in mid) (register_in c.serve_line.new.self)
@@ -186,3 +188,20 @@ returns-clause-awaits c =
     let mid = c.release.new.self in
     let led = reached_on (Application c.args.key) (pool_in old.pool) (pool_in mid.pool) (λ from h. reaches_left c.args.key from (pool_in old.pool) (pool_in mid.pool) c.in_ok-release.ensures.leaving h) in
     tend_on c.serve_line.result old mid c.serve_line.new.self led c.in_ok-release.ensures.awaits (tend_line c.serve_line.result mid c.serve_line.new.self c.serve_line.ensures.goes c.serve_line.ensures.fills)
+
+pub returns-clause-behind : goal.returns-clause-behind
+returns-clause-behind c = λ reached sharing led.
+    let key = c.args.key in
+    let old = c.args.self.now in
+    let mid = c.release.new.self in
+    let quit = ends_quit old.applications c.try_remove.new.self key c.try_remove.result c.try_remove.ensures.value c.try_remove.ensures.slots c.try_remove.ensures.absent in
+    let gone = quits_is old.applications c.try_remove.new.self key c.try_remove.result c.try_remove.ensures.value c.try_remove.ensures.slots c.try_remove.ensures.absent in
+    let there =
+    led_on sharing (Application key) (machine_in old) (machine_in mid)
+    (steps_quits key (machine_in old) (pool_in old.pool) (ends_in old.applications) _ (queues_in old.applications) _ _ quit (c.in_ok-release.ensures.kept ∙ gone) c.in_ok-release.ensures.lets_go (no_steps (Application key) (machine_in old))) led in
+    let here = reached_on (Application key) (pool_in old.pool) (pool_in mid.pool) (λ from h. reaches_left key from (pool_in old.pool) (pool_in mid.pool) c.in_ok-release.ensures.leaving h) reached in
+    front_on c.serve_line.result sharing old mid c.serve_line.new.self reached there (left_last key (pool_in old.pool) (pool_in mid.pool) c.in_ok-release.ensures.leaving) (free_own key old mid (c.in_ok-release.ensures.keeps reached))
+    (waited_left key (pool_in old.pool) (pool_in mid.pool) c.in_ok-release.ensures.leaving)
+    (gone_go key old _ mid (λ goes. ap (λ (o : Option AnApplication). body_in o goes) c.try_remove.ensures.updates.changed) c.in_ok-release.ensures.asks
+    (λ r. removed_rest key old _ refl refl c.try_remove.ensures.updates.others) c.in_ok-release.ensures.others)
+    (c.serve_line.ensures.behind here sharing there)

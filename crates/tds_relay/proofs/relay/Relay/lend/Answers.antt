@@ -29,6 +29,7 @@ use Rattle.tds_relay.proofs.spared.Growing.{pushed_more}
 use Rattle.tds_relay.proofs.spared.Elsewhere.{begun_own}
 use Rattle.tds_relay.proofs.lending.Dialled.{given_by_push, given_stays_on}
 use Rattle.tds_relay.proofs.lending.Earlier.{lent_elsewhere, pushed_elsewhere}
+use Rattle.tds_relay.proofs.lending.Front.{lent_asks}
 use Rattle.tds_relay.proofs.lending.Fresh.{dials_again, dials_by_push}
 use Rattle.tds_relay.proofs.lending.Stilled.{still_asked, still_pushed}
 use Rattle.tds_relay.proofs.steps.Answering.{ask_same}
@@ -179,3 +180,10 @@ returns-clause-elsewhere c = pushed_elsewhere c.args.served.hold.number c.args.s
 
 pub returns-then-served-clause-asks : goal.returns-then-served-clause-asks
 returns-then-served-clause-asks c = ask_same c.start_kept.result c.args.self.now.applications c.restart.new.self.applications c.start_kept.new.self.applications c.restart.ensures.same c.start_kept.ensures.asks
+
+pub returns-then-served-clause-behind : goal.returns-then-served-clause-behind
+returns-then-served-clause-behind c = λ had its.
+    lent_asks c.start_kept.result c.args.served.hold c.args.self.now c.restart.new.self c.start_kept.new.self c.restart.ensures.pool c.restart.ensures.same c.restart.ensures.waits its c.start_kept.ensures.behind c.start_kept.ensures.puts
+
+pub returns-then-served-clause-placed : goal.returns-then-served-clause-placed
+returns-then-served-clause-placed c = λ had. c.start_kept.ensures.placed

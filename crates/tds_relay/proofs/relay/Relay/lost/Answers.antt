@@ -1,7 +1,7 @@
 use Rattle.tds_relay.specs.Fronts.{core_in, machine_in}
 use Rattle.tds_relay.proofs.spared.Apart.{lends_from, loses_only}
 use Rattle.tds_relay.specs.Ties.{pool_in, Neither}
-use Rattle.tds_relay.proofs.steps.Stepping.{no_steps, steps_moved, steps_whoever}
+use Rattle.tds_relay.proofs.steps.Stepping.{led_on, no_steps, steps_moved, steps_whoever}
 use Rattle.tds_relay.proofs.steps.Staying.{opens_served}
 use Rattle.tds_relay.proofs.bytes.Calls.{stand_on}
 use Rattle.tds_relay.proofs.lending.Clients.{clients_all, clients_served}
@@ -21,6 +21,8 @@ use Rattle.tds_relay.proofs.spared.Opening.{on_last, opens_new_on, opens_same, g
 use Rattle.tds_relay.proofs.spared.Filling.{carried, first_lost, puts_on}
 use Rattle.tds_relay.specs.Waiting.{IsLentInVain, LosesOrLends}
 use Rattle.tds_relay.proofs.lending.Dialled.{given_served}
+use Rattle.tds_relay.proofs.lending.Freed.{free_lost}
+use Rattle.tds_relay.proofs.lending.Front.{front_on}
 use Rattle.tds_relay.proofs.lending.Fresh.{features_kept, new_served, size_kept}
 use Rattle.tds_relay.proofs.relay.Relay.lost.Goals as goal
 
@@ -114,3 +116,16 @@ returns-clause-clients c = λ reached.
     let mid = c.lose.new.self in
     clients_served c.serve_line.result NoKey old mid c.serve_line.new.self (clients_all NoKey old mid (c.in_ok-lose.ensures.rests reached)) (λ key not there. ap (is_in key) (sym c.in_ok-lose.ensures.line) ∙ there)
     (c.serve_line.ensures.aside (reached_on_does (pool_in old.pool) (pool_in mid.pool) c.in_ok-lose.ensures.goes reached))
+
+pub returns-clause-behind : goal.returns-clause-behind
+returns-clause-behind c = λ reached sharing led.
+    let old = c.args.self.now in
+    let mid = c.lose.new.self in
+    let number = c.args.number in
+    let there =
+    led_on sharing Neither (machine_in old) (machine_in mid) (steps_moved Neither (machine_in old) _ _ _ _ (c.in_ok-lose.ensures.moves Neither) c.in_ok-lose.ensures.kept (no_steps Neither (machine_in old))) led in
+    front_on c.serve_line.result sharing old mid c.serve_line.new.self reached there (on_last (pool_in old.pool) (pool_in mid.pool) c.in_ok-lose.ensures.goes)
+    (free_lost number old mid c.in_ok-lose.ensures.holds c.in_ok-lose.ensures.gone
+    (first_lost number old mid c.in_ok-lose.ensures.holds (λ n differs. carried n old.links.items mid.links.items (c.in_ok-lose.ensures.queues n differs) (c.in_ok-lose.ensures.answers.keeps n))))
+    (λ key e. ap (is_in key) (sym c.in_ok-lose.ensures.line) ∙ e) (rest_go old mid (λ r. c.in_ok-lose.ensures.rests r))
+    (c.serve_line.ensures.behind (reached_on_does (pool_in old.pool) (pool_in mid.pool) c.in_ok-lose.ensures.goes reached) sharing there)

@@ -6,14 +6,15 @@ use Rattle.tds_relay.specs.declared.pool.Pool as code
 use Rattle.tds_relay.specs.Fronts.{ClosesInstead, IsFed, TakesBetween, ends_in, given_by, core_in, core_of_ends, FedOn}
 use Rattle.tds_relay.specs.Core.{IfAsked, EndList, Open, asks_by, end_at, hands_on, is_in, takes_back}
 use Rattle.tds_relay.specs.Queues.{acknowledgement, give, queue_at, queues_in, Queues}
-use Rattle.tds_relay.specs.Ties.{Application, pool_in}
+use Rattle.tds_relay.specs.Ties.{Application, IsReached, pool_in}
 use Rattle.tds_relay.proofs.steps.Fronts.{asks_begun}
 use Rattle.tds_relay.proofs.steps.Told.{fed_then}
 use Rattle.tds_relay.proofs.steps.Reaching.{ok_more, ok_if}
 use Rattle.tds_relay.proofs.steps.Staying.{stays_refl, stays_same}
 use Rattle.tds_relay.specs.Asking.{IsObeyed}
 use Rattle.tds_relay.proofs.bytes.Calls.{stand_at}
-use Rattle.tds_relay.specs.Bodies.{Grows, Nowhere, Obeys, Stays, body_of, going_of, CancelsSaid, standing_in, PutsSaid}
+use Rattle.tds_relay.specs.Bodies.{Grows, Nowhere, Obeys, Stays, body_of, going_of, CancelsSaid, standing_in}
+use Rattle.tds_relay.specs.Waking.{PutsSaid}
 use Rattle.tds_relay.proofs.steps.Bodied.{forgot_on}
 use Rattle.tds_relay.proofs.spared.Closings.{closes_more, closes_on, closes_refl}
 use Rattle.tds_relay.proofs.spared.Reasons.{for_that}
@@ -294,34 +295,34 @@ pub returns-in-HandOn-clause-cancels : goal.returns-in-HandOn-clause-cancels
 returns-in-HandOn-clause-cancels c = ok_if c.hand_on.result _ (subst (λ (s : Said). CancelsSaid s (body_of c.args.key c.args.self.now) (standing_in c.args.key c.hand_on.new.self)) (sym c.in-HandOn.is) tt)
 
 pub returns-in-Nothing-clause-puts : goal.returns-in-Nothing-clause-puts
-returns-in-Nothing-clause-puts c = subst (λ (s : Said). PutsSaid s c.args.bytes.now (standing_in c.args.key c.args.self.now) (standing_in c.args.key c.args.self.now)) (sym c.in-Nothing.is) (put_refl (standing_in c.args.key c.args.self.now))
+returns-in-Nothing-clause-puts c = subst (λ (s : Said). PutsSaid (IsReached (pool_in c.args.self.now.pool)) s c.args.bytes.now (standing_in c.args.key c.args.self.now) (standing_in c.args.key c.args.self.now)) (sym c.in-Nothing.is) (put_refl (standing_in c.args.key c.args.self.now))
 
 pub returns-in-Begin-clause-puts : goal.returns-in-Begin-clause-puts
-returns-in-Begin-clause-puts c = ok_more c.begin.result _ _ (λ h. subst (λ (s : Said). PutsSaid s c.args.bytes.now (standing_in c.args.key c.args.self.now) (standing_in c.args.key c.begin.new.self)) (sym c.in-Begin.is) h) c.begin.ensures.puts
+returns-in-Begin-clause-puts c = ok_more c.begin.result _ _ (λ h. subst (λ (s : Said). PutsSaid (IsReached (pool_in c.args.self.now.pool)) s c.args.bytes.now (standing_in c.args.key c.args.self.now) (standing_in c.args.key c.begin.new.self)) (sym c.in-Begin.is) h) c.begin.ensures.puts
 
 pub returns-in-Body-clause-puts : goal.returns-in-Body-clause-puts
-returns-in-Body-clause-puts c = ok_more c.go_on.result _ _ (λ o. subst (λ (s : Said). PutsSaid s c.args.bytes.now (standing_in c.args.key c.args.self.now) (standing_in c.args.key c.go_on.new.self)) (sym c.in-Body.is) (o.0, subst (λ (xs : List ℕ). Grows false xs (body_of c.args.key c.args.self.now) o.0) c.last.ensures o.1, o.2)) c.go_on.ensures.puts
+returns-in-Body-clause-puts c = ok_more c.go_on.result _ _ (λ o. subst (λ (s : Said). PutsSaid (IsReached (pool_in c.args.self.now.pool)) s c.args.bytes.now (standing_in c.args.key c.args.self.now) (standing_in c.args.key c.go_on.new.self)) (sym c.in-Body.is) (o.0, subst (λ (xs : List ℕ). Grows false xs (body_of c.args.key c.args.self.now) o.0) c.last.ensures o.1, o.2)) c.go_on.ensures.puts
 
 pub returns-in-End-clause-puts : goal.returns-in-End-clause-puts
-returns-in-End-clause-puts c = ok_more c.go_on-in-End.result _ _ (λ o. subst (λ (s : Said). PutsSaid s c.args.bytes.now (standing_in c.args.key c.args.self.now) (standing_in c.args.key c.go_on-in-End.new.self)) (sym c.in-End.is) (o.0, subst (λ (xs : List ℕ). Grows true xs (body_of c.args.key c.args.self.now) o.0) c.last-in-End.ensures o.1, o.2)) c.go_on-in-End.ensures.puts
+returns-in-End-clause-puts c = ok_more c.go_on-in-End.result _ _ (λ o. subst (λ (s : Said). PutsSaid (IsReached (pool_in c.args.self.now.pool)) s c.args.bytes.now (standing_in c.args.key c.args.self.now) (standing_in c.args.key c.go_on-in-End.new.self)) (sym c.in-End.is) (o.0, subst (λ (xs : List ℕ). Grows true xs (body_of c.args.key c.args.self.now) o.0) c.last-in-End.ensures o.1, o.2)) c.go_on-in-End.ensures.puts
 
 pub returns-in-HandOn-clause-puts : goal.returns-in-HandOn-clause-puts
-returns-in-HandOn-clause-puts c = ok_if c.hand_on.result _ (subst (λ (s : Said). PutsSaid s c.args.bytes.now (standing_in c.args.key c.args.self.now) (standing_in c.args.key c.hand_on.new.self)) (sym c.in-HandOn.is) tt)
+returns-in-HandOn-clause-puts c = ok_if c.hand_on.result _ (subst (λ (s : Said). PutsSaid (IsReached (pool_in c.args.self.now.pool)) s c.args.bytes.now (standing_in c.args.key c.args.self.now) (standing_in c.args.key c.hand_on.new.self)) (sym c.in-HandOn.is) tt)
 
 pub returns-in-Forget-false-clause-puts : goal.returns-in-Forget-false-clause-puts
 returns-in-Forget-false-clause-puts c =
     let none : c.in-Forget-false.gone ≡ false = search rules in
-    ok_more c.forget.result _ _ (λ h. subst (λ (s : Said). PutsSaid s c.args.bytes.now (standing_in c.args.key c.args.self.now) (standing_in c.args.key c.forget.new.self)) (sym (c.in-Forget-false.is ∙ ap (λ (b : Bool). said.Forget b) none)) h) c.forget.ensures.puts
+    ok_more c.forget.result _ _ (λ h. subst (λ (s : Said). PutsSaid (IsReached (pool_in c.args.self.now.pool)) s c.args.bytes.now (standing_in c.args.key c.args.self.now) (standing_in c.args.key c.forget.new.self)) (sym (c.in-Forget-false.is ∙ ap (λ (b : Bool). said.Forget b) none)) h) c.forget.ensures.puts
 
 pub returns-in-Forget-true-clause-puts : goal.returns-in-Forget-true-clause-puts
 returns-in-Forget-true-clause-puts c =
     let some : c.in-Forget-true.gone ≡ true = search rules in
-    ok_if c.take_back.result _ (subst (λ (s : Said). PutsSaid s c.args.bytes.now (standing_in c.args.key c.args.self.now) (standing_in c.args.key c.take_back.new.self)) (sym (c.in-Forget-true.is ∙ ap (λ (b : Bool). said.Forget b) some)) tt)
+    ok_if c.take_back.result _ (subst (λ (s : Said). PutsSaid (IsReached (pool_in c.args.self.now.pool)) s c.args.bytes.now (standing_in c.args.key c.args.self.now) (standing_in c.args.key c.take_back.new.self)) (sym (c.in-Forget-true.is ∙ ap (λ (b : Bool). said.Forget b) some)) tt)
 
 pub returns-in_ok-forget-in-Acknowledge-clause-puts : goal.returns-in_ok-forget-in-Acknowledge-clause-puts
 returns-in_ok-forget-in-Acknowledge-clause-puts c =
     ok_more c.acknowledge.result _ _
-    (λ l. subst (λ (s : Said). PutsSaid s c.args.bytes.now (standing_in c.args.key c.args.self.now) (standing_in c.args.key c.acknowledge.new.self)) (sym c.in-Acknowledge.is)
+    (λ l. subst (λ (s : Said). PutsSaid (IsReached (pool_in c.args.self.now.pool)) s c.args.bytes.now (standing_in c.args.key c.args.self.now) (standing_in c.args.key c.acknowledge.new.self)) (sym c.in-Acknowledge.is)
     (λ still number. links_then number (waits_on number c.args.self.now.links.items) c.forget-in-Acknowledge.new.self.links.items c.acknowledge.new.self.links.items l (c.in_ok-forget-in-Acknowledge.ensures.puts still number)))
     c.acknowledge.ensures.links
 

@@ -1,7 +1,7 @@
 use Rattle.std.proofs.Common.{ℕ, ◌∙◌, ap, subst, sym, inl, inr, ◌≤◌, ◌≡◌, length, arith}
 use Rattle.tds_relay.specs.Fronts.{core_in, machine_in}
 use Rattle.tds_relay.specs.Ties.{pool_in, IsReached, Reaches, Neither}
-use Rattle.tds_relay.proofs.steps.Stepping.{no_steps, steps_moved, steps_same, steps_whoever}
+use Rattle.tds_relay.proofs.steps.Stepping.{led_on, no_steps, steps_moved, steps_same, steps_whoever}
 use Rattle.tds_relay.proofs.steps.Fullness.{full_queued}
 use Rattle.tds_relay.proofs.steps.Staying.{opens_one_served, stays_behind, opens_alone}
 use Rattle.tds_relay.proofs.bytes.Calls.{stand_back, stand_on}
@@ -32,6 +32,8 @@ use Rattle.tds_relay.specs.Reasons.{IsTurnedAwayAt}
 use Rattle.tds_relay.proofs.spared.Turned.{opens_for}
 use Rattle.tds_relay.specs.Waiting.{IsLentInVain, OpensOrLends}
 use Rattle.tds_relay.proofs.lending.Dialled.{given_opened}
+use Rattle.tds_relay.proofs.lending.Freed.{free_with}
+use Rattle.tds_relay.proofs.lending.Front.{front_on}
 use Rattle.tds_relay.proofs.lending.Fresh.{features_kept, new_behind, size_kept}
 use Rattle.tds_relay.proofs.lending.Quiet.{opened_rests}
 use Rattle.tds_relay.proofs.relay.Relay.opened.Goals as goal
@@ -229,3 +231,28 @@ returns-clause-rests c = λ reached.
     opened_rests c.serve_line.result c.args.number c.args.self.now c.order_write_on.new.self c.start_on.new.self c.serve_line.new.self reached (c.order_write_on.ensures.pool ∙ c.set_open.ensures.pool)
     (λ n. ap (waits_on n) c.in_ok-order_write_on.ensures.links ∙ c.set_open.ensures.waits n) c.in_ok-start_on.ensures.goes c.in_ok-start_on.ensures.alone.line c.in_ok-start_on.ensures.rests c.serve_line.ensures.goes
     c.serve_line.ensures.aside c.serve_line.ensures.asks c.serve_line.ensures.fills
+
+pub returns-clause-behind : goal.returns-clause-behind
+returns-clause-behind c = λ reached sharing led.
+    let number = c.args.number in
+    let same = c.order_write_on.ensures.pool ∙ c.set_open.ensures.pool in
+    let old = c.args.self.now in
+    let at = c.order_write_on.new.self in
+    let mid = c.start_on.new.self in
+    let led_at : IsReached (pool_in old.pool) → IsReached (pool_in at.pool) = λ r. subst (λ (d : code.Pool). IsReached (pool_in d)) (sym same) r in
+    let there =
+    led_on sharing Neither (machine_in old) (machine_in mid)
+    (steps_moved Neither (machine_in old) _ _ _ _ (c.in_ok-start_on.ensures.moves Neither) c.in_ok-start_on.ensures.kept
+    (steps_same Neither (machine_in old) _ _ _ _ _ _ (ap pool_in same) (c.in_ok-order_write_on.ensures.ends ∙ c.set_open.ensures.ends) (c.in_ok-order_write_on.ensures.kept ∙ c.set_open.ensures.kept)
+    (no_steps Neither (machine_in old)))) led in
+    front_on c.serve_line.result sharing old mid c.serve_line.new.self reached there
+    (subst (λ (d : code.Pool). (pool_in d).service.last ≤ (pool_in mid.pool).service.last) same (on_last (pool_in at.pool) (pool_in mid.pool) c.in_ok-start_on.ensures.goes))
+    (free_with number old mid
+    (first_then number old at mid same (λ n. ap (carried_there n) c.in_ok-order_write_on.ensures.links ∙ carried_same n old.links.items c.set_open.new.self.links.items (c.set_open.ensures.queues n) (c.set_open.ensures.answers n))
+    (c.in_ok-start_on.ensures.keeps (led_at reached))))
+    (λ key e. ap (λ (d : code.Pool). is_in key (pool_in d).line) (sym same) ∙ waited_on (pool_in at.pool) (pool_in mid.pool) c.in_ok-start_on.ensures.goes key e)
+    (go_both old at mid led_at
+    (rest_go old at (λ r. all_both old c.set_open.new.self at c.set_open.ensures.same
+    (all_rest c.set_open.new.self at c.order_write_on.ensures.pool c.in_ok-order_write_on.ensures.links (asks_on c.set_open.new.self at c.in_ok-order_write_on.ensures.asks))))
+    c.in_ok-start_on.ensures.goes_on)
+    (c.serve_line.ensures.behind (reached_on_does (pool_in at.pool) (pool_in mid.pool) c.in_ok-start_on.ensures.goes (led_at reached)) sharing there)

@@ -13,7 +13,7 @@ use Rattle.tds_relay.proofs.lending.Resting.{go_both}
 use Rattle.tds_relay.proofs.steps.Fronts.{moves_parks, no_moves}
 use Rattle.tds_relay.proofs.steps.Reaching.{reached_on, reaches_left}
 use Rattle.tds_relay.proofs.steps.Staying.{opens_both, stays_opens, stays_refl}
-use Rattle.tds_relay.proofs.steps.Stepping.{no_steps, steps_moved, steps_moves}
+use Rattle.tds_relay.proofs.steps.Stepping.{led_on, no_steps, steps_moved, steps_moves}
 use Rattle.tds_relay.proofs.visits.Parking.{parked_away}
 use Rattle.tds_relay.proofs.spared.Lasting.{besides, but_refl, last_more}
 use Rattle.tds_relay.specs.Places.{held_by}
@@ -27,6 +27,8 @@ use Rattle.tds_relay.proofs.spared.Freeing.{served_since}
 use Rattle.tds_relay.proofs.spared.Cleaned.{since_served}
 use Rattle.tds_relay.specs.Waiting.{IsLentByParting, IsLentInVain}
 use Rattle.tds_relay.proofs.lending.Dialled.{given_refl, given_then}
+use Rattle.tds_relay.proofs.lending.Freed.{free_own}
+use Rattle.tds_relay.proofs.lending.Front.{front_first, lends_first}
 use Rattle.tds_relay.proofs.lending.Fresh.{features_kept, new_refl, new_then, size_kept}
 use Rattle.tds_relay.proofs.lending.Tending.{line_tends, tend_all, tend_refl}
 use Rattle.tds_relay.proofs.relay.Relay.park.Goals as goal
@@ -164,7 +166,7 @@ pub returns-clause-cleaned : goal.returns-clause-cleaned
 returns-clause-cleaned c = λ reached yes.
     let old = c.args.self.now in
     let mid = c.release.new.self in
-    since_served c.args.key (register_in old) old mid c.serve_line.new.self reached (left_last c.args.key (pool_in old.pool) (pool_in mid.pool) c.in_ok-release.ensures.leaving) (c.in_ok-release.ensures.cleaned reached) c.in_ok-serve_line.ensures.goes c.in_ok-serve_line.ensures.given
+    since_served c.args.key (register_in old) old mid c.serve_line.new.self reached (left_last c.args.key (pool_in old.pool) (pool_in mid.pool) c.in_ok-release.ensures.leaving) (c.in_ok-release.ensures.cleaned reached) c.in_ok-serve_line.ensures.given
     c.serve_line.ensures.counts c.in_ok-release.ensures.closes
     (last_more (IsWaiting (pool_in mid.pool).line) (IsWaiting (pool_in old.pool).line) _ _ (waited_left c.args.key (pool_in old.pool) (pool_in mid.pool) c.in_ok-release.ensures.leaving) c.in_ok-serve_line.ensures.lasts)
 
@@ -204,3 +206,22 @@ returns-clause-awaits c =
     let mid = c.release.new.self in
     let led = reached_on (Application c.args.key) (pool_in old.pool) (pool_in mid.pool) (λ from h. reaches_left c.args.key from (pool_in old.pool) (pool_in mid.pool) c.in_ok-release.ensures.leaving h) in
     tend_all old mid c.serve_line.new.self led c.in_ok-release.ensures.awaits (line_tends mid c.serve_line.new.self c.in_ok-serve_line.ensures.goes c.in_ok-serve_line.ensures.fills)
+
+pub returns-then-not-may_park-clause-behind : goal.returns-then-not-may_park-clause-behind
+returns-then-not-may_park-clause-behind c = λ reached sharing led. lends_first c.args.self.now
+
+pub returns-clause-behind : goal.returns-clause-behind
+returns-clause-behind c = λ reached sharing led.
+    let key = c.args.key in
+    let old = c.args.self.now in
+    let mid = c.release.new.self in
+    let rests : may_park_in old key ≡ true = sym c.may_park.ensures ∙ (search rules) in
+    let there =
+    led_on sharing (Parking key) (machine_in old) (machine_in mid)
+    (steps_moves (Parking key) (machine_in old) (core_in old) (core_in mid) (queues_in old.applications) (queues_in mid.applications)
+    (moves_parks key (core_in old) (pool_in old.pool) (ends_in old.applications) (core_in mid) (parks old key rests) c.in_ok-release.ensures.lets_go (no_moves (Parking key) (core_in old)))
+    c.in_ok-release.ensures.kept (no_steps (Parking key) (machine_in old))) led in
+    let here = reached_on (Application key) (pool_in old.pool) (pool_in mid.pool) (λ from h. reaches_left key from (pool_in old.pool) (pool_in mid.pool) c.in_ok-release.ensures.leaving h) reached in
+    front_first sharing old mid c.serve_line.new.self reached there (left_last key (pool_in old.pool) (pool_in mid.pool) c.in_ok-release.ensures.leaving) (free_own key old mid (c.in_ok-release.ensures.keeps reached))
+    (waited_left key (pool_in old.pool) (pool_in mid.pool) c.in_ok-release.ensures.leaving) (parked_go key old mid (asks_none old key rests) c.in_ok-release.ensures.asks c.in_ok-release.ensures.others)
+    (c.in_ok-serve_line.ensures.behind here sharing there)

@@ -19,6 +19,7 @@ use Rattle.tds_relay.specs.Cleaning.{CountsOnce, cleaned_in}
 use Rattle.tds_relay.proofs.spared.Freeing.{left_frees, left_keeps, nobody_frees, nobody_keeps}
 use Rattle.tds_relay.proofs.spared.Begun.{answers_from, answers_same}
 use Rattle.tds_relay.proofs.lending.Tending.{put_left, tend_left, tend_nobody, tend_shut}
+use Rattle.tds_relay.proofs.lending.Parting.{let_go_by, let_go_same}
 use Rattle.tds_relay.proofs.relay.Relay.release.Goals as goal
 
 pub returns-in_default-clause-lets_go : goal.returns-in_default-clause-lets_go
@@ -200,11 +201,10 @@ returns-then-left-clause-cleaned c = λ reached.
 
 pub returns-else-left-clause-cleaned : goal.returns-else-left-clause-cleaned
 returns-else-left-clause-cleaned c = λ reached.
-    shut_counted c.close.result c.args.key c.in-Some.left (find_key c.args.key c.args.self.now.pool.holds.items) c.args.self.now c.close.new.self refl (search rules)
+    shut_counted c.close.result c.args.key c.in-Some.left (find_key c.args.key c.args.self.now.pool.holds.items) c.in_ok-left.left c.args.self.now c.close.new.self refl (search rules)
     (failed_is (cleaned_in c.args.self.now) (cleaned_in c.let_go.new.self) (cleaned_in c.close.new.self) c.saturating_add-self.result c.let_go.ensures.counts c.saturating_add-self.ensures c.close.ensures.counts)
     (ok_more c.close.result _ _ (λ g. waits_none c.in-Some.left.number c.close.new.self.links.items g) c.close.ensures.gone)
-    c.in_ok-left.ensures.turns.0 c.in_ok-left.ensures.turns.1 c.leave.new.self _ _ c.in_ok-left.left reached c.in-Some.is c.in_ok-left.ensures.seats (search rules) c.in_ok-left.ensures.turns.2
-    (c.close.ensures.pool ∙ c.let_go.ensures.pool)
+    c.in-Some.is (search rules) c.in_ok-left.ensures.shut
 
 pub returns-in_default-clause-answers : goal.returns-in_default-clause-answers
 returns-in_default-clause-answers c = answers_same c.args.self.now.links.items _ (c.let_go.ensures.links)
@@ -231,3 +231,15 @@ pub returns-else-left-clause-awaits : goal.returns-else-left-clause-awaits
 returns-else-left-clause-awaits c =
     tend_shut c.args.key c.in_ok-left.ensures.turns.0 c.in_ok-left.ensures.turns.1 c.args.self.now c.let_go.new.self c.close.new.self c.leave.new.self _ _ c.in_ok-left.ensures.turns.2 c.let_go.ensures.pool c.let_go.ensures.links
     c.close.result c.in-Some.left (find_key c.args.key c.args.self.now.pool.holds.items) refl (search rules) c.close.ensures.pool c.close.ensures.gone (returns-else-left-clause-keeps c)
+
+pub returns-in_default-clause-lets : goal.returns-in_default-clause-lets
+returns-in_default-clause-lets c = λ reached. let_go_same c.args.key c.args.self.now c.let_go.new.self c.let_go.ensures.links
+
+pub returns-then-left-clause-lets : goal.returns-then-left-clause-lets
+returns-then-left-clause-lets c = λ reached.
+    let_go_by c.send_unheld.result c.args.key c.in-Some.left (find_key c.args.key c.args.self.now.pool.holds.items) c.args.self.now c.let_go.new.self c.send_unheld.new.self refl (search rules) c.let_go.ensures.links c.send_unheld.ensures.others
+    (returns-then-left-clause-ends c reached)
+
+pub returns-else-left-clause-lets : goal.returns-else-left-clause-lets
+returns-else-left-clause-lets c = λ reached.
+    let_go_by c.close.result c.args.key c.in-Some.left (find_key c.args.key c.args.self.now.pool.holds.items) c.args.self.now c.let_go.new.self c.close.new.self refl (search rules) c.let_go.ensures.links c.close.ensures.others (returns-else-left-clause-ends c reached)

@@ -13,7 +13,8 @@ use Rattle.tds_relay.proofs.steps.Bodied.{shut, shut_starts, spared_starts}
 use Rattle.tds_relay.proofs.steps.Going.{waits_from}
 use Rattle.tds_relay.proofs.steps.Still.{spared_place, waits_place}
 use Rattle.tds_relay.specs.Reads.{waits_on}
-use Rattle.tds_relay.specs.Pool.{Pool, find_number, key_of}
+use Rattle.tds_relay.specs.Pool.{Pool, find_key, find_number, key_of}
+use Rattle.std.specs.Prelude.{IsSome}
 use Rattle.tds_relay.specs.Fronts.{ends_in}
 use Rattle.tds_relay.specs.Reasons.{HasTransaction, Unkept, Unserved}
 use Rattle.tds_relay.proofs.spared.Turned.{as_seen, part_at, renewed_held, turned_with}
@@ -49,12 +50,15 @@ returns-else-has_transaction-clause-goes c = ok_more c.change.result _ _ (λ g f
 pub returns-in-Kept-clause-moves : goal.returns-in-Kept-clause-moves
 returns-in-Kept-clause-moves c =
     ok_more c.start_kept.result _ _
-    (λ m asks begun from h. m (Application c.args.key) from (moves_same (Application c.args.key) from _ _ _ _ (ap pool_in c.restart.ensures.pool) c.restart.ensures.ends
+    (λ m asks begun held from h. m (Application c.args.key) from (moves_same (Application c.args.key) from _ _ _ _ (ap pool_in c.restart.ensures.pool) c.restart.ensures.ends
     (moves_does (Application c.args.key) from _ _ _ _ _ _ _ c.in_ok-hold.ensures.turns (refl, asks) refl refl h)))
     c.start_kept.ensures.moves
 
 pub returns-else-has_transaction-clause-moves : goal.returns-else-has_transaction-clause-moves
-returns-else-has_transaction-clause-moves c = ok_more c.change.result _ _ (λ m asks begun from h. m (inr (asks, c.has_transaction.ensures.none (search rules))) begun from (moves_does (Application c.args.key) from _ _ _ _ _ _ _ c.in_ok-hold.ensures.turns (refl, asks) refl refl h)) c.change.ensures.moves
+returns-else-has_transaction-clause-moves c =
+    let is = subst (λ (r : Renewed). IsRenewed r c.args.key c.args.self.now.pool c.renew.new.self) c.in-NotKept.is c.in_ok-hold.ensures.is in
+    ok_more c.change.result _ _
+    (λ m asks begun held from h. m (inr (asks, c.has_transaction.ensures.none (search rules))) begun (subst (λ (d : Pool). IsSome (find_key c.args.key d.holds)) (sym is) held) from (moves_does (Application c.args.key) from _ _ _ _ _ _ _ c.in_ok-hold.ensures.turns (refl, asks) refl refl h)) c.change.ensures.moves
 
 pub returns-in-Kept-clause-read : goal.returns-in-Kept-clause-read
 returns-in-Kept-clause-read c = stays_on c.start_kept.result _ _ _ c.restart.ensures.read c.start_kept.ensures.read
@@ -83,7 +87,7 @@ returns-then-has_transaction-clause-goes c = ok_more c.expel.result _ _ (λ g fr
 pub returns-then-has_transaction-clause-moves : goal.returns-then-has_transaction-clause-moves
 returns-then-has_transaction-clause-moves c =
     ok_more c.expel.result _ _
-    (λ m asks begun from h. m from (moves_closes (Application c.args.key) from _ _ _ _ c.args.key refl refl (moves_does (Application c.args.key) from _ _ _ _ _ _ _ c.in_ok-hold.ensures.turns (refl, asks) refl refl h)))
+    (λ m asks begun held from h. m from (moves_closes (Application c.args.key) from _ _ _ _ c.args.key refl refl (moves_does (Application c.args.key) from _ _ _ _ _ _ _ c.in_ok-hold.ensures.turns (refl, asks) refl refl h)))
     c.expel.ensures.moves
 
 pub returns-then-has_transaction-clause-underway : goal.returns-then-has_transaction-clause-underway

@@ -1,7 +1,7 @@
 use Rattle.tds_relay.specs.Fronts.{machine_in}
 use Rattle.tds_relay.specs.Ties.{Application, pool_in}
 use Rattle.tds_relay.proofs.steps.Staying.{opens_served}
-use Rattle.tds_relay.proofs.steps.Stepping.{steps_on_ok}
+use Rattle.tds_relay.proofs.steps.Stepping.{led_on, steps_on_ok}
 use Rattle.tds_relay.proofs.steps.Told.{tells_ok, tells_steps}
 use Rattle.tds_relay.proofs.steps.Asked.{asks_ok}
 use Rattle.tds_relay.proofs.bytes.Calls.{stand_on}
@@ -22,6 +22,7 @@ use Rattle.tds_relay.proofs.spared.Speaking.{others_served}
 use Rattle.tds_relay.proofs.spared.Elsewhere.{said_puts}
 use Rattle.tds_relay.proofs.steps.Heeding.{cancels_served}
 use Rattle.tds_relay.proofs.steps.Tied.{relay_tied}
+use Rattle.tds_relay.proofs.lending.Behind.{saying_on}
 use Rattle.tds_relay.proofs.lending.Clients.{clients_others, clients_served}
 use Rattle.tds_relay.proofs.lending.Dialled.{given_served}
 use Rattle.tds_relay.proofs.lending.Fresh.{features_kept, new_served, size_kept}
@@ -130,3 +131,21 @@ returns-clause-awaits c =
     let mid = c.take_all.new.self in
     tend_on c.serve_line.result old mid c.serve_line.new.self (reached_on (Application c.args.key) _ _ c.in_ok-take_all.ensures.goes) c.in_ok-take_all.ensures.awaits
     (tend_line c.serve_line.result mid c.serve_line.new.self c.serve_line.ensures.goes c.serve_line.ensures.fills)
+
+pub returns-clause-behind : goal.returns-clause-behind
+returns-clause-behind c = λ reached sharing led.
+    let key = c.args.key in
+    let old = c.args.self.now in
+    let mid = c.take_all.new.self in
+    let taken : IsTakenTo key c.args.piece.now [] old mid =
+    record {
+      carries = c.in_ok-take_all.ensures.carries;
+      heeds = c.in_ok-take_all.ensures.cancels;
+      stays = c.in_ok-take_all.ensures.read;
+      aside = λ r. c.in_ok-take_all.ensures.aside r;
+      right = λ right. c.in_ok-take_all.ensures.right right;
+    } in
+    let there = led_on sharing (Application key) (machine_in old) (machine_in mid) (tells_steps key _ _ _ _ c.in_ok-take_all.ensures.tells) led in
+    saying_on c.serve_line.result sharing key c.args.piece.now old mid c.serve_line.new.self there (goes_last (Application key) (pool_in old.pool) (pool_in mid.pool) c.in_ok-take_all.ensures.goes) taken (c.in_ok-take_all.ensures.others reached)
+    (c.in_ok-take_all.ensures.aside reached) (λ other differs there. waited (Application key) (pool_in old.pool) (pool_in mid.pool) other (λ same. differs (sym same)) c.in_ok-take_all.ensures.goes there)
+    (c.serve_line.ensures.behind (reached_on (Application key) _ _ c.in_ok-take_all.ensures.goes reached) sharing there)

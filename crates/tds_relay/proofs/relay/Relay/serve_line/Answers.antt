@@ -7,6 +7,7 @@ use Rattle.tds_relay.proofs.steps.Reaching.{reaches_turn}
 use Rattle.tds_relay.proofs.steps.Staying.{opens_both, opens_refl, stays_refl}
 use Rattle.tds_relay.proofs.lending.Stilled.{still_lent, still_refl}
 use Rattle.tds_relay.proofs.lending.Dialled.{given_lent, given_refl}
+use Rattle.tds_relay.proofs.lending.Front.{lends_first, lent_front, lent_none}
 use Rattle.tds_relay.proofs.lending.Fresh.{dials_both, dials_refl, features_kept, size_kept}
 use Rattle.tds_relay.proofs.lending.Resting.{go_both, go_refl, reached_on_does, reached_serves, served_go}
 use Rattle.tds_relay.specs.Closings.{IsWaiting, Itself, register_in}
@@ -61,6 +62,7 @@ line-init c =
       still = still_refl _ old.links.items;
       fresh = dials_refl old.size old.features old.links.items;
       anew = λ r. anew_refl old;
+      behind = λ r sharing led. lends_first old;
     }
 
 pub line-preserved : goal.line-preserved
@@ -119,6 +121,13 @@ line-preserved c = record {
       let mid = reached_on_does _ _ c.line.invariant.goes r in
       served_anew c.args.self.now c.line.self c.lend.new.self c.serve.new.self c.in-Some.served _ _ r c.line.invariant.goes mid (reached_serves _ _ _ _ c.in_ok-served.ensures.ok.0 mid) c.in_ok-served.ensures.ok.0
       (subst (Serving (pool_in c.line.self.pool)) c.in-Some.is c.in_ok-served.ensures.ok.1) c.in_ok-lend-in-Some.ensures.goes c.in_ok-lend-in-Some.ensures.elsewhere (c.line.invariant.anew r);
+  behind = λ r sharing led.
+      let mid = reached_on_does _ _ c.line.invariant.goes r in
+      let next = reached_serves _ _ _ _ c.in_ok-served.ensures.ok.0 mid in
+      lent_front c.args.self.now c.line.self c.lend.new.self c.serve.new.self _ c.in-Some.served sharing r led c.line.invariant.goes c.line.invariant.moves c.in_ok-served.ensures.ok.0 c.in_ok-served.ensures.ok.1 c.in-Some.is
+      (served_waited (core_in c.args.self.now) (core_in c.line.self) _ c.in-Some.served c.line.invariant.unserved c.in_ok-served.ensures.ok.1 c.in-Some.is c.in-Some.served.hold.key refl) c.in_ok-served.ensures.holds c.line.invariant.going
+      (c.line.invariant.fills r) (λ its. c.in_ok-lend-in-Some.ensures.own next its) (c.in_ok-lend-in-Some.ensures.others next) c.in_ok-lend-in-Some.ensures.behind (c.line.invariant.behind r sharing led)
+      c.in_ok-lend-in-Some.ensures.goes c.in_ok-lend-in-Some.ensures.placed c.in_ok-lend-in-Some.ensures.alone c.in_ok-lend-in-Some.ensures.opens;
   aside = λ r.
       away_lent c.in-Some.served.hold.key c.args.self.now _ c.lend.new.self
       (served_waited (core_in c.args.self.now) (core_in c.line.self) _ c.in-Some.served c.line.invariant.unserved c.in_ok-served.ensures.ok.1 c.in-Some.is c.in-Some.served.hold.key refl)
@@ -184,3 +193,7 @@ returns-in-None-clause-anew c = λ r n h found le.
 
 pub returns-in-None-clause-aside : goal.returns-in-None-clause-aside
 returns-in-None-clause-aside c = λ r. away_pool c.args.self.now c.line.self _ (reached_on_does _ _ c.line.invariant.goes r) (c.line.invariant.aside r) c.in_ok-served.ensures.holds refl refl
+
+pub returns-in-None-clause-behind : goal.returns-in-None-clause-behind
+returns-in-None-clause-behind c = λ r sharing led.
+    lent_none c.args.self.now c.line.self c.serve.new.self _ (reached_on_does _ _ c.line.invariant.goes r) c.in_ok-served.ensures.ok.0 c.in_ok-served.ensures.ok.1 c.in-None.is c.in_ok-served.ensures.holds (c.line.invariant.behind r sharing led)

@@ -1,8 +1,10 @@
 use Rattle.std.proofs.Common.{◌≡◌, ◌+◌, length}
 use Rattle.tds_relay.specs.Few.{Few, IsSeated}
 use Rattle.tds_relay.specs.Apart.{LendsInTurn}
-use Rattle.tds_relay.specs.Fronts.{MovedOn, ends_in, core_in}
-use Rattle.tds_relay.specs.Lent.{AnewIfLent, LastBut, LendsInLine, KeepsGiven, ShutGiven, StaysDialled}
+use Rattle.tds_relay.specs.Fronts.{MovedOn, ends_in, core_in, machine_in}
+use Rattle.tds_relay.specs.Machine.{IsLedTo}
+use Rattle.tds_relay.specs.Pool.{Sharing}
+use Rattle.tds_relay.specs.Lent.{AnewIfLent, LastBut, LendsBehind, LendsInLine, KeepsGiven, ShutGiven, StaysDialled}
 use Rattle.tds_relay.specs.Ordering.{GrowsByOrders, OpensNew, StayOrdered}
 use Rattle.tds_relay.specs.Queues.{queues_in}
 use Rattle.tds_relay.specs.Reads.{Opens}
@@ -43,4 +45,5 @@ invariant-line l = record {
   still : ShutGiven l.fn.self l.self;
   fresh : StaysDialled l.fn.self.size l.fn.self.features l.fn.self.links.items l.self.links.items;
   anew : IsReached (pool_in l.fn.self.pool) → AnewIfLent l.fn.self l.self;
+  behind : IsReached (pool_in l.fn.self.pool) → (sharing : Sharing) → IsLedTo sharing (machine_in l.fn.self) → LendsBehind l.fn.self l.self;
 }

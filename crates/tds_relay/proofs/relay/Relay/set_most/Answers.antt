@@ -48,3 +48,6 @@ returns-clause-clients c = λ reached.
     let old = c.args.self.now in
     let mid : code.Relay = record old { most = c.args.most } in
     clients_served c.serve_line.result NoKey old mid c.serve_line.new.self (record { stay = λ key not away. inl (inl refl) }) (λ key not there. there) (c.serve_line.ensures.aside reached)
+
+pub returns-clause-behind : goal.returns-clause-behind
+returns-clause-behind c = c.serve_line.ensures.behind

@@ -1,9 +1,9 @@
-use Rattle.std.proofs.Common.{◌≡◌, ◌∙◌, inl, inr, Some, false, ap, refl, rules, sym, subst, Bool, Option, option_map, ℕ}
+use Rattle.std.proofs.Common.{◌≡◌, ◌∙◌, inl, Some, false, ap, refl, rules, sym, subst, Bool, Option, option_map, ℕ}
 use Rattle.std.specs.Prelude.{take}
 use Rattle.tds_relay.specs.Fronts.{own_end, ends_in, given_by, core_in, machine_in, core_of_ends}
 use Rattle.tds_relay.specs.Core.{closes_for, Open, asks_by, end_at}
 use Rattle.tds_relay.specs.Queues.{Queues, queues_in, names_of}
-use Rattle.tds_relay.specs.Ties.{Application, pool_in}
+use Rattle.tds_relay.specs.Ties.{Application, IsReached, pool_in}
 use Rattle.tds_relay.proofs.steps.Fed.{closed_fed, end_open, end_there, ends_written, is_fed, refused_is, waits_refused}
 use Rattle.tds_relay.proofs.steps.Fronts.{moved_same, ends_kept, moves_same, end_is}
 use Rattle.tds_relay.proofs.steps.Queueing.{queues_kept}
@@ -12,7 +12,8 @@ use Rattle.slab.specs.Slab.{with_value, get}
 use Rattle.tds_relay.proofs.steps.Asked.{asks_deaf, asks_fed, asks_links, asks_moved, asks_refused}
 use Rattle.tds_relay.proofs.steps.Underway.{none_deaf, over_deaf, written_there}
 use Rattle.tds_relay.proofs.steps.Staying.{stays_opens}
-use Rattle.tds_relay.specs.Bodies.{Body, Obeys, body_in, body_of, going_of, CancelsSaid, standing_in, PutsSaid}
+use Rattle.tds_relay.specs.Bodies.{Body, Obeys, body_in, body_of, going_of, CancelsSaid, standing_in}
+use Rattle.tds_relay.specs.Waking.{PutsSaid}
 use Rattle.tds_relay.proofs.steps.Bodied.{asks_kept, same_starts, shut, shut_starts}
 use Rattle.tds_relay.proofs.steps.Carried.{carries_deaf, carries_fed, carries_moved, carries_refused}
 use Rattle.tds_relay.proofs.steps.Renaming.{names_given}
@@ -30,8 +31,8 @@ use Rattle.tds_relay.proofs.spared.Elsewhere.{aside_refl}
 use Rattle.tds_relay.specs.Reads.{waits_on}
 use Rattle.tds_relay.proofs.steps.Tied.{goes_tied, relay_tied, slab_tied}
 use Rattle.tds_relay.specs.Pool.{find_key}
-use Rattle.tds_relay.proofs.steps.Heeding.{cancels_deaf, cancels_fed, cancels_moved, cancels_refused}
-use Rattle.tds_relay.proofs.steps.Still.{same_at}
+use Rattle.tds_relay.proofs.steps.Heeding.{cancels_deaf, cancels_fed, cancels_moved, cancels_refused, tells_reached}
+use Rattle.tds_relay.proofs.steps.Still.{puts_more, same_at}
 use Rattle.tds_relay.proofs.spared.Rightly.{deaf_right, right_by, unkept_right}
 use Rattle.tds_relay.specs.Asking.{IsTakenBack}
 use Rattle.tds_relay.specs.Sparing.{IsKept}
@@ -39,6 +40,7 @@ use Rattle.tds_relay.proofs.spared.Starting.{unkept_over}
 use Rattle.tds_relay.specs.declared.relay.Relay as code
 use Rattle.tds_relay.proofs.lending.Earlier.{anew_refl}
 use Rattle.tds_relay.proofs.lending.Tending.{tend_refl}
+use Rattle.tds_relay.proofs.lending.Parting.{leaves_of}
 use Rattle.tds_relay.proofs.relay.Relay.take.Goals as goal
 use Rattle.tds_relay.specs.Places.{is_closed, own_reset, took_back}
 
@@ -180,7 +182,8 @@ returns-in-Err-clause-cancels c = λ first bytes at t.
     (moved_same (Application c.args.key) _ _ _ _ _ refl
     (sym (closed_fed (closes_for (Some c.in-Err.fault)) es _ c.args.key _ (own_end a) (ap (closes_for (Some c.in-Err.fault)) (end_open a here) ∙ sym (ap (closes_for (Some c.in-Err.fault)) (end_open c.feed.new.self (c.feed.ensures.over ∙ here)))) (end_there slab c.args.key a c.in-Some.ensures.value) (ends_written slab c.args.key _))) c.in_ok-expel_for-in-Err.ensures.moves)
     (c.in_ok-expel_for-in-Err.ensures.kept ∙ queues_kept slab c.args.key a _ c.in-Some.ensures.value c.feed.ensures.queue)
-    (inr (shut c.expel_for.new.self.applications c.args.key (going_of c.args.key c.expel_for.new.self) c.in_ok-expel_for-in-Err.ensures.over, λ number. c.in_ok-expel_for-in-Err.ensures.read.fills number)) (relay_tied c.args.key c.expel_for.new.self) t
+    (shut c.expel_for.new.self.applications c.args.key (going_of c.args.key c.expel_for.new.self) c.in_ok-expel_for-in-Err.ensures.over) (λ number. c.in_ok-expel_for-in-Err.ensures.read.fills number)
+    (λ reached. leaves_of c.args.key c.args.self.now c.expel_for.new.self (c.in_ok-expel_for-in-Err.ensures.lets reached)) c.in_ok-expel_for-in-Err.ensures.over t
 
 pub returns-clause-cancels : goal.returns-clause-cancels
 returns-clause-cancels c = λ first bytes at t.
@@ -196,10 +199,12 @@ returns-clause-cancels c = λ first bytes at t.
       obeys = subst (λ (b : Body). Obeys c.in-Ok.fed.said (take c.in-Ok.fed.count c.args.piece.now) b (body_of c.args.key c.obey.new.self)) same c.in_ok-obey.ensures.body;
       fills = λ number. c.in_ok-obey.ensures.read.fills number;
       cancels = subst (λ (b : Body). CancelsSaid c.in-Ok.fed.said b (standing_in c.args.key c.obey.new.self)) same c.in_ok-obey.ensures.cancels;
-      puts = subst (λ (b : Body). PutsSaid c.in-Ok.fed.said (take c.in-Ok.fed.count c.args.piece.now) (b, λ (number : ℕ). waits_on number c.args.self.now.links.items) (standing_in c.args.key c.obey.new.self)) same c.in_ok-obey.ensures.puts;
+      puts = subst (λ (b : Body). PutsSaid (IsReached first.core.pool) c.in-Ok.fed.said (take c.in-Ok.fed.count c.args.piece.now) (b, λ (number : ℕ). waits_on number c.args.self.now.links.items) (standing_in c.args.key c.obey.new.self)) same
+          (puts_more (IsReached (pool_in c.args.self.now.pool)) (IsReached first.core.pool) c.in-Ok.fed.said (take c.in-Ok.fed.count c.args.piece.now) _ _ (tells_reached c.args.key first bytes c.args.piece.now (machine_in c.args.self.now) t.tells) c.in_ok-obey.ensures.puts);
+      closes = tt;
     }) refl
     (c.in_ok-obey.ensures.given ∙ ap (λ (ps : Queues). given_by c.args.key c.in-Ok.fed.said ps) (queues_kept slab c.args.key a _ c.in-Some.ensures.value c.feed.ensures.queue))
-    (λ d. inr (shut c.obey.new.self.applications c.args.key (going_of c.args.key c.obey.new.self) d, λ number. c.in_ok-obey.ensures.read.fills number)) (relay_tied c.args.key c.obey.new.self) t
+    (λ d. (shut c.obey.new.self.applications c.args.key (going_of c.args.key c.obey.new.self) d, λ number. c.in_ok-obey.ensures.read.fills number)) (relay_tied c.args.key c.obey.new.self) t
 
 pub returns-in-Err-clause-names : goal.returns-in-Err-clause-names
 returns-in-Err-clause-names c =

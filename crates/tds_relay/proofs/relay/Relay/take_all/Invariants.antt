@@ -1,6 +1,7 @@
 use Rattle.std.proofs.Common.{◌≡◌, ◌≤◌, ◌+◌, length}
 use Rattle.tds_relay.specs.Asking.{AsksByBytes}
-use Rattle.tds_relay.specs.Bodies.{HeedsAll, Carries, body_of, standing_in}
+use Rattle.tds_relay.specs.Bodies.{Carries, body_of, standing_in}
+use Rattle.tds_relay.specs.Waking.{HeedsAll}
 use Rattle.tds_relay.specs.Fronts.{machine_in}
 use Rattle.tds_relay.specs.Queues.{names_in}
 use Rattle.tds_relay.specs.Reads.{LinksStay}
