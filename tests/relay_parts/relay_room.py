@@ -1,4 +1,4 @@
-"""A scene of tests/relay: a request of which more waits to be read than is kept while it has no connection.
+"""Scenes of tests/relay: a request of which more waits to be read than is kept while it doesn't go on.
 
 What is wanted is written by hand.
 """
@@ -6,7 +6,7 @@ What is wanted is written by hand.
 import statistics
 import time
 
-from peers import Relay, batch, connect, login, message
+from peers import ATTENTION, Relay, batch, connect, login, message
 from relay_applications import tokens
 
 # The largest packet that an application may agree on, and the units of a text that fills more than half of one. Of a request that
@@ -39,3 +39,19 @@ def read_on(program, cases, server):
             waited.append(time.monotonic() - begun)
             cases.same("a request in one large packet is answered", told[2], [TOO_LONG])
     cases.check("it is read on at once", statistics.median(waited) < SOON, waited)
+
+
+def read_on_behind_a_cancel(program, cases, server):
+    """Who cancels and asks the next request at once is read on as the cancel is acknowledged."""
+    waited = []
+    with Relay(program, server, 1) as relay:
+        link = logged_in(relay.port)
+        for turn in range(TURNS):
+            time.sleep(turn * APART)
+            begun = time.monotonic()
+            link.sendall(batch("rows 1 1") + ATTENTION + batch("x" * UNITS))
+            codes = []
+            while codes != [TOO_LONG]:
+                codes = tokens(message(link))[2]
+            waited.append(time.monotonic() - begun)
+    cases.check("behind a cancel it is read on at once", statistics.median(waited) < SOON, waited)

@@ -61,13 +61,11 @@ impl RelayState {
         };
         let mode = found.mode;
         if let Some(relay) = found.relay() {
-            let is_free = relay.holder_tag(number).is_none();
             relay.came(number, piece)?;
-            if is_free {
-                if let Some(holder) = relay.holder_tag(number) {
-                    // It may have had no room for more of its request, and now there is.
-                    self.sockets.read_on(holder)?;
-                }
+            if let Some(holder) = relay.holder_tag(number) {
+                // It may have had no room for more of its request, and now there is: it is lent this
+                // connection, or what it took back is acknowledged.
+                self.sockets.read_on(holder)?;
             }
         }
         Ok(mode)
