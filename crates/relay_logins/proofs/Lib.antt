@@ -1,2 +1,4 @@
 pub mod Ahead
+pub mod Letters
+pub mod Packets
 pub mod Prelogin

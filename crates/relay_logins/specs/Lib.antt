@@ -1,6 +1,9 @@
+pub mod Gathering
 pub mod Groups
 pub mod Keys
 pub mod Lends
+pub mod Names
 pub mod Prelogin
+pub mod Sending
 pub mod Session
 pub mod Telling

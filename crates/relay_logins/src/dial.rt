@@ -1,7 +1,10 @@
 //! A connection's login at the server.
-ghost use Rattle.std.specs.Prelude.{◌≡◌, IfOk, IfSome, false, true};
+ghost use Rattle.std.specs.Prelude.{◌≡◌, ◌++◌, IfOk, IfSome, OnOk, false, true};
 ghost use Rattle.relay_logins.specs.Prelogin.{demands_at, demands_from};
+ghost use Rattle.relay_logins.specs.Gathering.{EndsMessage, answer_with};
+ghost use Rattle.relay_logins.specs.Sending.{login_packets};
 
+use crate::sending::put_login;
 use std::alloc::{AllocError, Global};
 use tds_packet::{Direction, PacketReader, PacketSize};
 use tds_wire::{Change, ChangeValue, Features, Place, TokenParser, Told};
@@ -12,11 +15,6 @@ const PREPARE: [u8; 32] = [
     0, 0, 16, 0, 6, 1, 0, 22, 0, 1, 4, 0, 23, 0, 1, 0xff, // three options
     11, 0, 0, 0, 0, 0, 2, 0,
 ];
-
-/// LOGIN7's packet type, and how many bytes of data a packet has before a size is agreed.
-const LOGIN7: u8 = 0x10;
-
-const ROOM: usize = 4_088;
 
 /// The most bytes of a login's answer.
 const MOST: usize = 65_536;
@@ -175,6 +173,14 @@ impl Dial {
         ensures by { self.new.message ≡ self.old.message }
         ensures once { self.old.is_prepared ≡ true → out.new.items ≡ out.old.items }
         ensures kept { self.new.is_prepared ≡ false → out.new.items ≡ out.old.items }
+        ensures puts { OnOk result (self.old.is_prepared ≡ false → self.new.is_prepared ≡ true
+            → out.new.items ≡ out.old.items ++ login_packets self.old.message.items) }
+        ensures demanded { self.old.is_prepared ≡ false
+            → demands_from (answer_with self.old.answer.items self.old.reader piece.now)
+            (answer_with self.old.answer.items self.old.reader piece.now) ≡ true
+            → self.new.is_prepared ≡ false }
+        ensures prepares { OnOk result (self.old.is_prepared ≡ false → self.new.is_prepared ≡ true
+            → EndsMessage self.old.reader piece.now) }
     {
         let Ok(count) = self.reader.feed(piece) else {
             return Ok((piece.len(), Dialed::Wrong(Unfit::NoPackets)));
@@ -202,6 +208,8 @@ impl Dial {
         ensures by { self.new.message ≡ self.old.message }
         ensures once { self.old.is_prepared ≡ true → out.new.items ≡ out.old.items }
         ensures kept { self.new.is_prepared ≡ false → out.new.items ≡ out.old.items }
+        ensures puts { OnOk result (self.old.is_prepared ≡ false → self.new.is_prepared ≡ true
+            → out.new.items ≡ out.old.items ++ login_packets self.old.message.items) }
         ensures demanded { self.old.is_prepared ≡ false
             → demands_from self.old.answer.items self.old.answer.items ≡ true
             → self.new.is_prepared ≡ false }
@@ -358,17 +366,4 @@ fn demands_at(answer: &[u8], place: usize) -> bool
         Some(byte) => *byte == 1 || *byte == 3,
         None => true,
     }
-}
-
-/// Appends LOGIN7 in packets.
-fn put_login(out: &mut Vec<u8>, message: &[u8]) -> Result<(), AllocError> {
-    let mut left = message.len();
-    for chunk in message.chunks(ROOM) {
-        left = left.saturating_sub(chunk.len());
-        let status = if left == 0 { 1 } else { 0 };
-        let [high, low] = ((chunk.len() + 8) as u16).to_be_bytes();
-        out.extend_from_slice(&[LOGIN7, status, high, low, 0, 0, 1, 0])?;
-        out.extend_from_slice(chunk)?;
-    }
-    Ok(())
 }

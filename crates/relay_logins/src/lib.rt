@@ -11,6 +11,7 @@ mod keys;
 mod login7;
 mod notice;
 mod notices;
+mod sending;
 mod table;
 
 pub use continuation::{Continuation, Taken};

@@ -1,5 +1,6 @@
 //! LOGIN7 (MS-TDS 2.2.6.4): which logins make equal sessions, and which can't be shared.
-ghost use Rattle.std.specs.Prelude.{◌≡◌, ◌≤◌, ◌<◌, IsTrue, length, option_copied};
+ghost use Rattle.std.specs.Prelude.{◌≡◌, ◌≤◌, ◌<◌, IfOk, IsTrue, length, option_copied, string_bytes};
+ghost use Rattle.relay_logins.specs.Names.{IsSaidIn, is_plain, letters_of, name_at, shown};
 ghost use Rattle.relay_logins.specs.Session.{HaveEqualFields, HaveEqualTexts, IfAlone, IfShared, IsShared, IsWhole};
 ghost use Rattle.relay_logins.specs.Session.{AsksNoMore, MayShare, number_at, part_at, session_in, text_at};
 
@@ -248,7 +249,9 @@ pub struct Who {
 }
 
 /// Who this login says that it is.
-pub fn who_of(alloc: Global, message: &[u8]) -> Result<Who, AllocError> {
+pub fn who_of(alloc: Global, message: &[u8]) -> Result<Who, AllocError>
+    ensures said { IfOk result (λ who. IsSaidIn message.now who) }
+{
     Ok(Who {
         host: name_at(alloc, message, HOST)?,
         user: name_at(alloc, message, USER)?,
@@ -260,25 +263,48 @@ pub fn who_of(alloc: Global, message: &[u8]) -> Result<Who, AllocError> {
 /// The text whose place stands here, with a `?` in the place of each unit that isn't a plain letter.
 fn name_at(alloc: Global, message: &[u8], place: usize) -> Result<String, AllocError>
     requires { place < 65535 }
+    ensures is { IfOk result (λ name. string_bytes name ≡ name_at message.now place) }
+{
+    match text_at(message, place) {
+        Some(text) => letters_of(alloc, &text[..(2 * MOST_NAMED).min(text.len())]),
+        None => Ok(String::new(alloc)),
+    }
+}
+
+/// The letters of these units.
+fn letters_of(alloc: Global, text: &[u8]) -> Result<String, AllocError>
+    ensures { IfOk result (λ name. string_bytes name ≡ letters_of text.now) }
 {
     let mut name = String::new(alloc);
-    let text = match text_at(message, place) {
-        Some(text) => text,
-        None => &[],
-    };
-    for unit in text.chunks_exact(2).take(MOST_NAMED) {
-        name.push(match unit {
-            [low, 0] => letter(*low),
-            _ => '?',
-        })?;
+    let mut rest = text;
+    while let [low, high, others @ ..] = rest {
+        name.push(shown(*low, *high))?;
+        rest = others;
     }
     Ok(name)
 }
 
-fn letter(byte: u8) -> char {
-    match byte {
-        b'a'..=b'z' | b'A'..=b'Z' | b'0'..=b'9' => char::from(byte),
-        b' ' | b'.' | b'-' | b'_' | b'/' | b':' | b'(' | b')' | b'@' | b'+' => char::from(byte),
-        _ => '?',
+/// The letter that shows a unit.
+#[tactic(auto, unfolding(crate::specs::Names::shown))]
+fn shown(low: u8, high: u8) -> char
+    ensures is { result ≡ shown low high }
+    ensures ascii { result < 128 }
+{
+    if high == 0 && is_plain(low) {
+        char::from(low)
+    } else {
+        '?'
     }
+}
+
+/// Whether a byte is a letter, a digit, or a sign that needs no escape.
+fn is_plain(byte: u8) -> bool
+    ensures is { result ≡ is_plain byte }
+    ensures ascii { IsTrue result → byte < 128 }
+{
+    byte.is_ascii_alphanumeric()
+        || matches!(
+            byte,
+            b' ' | b'.' | b'-' | b'_' | b'/' | b':' | b'(' | b')' | b'@' | b'+'
+        )
 }
