@@ -6,7 +6,7 @@ What is wanted is written by hand.
 import statistics
 import time
 
-from peers import ATTENTION, Relay, batch, connect, login, message
+from peers import Relay, batch, connect, login, message, packet
 from relay_applications import tokens
 
 # The largest packet that an application may agree on, and the units of a text that fills more than half of one. Of a request that
@@ -42,16 +42,18 @@ def read_on(program, cases, server):
 
 
 def read_on_behind_a_cancel(program, cases, server):
-    """Who cancels and asks the next request at once is read on as the cancel is acknowledged."""
+    """Who takes back what has gone on in part, and asks the next request at once, is read on as that is acknowledged."""
+    # Two packets of a batch, more than fits into one, and the packet that takes them back (MS-TDS 2.2.3.1.2, the ignore bit).
+    begun = batch("x" * UNITS, status=0) + packet(1, b"y" * 2 * UNITS, 0) + packet(1, b"", 3)
     waited = []
     with Relay(program, server, 1) as relay:
         link = logged_in(relay.port)
+        link.sendall(batch("rows 1 1"))
+        message(link)
         for turn in range(TURNS):
             time.sleep(turn * APART)
-            begun = time.monotonic()
-            link.sendall(batch("rows 1 1") + ATTENTION + batch("x" * UNITS))
-            codes = []
-            while codes != [TOO_LONG]:
-                codes = tokens(message(link))[2]
-            waited.append(time.monotonic() - begun)
+            asked = time.monotonic()
+            link.sendall(begun + batch("x" * UNITS))
+            cases.same("behind what was taken back the next is answered", tokens(message(link))[2], [TOO_LONG])
+            waited.append(time.monotonic() - asked)
     cases.check("behind a cancel it is read on at once", statistics.median(waited) < SOON, waited)
